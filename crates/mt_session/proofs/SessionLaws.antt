@@ -1,16 +1,15 @@
 -- What a session has served, line by line.
-use Rattle.std.proofs.Common.{subst, ◌≡◌, ◌≢◌, ℕ, ◌+◌, ◌<◌, ◌≤◌, IsTrue, Bool, List, [], ◌∷◌, ◌++◌, take, refl, ap, sym, ◌∙◌, inl, inr, true, false, not, ◌&&◌, is_some, Result, Ok, Err, Option, Some, None, ◌⊎◌, append_assoc, arith, length}
-use Rattle.std.proofs.lemmas.List.{append-nil}
+use Rattle.std.proofs.Common.{subst, ◌≡◌, ◌≢◌, ℕ, ◌+◌, ◌<◌, ◌≤◌, IsTrue, Bool, List, [], ◌∷◌, ◌++◌, take, refl, ap, sym, ◌∙◌, inl, inr, true, false, Result, Ok, Err, Option, Some, None, append_assoc, arith, length}
+use Rattle.std.proofs.lemmas.List.{append-nil, map-append}
 use Rattle.std.specs.Option.{ForSome}
 use Rattle.mt_skel.specs.declared.fault.Fault.{Fault}
 use Rattle.mt_skel.specs.declared.fault.Fault.TheVariants.{BadLine, TooLong as LineTooLong, NoMemory as WantsMemory}
 use Rattle.mt_requests.specs.declared.request.Request.{Request}
-use Rattle.mt_requests.specs.declared.request.Request.TheVariants.{Run, Show, Find, Watch, Take, Follow, Close, Quit as AsksQuit, Stop as AsksStop}
 use Rattle.mt_requests.specs.Requests.{request_of, may_want_memory, ReadsAs}
 use Rattle.mt_lines.specs.declared.stream.StreamFault.{StreamFault}
 use Rattle.mt_lines.specs.declared.stream.Cut.{Cut}
 use Rattle.mt_lines.specs.declared.line.ReadFault.{ReadFault}
-use Rattle.mt_lines.specs.declared.line.ReadFault.TheVariants.{Device, Interrupted, Endless as NeverEnds, NoMemory as NoRoom}
+use Rattle.mt_lines.specs.declared.line.ReadFault.TheVariants.{Endless as NeverEnds, NoMemory as NoRoom}
 use Rattle.mt_lines.specs.Lines.{Item, Unended, Endless, lines_of}
 use Rattle.mt_lines.specs.declared.line.Line.{Line}
 use Rattle.mt_lines.specs.declared.line.Line.TheVariants.{Text as TextLine, TooLong as LongLine, Unended as BrokenLine, End as NoLine}
@@ -21,63 +20,20 @@ use Rattle.mt_floor.specs.Schedule.{FloorView, settled}
 use Rattle.mt_floor.proofs.SettledLaws.{settled_idle}
 use Rattle.mt_session.specs.Answers.{refusal}
 use Rattle.mt_session.specs.Requests.{SessionState, session_state, session_at, answer_to, state_to, begins_watcher, left, IsUndone}
-use Rattle.mt_session.specs.Session.{Granted, Refused, Unshown, Asking, Whole, Overlong, Broken, item_of, items_of, has_end, Turn, request_of_line, may_fail, may_be_unshown, answer_to_turn, state_after_turn, end_of_turn, ends_by, text_of, state_after, AllGoOn, Going, Served, IsCause, sent_by, line_limit, IsReadEnd, IsReadEndRun, IsCutCause, IsCutRun}
+use Rattle.mt_session.specs.Session.{Granted, Refused, Unshown, Asking, Whole, Overlong, Broken, item_of, items_of, has_end, Turn, request_of_line, may_fail, answer_to_turn, state_after_turn, end_of_turn, ends_by, text_of, state_after, AllGoOn, Going, Served, IsCause, sent_by, line_limit, IsReadEnd, IsReadEndRun, IsCutCause, IsCutRun}
 use Rattle.mt_session.specs.Serving.{the_turn, Answered, AnswersLine, Ran, IsSent, ends_by_line, ServedLine, ends_whole, ends_by_answer}
 
--- a line that may want memory to be read wants it to be done, and ends no session
+-- a line that may want memory to be read wants it to be done
 reading_fails : (s : SessionState) (x : Result Request Fault) → may_want_memory x ≡ true → may_fail s x ≡ true
-reading_fails s (Ok (Run c)) m = refl
-reading_fails s (Ok (Show n)) m = refl
-reading_fails s (Ok (Find n path)) m = refl
-reading_fails s (Ok (Watch scope)) m = cc
-reading_fails s (Ok (Take k)) m = cc
-reading_fails s (Ok (Follow k)) m = cc
-reading_fails s (Ok Close) m = cc
-reading_fails s (Ok AsksQuit) m = cc
-reading_fails s (Ok AsksStop) m = cc
-reading_fails s (Err f) m = cc
+reading_fails s x m = grind arith
 
--- a line goes on, or ends a session as `quit` does, or as `stop`
-pub ends_cases : (x : Result Request Fault) → (ends_by x ≡ None) ⊎ ((x ≡ Ok AsksQuit) ⊎ (x ≡ Ok AsksStop))
-ends_cases (Ok (Run c)) = inl refl
-ends_cases (Ok (Show n)) = inl refl
-ends_cases (Ok (Find n path)) = inl refl
-ends_cases (Ok (Watch scope)) = inl refl
-ends_cases (Ok (Take k)) = inl refl
-ends_cases (Ok (Follow k)) = inl refl
-ends_cases (Ok Close) = inl refl
-ends_cases (Ok AsksQuit) = inr (inl refl)
-ends_cases (Ok AsksStop) = inr (inr refl)
-ends_cases (Err f) = inl refl
-
--- what holds of no such line goes on
-pub goes_on : (P : Result Request Fault → Type 0) (x : Result Request Fault) → (P (Ok AsksQuit) → ⊥) → (P (Ok AsksStop) → ⊥) → P x → ends_by x ≡ None
-goes_on P x quits stops p = by (ends_cases x)
-  where
-    by : (ends_by x ≡ None) ⊎ ((x ≡ Ok AsksQuit) ⊎ (x ≡ Ok AsksStop)) → ends_by x ≡ None
-    by (inl none) = none
-    by (inr (inl is)) = absurd (quits (subst P is p))
-    by (inr (inr is)) = absurd (stops (subst P is p))
-
+-- a line that wants memory, or begins a watcher, ends no session
 failing_goes_on : (s : SessionState) (x : Result Request Fault) → may_fail s x ≡ true → ends_by x ≡ None
-failing_goes_on s x m = goes_on (λ y. may_fail s y ≡ true) x (λ e. cc) (λ e. cc) m
-
-none_begins : (w : Option ℕ) → (not (is_some w) && is_some w) ≡ false
-none_begins None = refl
-none_begins (Some k) = refl
+failing_goes_on s x m = grind arith
 
 beginning_goes_on : (s : SessionState) (r : Request) → begins_watcher s r ≡ true → ends_by (Ok r) ≡ None
 unfolding state_to
-beginning_goes_on s r m =
-    goes_on (λ y. may_be_unshown s y ≡ true) (Ok r) (λ e. let none = none_begins s.watcher in cc) (λ e. let none = none_begins s.watcher in cc) m
-
-ends_two : (x : Result Request Fault) (by : End) → Some by ≡ ends_by x → (by ≡ Quit) ⊎ (by ≡ Stop)
-ends_two x by e = go (ends_cases x)
-  where
-    go : (ends_by x ≡ None) ⊎ ((x ≡ Ok AsksQuit) ⊎ (x ≡ Ok AsksStop)) → (by ≡ Quit) ⊎ (by ≡ Stop)
-    go (inl none) = let never = e ∙ none in cc
-    go (inr (inl is)) = inl (let same = e ∙ ap ends_by is in cc)
-    go (inr (inr is)) = inr (let same = e ∙ ap ends_by is in cc)
+beginning_goes_on s r m = grind arith
 
 -- a request that was read and done, one that found no memory, and a line that is none
 pub answered_ok : (old new : SessionState) (bytes text : List ℕ) (r : Request) (end : Option End) → ReadsAs (request_of bytes) (Ok r) → text ≡ answer_to old r → new ≡ state_to old r → end ≡ ends_by (Ok r) → Answered old new (Whole bytes) text end
@@ -107,40 +63,28 @@ answered_fixed old line f e = (Granted, rw e refl, rw e refl, rw e refl)
 -- how a line that ends a session ends it
 cause_of : (turn : Turn) (text : List ℕ) (later : List Item) (by : End) → Some by ≡ end_of_turn turn → IsCause by [] (turn ∷ []) text later
 unfolding end_of_turn
-cause_of turn text later by e = elim (ends_two (request_of_line turn.line) by e) [
-  | inl q ↦ rw q (turn, refl, sym (rw q at e))
-  | inr q ↦ rw q (turn, refl, sym (rw q at e))
-]
+cause_of turn text later Quit e = (turn, refl, sym e)
+cause_of turn text later Stop e = (turn, refl, sym e)
+cause_of turn text later by e = absurd (grind arith)
 
 whole_sent : (by : End) (text : List ℕ) → ends_whole by ≡ true → sent_by by text ≡ text
-whole_sent Quit text h = refl
-whole_sent Stop text h = refl
-whole_sent Input text h = refl
-whole_sent (Read f) text h = cc
-whole_sent (CutOff cut) text h = cc
-whole_sent Memory text h = cc
-whole_sent Spent text h = cc
+whole_sent by text h = grind arith
 
 -- at most one line was served
 abbrev ServedOne : List ℕ → SessionState → SessionState → List ℕ → List ℕ → End → Type 0
 ServedOne before old new sent written by = (ran : Ran before old new sent written by) × (length ran.turns + length ran.last ≤ 1)
 
+served_one : (before : List ℕ) (last : List Turn) (later : List Item) (old new : SessionState) (sent written : List ℕ) (by : End) → length last ≤ 1 → lines_of line_limit before ≡ items_of last ++ later → new ≡ state_after last old
+    → written ≡ sent ++ sent_by by (text_of last old) → IsCause by [] last (text_of last old) later → ServedOne before old new sent written by
+served_one before last later old new sent written by few lines state out cause =
+    (record { turns = []; last = last; later = later; lines = lines; state = state; out = out; goes = tt; cause = cause; count = omega (arith, few) }, omega (arith, few))
+
 -- the last answer stands alone
 served_last : (before later : List ℕ) (turn : Turn) (old new : SessionState) (sent written : List ℕ) (by : End) → lines_of line_limit before ≡ item_of turn.line ∷ lines_of line_limit later → new ≡ state_after_turn old turn → written ≡ sent ++ sent_by by (answer_to_turn old turn) → IsCause by [] (turn ∷ []) (answer_to_turn old turn) (lines_of line_limit later) → ServedOne before old new sent written by
-served_last before later turn old new sent written by lines state out cause = (
-  record {
-    turns = [];
-    last = turn ∷ [];
-    later = lines_of line_limit later;
-    lines = lines;
-    state = state;
-    out = out ∙ ap (λ x. sent ++ sent_by by x) (sym (append-nil (answer_to_turn old turn)));
-    goes = tt;
-    cause = subst (λ x. IsCause by [] (turn ∷ []) x (lines_of line_limit later)) (sym (append-nil (answer_to_turn old turn))) cause;
-    count = omega arith;
-  },
-  omega arith,
-)
+served_last before later turn old new sent written by lines state out cause =
+    let text = sym (append-nil (answer_to_turn old turn)) in
+    served_one before (turn ∷ []) (lines_of line_limit later) old new sent written by (omega arith) lines state (out ∙ ap (λ x. sent ++ sent_by by x) text)
+    (subst (λ x. IsCause by [] (turn ∷ []) x (lines_of line_limit later)) text cause)
 
 -- the last answer was cut
 served_cut : (before later : List ℕ) (line : Asking) (old new : SessionState) (sent written text : List ℕ) (end : Option End) (result : Option End) → lines_of line_limit before ≡ item_of line ∷ lines_of line_limit later → Answered old new line text end → (cut : Cut) → result ≡ Some (CutOff cut) → written ≡ sent ++ take cut.sent text → cut.sent < length text → ServedLine before later old new sent written result
@@ -182,85 +126,30 @@ after_unended tells before later old sent written text result t lines none a (in
     served_cut before later Broken old old sent written text None result (rw empty lines) a s.0 s.1 (s.2 t) s.3
 
 -- nothing more was served
-served_none : (before : List ℕ) (later : List Item) (old : SessionState) (sent : List ℕ) (by : End) → lines_of line_limit before ≡ later → sent_by by [] ≡ [] → IsCause by [] [] [] later → ServedOne before old old sent sent by
-served_none before later old sent by lines nothing cause = (
-  record {
-    turns = [];
-    last = [];
-    later = later;
-    lines = lines;
-    state = refl;
-    out = rw nothing (sym (append-nil sent));
-    goes = tt;
-    cause = cause;
-    count = omega arith;
-  },
-  omega arith,
-)
+served_none : (before later : List ℕ) (items : List Item) (old : SessionState) (sent : List ℕ) (by : End) → lines_of line_limit before ≡ items → sent_by by [] ≡ [] → IsCause by [] [] [] items → ServedLine before later old old sent sent (Some by)
+served_none before later items old sent by lines nothing cause = served_one before [] items old old sent sent by (omega arith) lines refl (rw nothing (sym (append-nil sent))) cause
 
--- the same of one line
-none_served : (before later : List ℕ) (items : List Item) (old : SessionState) (sent : List ℕ) (by : End) → lines_of line_limit before ≡ items → sent_by by [] ≡ [] → IsCause by [] [] [] items → ServedLine before later old old sent sent (Some by)
-none_served before later items old sent by lines nothing cause = served_none before items old sent by lines nothing cause
-
-after_end : (before later : List ℕ) (old : SessionState) (sent : List ℕ) → lines_of line_limit before ≡ [] → ServedLine before later old old sent sent (Some Input)
-after_end before later old sent lines = none_served before later [] old sent Input lines refl (refl, inl refl)
-
--- a reader with the limit of sessions never wants memory
-after_fault : (before later kept : List ℕ) (f : ReadFault) (old : SessionState) (sent : List ℕ) → f ≢ NoRoom → IsNext line_limit before (Err f) kept later → ServedLine before later old old sent sent (Some (Read f))
-after_fault before later kept NeverEnds old sent m n = none_served before later (Endless ∷ n.0) old sent (Read NeverEnds) n.1 refl (refl, n.0, refl)
-after_fault before later kept Device old sent m n = none_served before later (lines_of line_limit before) old sent (Read Device) refl refl refl
-after_fault before later kept Interrupted old sent m n = none_served before later (lines_of line_limit before) old sent (Read Interrupted) refl refl refl
-after_fault before later kept NoRoom old sent m n = absurd (m refl)
-
-pub after_fault_at : (limit : ℕ) (before later kept : List ℕ) (f : ReadFault) (old : SessionState) (sent : List ℕ) → limit ≡ line_limit → (f ≡ NoRoom → 8192 < limit) → IsNext limit before (Err f) kept later → ServedLine before later old old sent sent (Some (Read f))
-after_fault_at limit before later kept f old sent e m n =
-    after_fault before later kept f old sent (λ none. absurd (let over = m none in omega (arith, over, e))) (subst (λ x. IsNext x before (Err f) kept later) e n)
-
-pub answer_ends : (by : End) → ends_whole by ≡ true → ends_by_answer by ≡ true
-answer_ends Quit h = refl
-answer_ends Stop h = refl
-answer_ends Input h = refl
-answer_ends (Read f) h = cc
-answer_ends (CutOff c) h = refl
-answer_ends Memory h = cc
-answer_ends Spent h = cc
+-- the reader failed: with the limit of sessions it never wants memory
+pub after_fault : (limit : ℕ) (before later kept : List ℕ) (f : ReadFault) (old : SessionState) (sent : List ℕ) → limit ≡ line_limit → (f ≡ NoRoom → 8192 < limit) → IsNext limit before (Err f) kept later → ServedLine before later old old sent sent (Some (Read f))
+after_fault limit before later kept NeverEnds old sent e m n =
+    let n : IsNext line_limit before (Err NeverEnds) kept later = rw e at n in served_none before later (Endless ∷ n.0) old sent (Read NeverEnds) n.1 refl (refl, n.0, refl)
+after_fault limit before later kept NoRoom old sent e m n = absurd (let over = m refl in omega (arith, over, e))
+after_fault limit before later kept f old sent e m n = served_none before later (lines_of line_limit before) old sent (Read f) refl refl refl
 
 -- a line that a reader served
-pub line_served : (tells : Bool) (limit : ℕ) (before later bytes : List ℕ) (line : Line) (old new : SessionState) (sent written : List ℕ) (result : Option End) → IsTrue tells → limit ≡ line_limit
-    → IsNext limit before (Ok line) bytes later → AnswersLine tells line bytes old new sent written result → ServedLine before later old new sent written result
-line_served tells limit before later bytes line old new sent written result t e n a = by line (subst (λ x. IsNext x before (Ok line) bytes later) e n) a
-  where
-    by : (l : Line) → IsNext line_limit before (Ok l) bytes later → AnswersLine tells l bytes old new sent written result → ServedLine before later old new sent written result
-    by TextLine n a = after_text tells before later (Whole bytes) old new sent written a.0 a.1 result t n refl a.2 a.3 a.4
-    by LongLine n a = subst (λ s. ServedLine before later old s sent written result) (sym a.0)
-        (after_text tells before later Overlong old old sent written (refusal LineTooLong) None result t n refl (answered_fixed old Overlong LineTooLong refl) (λ e is. cc) a.1)
-    by BrokenLine n a = subst (λ s. ServedLine before later old s sent written result) (sym a.0)
-        (after_unended tells before later old sent written (refusal BadLine) result t n.0 n.1 (answered_fixed old Broken BadLine refl) a.1)
-    by NoLine n a = rw (a.0, a.1 t, a.2) (after_end before later old sent n.0)
+pub line_served : (tells : Bool) (before later bytes : List ℕ) (line : Line) (old new : SessionState) (sent written : List ℕ) (result : Option End) → IsTrue tells
+    → IsNext line_limit before (Ok line) bytes later → AnswersLine tells line bytes old new sent written result → ServedLine before later old new sent written result
+line_served tells before later bytes TextLine old new sent written result t n a = after_text tells before later (Whole bytes) old new sent written a.0 a.1 result t n refl a.2 a.3 a.4
+line_served tells before later bytes LongLine old new sent written result t n a =
+    rw a.0 (after_text tells before later Overlong old old sent written (refusal LineTooLong) None result t n refl (answered_fixed old Overlong LineTooLong refl) (λ e is. cc) a.1)
+line_served tells before later bytes BrokenLine old new sent written result t n a =
+    rw a.0 (after_unended tells before later old sent written (refusal BadLine) result t n.0 n.1 (answered_fixed old Broken BadLine refl) a.1)
+line_served tells before later bytes NoLine old new sent written result t n a = rw (a.0, a.1 t, a.2) (served_none before later [] old sent Input n.0 refl (refl, inl refl))
 
-sent_ends : (tells : Bool) (sent written text : List ℕ) (end result : Option End) → ForSome end (λ e. ends_whole e ≡ true) → IsSent tells sent written text end result → ForSome result (λ e. ends_by_answer e ≡ true)
-sent_ends tells sent written text end result h (inl s) = λ by is. answer_ends by (h by (sym s.0 ∙ is))
-sent_ends tells sent written text end result h (inr s) = λ by is. let same : CutOff s.0 ≡ by = let both = sym s.1 ∙ is in cc in subst (λ e. ends_by_answer e ≡ true) same refl
-
-pub line_ends : (tells : Bool) (line : Line) (bytes : List ℕ) (old new : SessionState) (sent written : List ℕ) (result : Option End) → AnswersLine tells line bytes old new sent written result → ForSome result (λ e. ends_by_answer e ≡ true)
-line_ends tells TextLine bytes old new sent written result a = sent_ends tells sent written a.0 a.1 result a.3 a.4
-line_ends tells LongLine bytes old new sent written result a = sent_ends tells sent written (refusal LineTooLong) None result (λ e is. cc) a.1
-line_ends tells BrokenLine bytes old new sent written result a = sent_ends tells sent written (refusal BadLine) (Some Input) result (λ e is. let same : Input ≡ e = cc in subst (λ x. ends_whole x ≡ true) same refl) a.1
-line_ends tells NoLine bytes old new sent written result a = λ by is. let same : Input ≡ by = let both = sym a.2 ∙ is in cc in subst (λ e. ends_by_answer e ≡ true) same refl
-
--- its watcher was closed behind its lines
-pub served_left : (before : List ℕ) (old ran new : SessionState) (sent written : List ℕ) (by : End) → Ran before old ran sent written by → new ≡ left ran → Served before old new sent written by
-served_left before old ran new sent written by r e = record {
-  turns = r.turns;
-  last = r.last;
-  later = r.later;
-  lines = r.lines;
-  state = e ∙ ap left r.state;
-  out = r.out;
-  goes = r.goes;
-  cause = r.cause;
-  count = r.count;
-}
+-- the end that it brings
+pub line_ends : (tells : Bool) (line : Line) (bytes : List ℕ) (old new : SessionState) (sent written : List ℕ) (by : End) → AnswersLine tells line bytes old new sent written (Some by) → ends_by_answer by ≡ true
+line_ends tells TextLine bytes old new sent written by a = let whole = a.3 by in let s = a.4 in grind (arith, whole, s)
+line_ends tells line bytes old new sent written by a = grind arith
 
 -- where nothing is due, nothing has to be sent first
 pub at_rest : (floor : FloorView) (watcher : Option ℕ) → floor.due ≡ [] → session_at floor watcher ≡ session_state floor watcher
@@ -270,14 +159,18 @@ at_rest floor watcher idle = ap (λ (f : FloorView). session_state f watcher) (s
 pub session_served : (before : List ℕ) (floor rested ran new : FloorView) (none mine left_over : Option ℕ) (sent written : List ℕ) (by : End)
     → rested ≡ settled floor → none ≡ None → Ran before (session_state rested none) (session_state ran mine) sent written by → ran.due ≡ []
     → session_state new left_over ≡ left (session_at ran mine) → left_over ≡ None → Served before (session_at floor None) (session_state new None) sent written by
-session_served before floor rested ran new none mine left_over sent written by rests begins served idle leaves gone =
-    let old : session_state rested none ≡ session_at floor None = (λ i. session_state (rests i) (begins i)) in
-    let after_leave : session_state new None ≡ left (session_state ran mine) = sym (ap (session_state new) gone) ∙ leaves ∙ ap left (at_rest ran mine idle) in
-    served_left before (session_at floor None) (session_state ran mine) (session_state new None) sent written by (subst (λ (o : SessionState). Ran before o (session_state ran mine) sent written by) old served) after_leave
-
-items_of-append : (xs ys : List Turn) → items_of (xs ++ ys) ≡ items_of xs ++ items_of ys
-items_of-append [] ys = refl
-items_of-append (x ∷ xs) ys = ap (λ z. item_of x.line ∷ z) (items_of-append xs ys)
+session_served before floor rested ran new fresh mine left_over sent written by rests begins served idle leaves gone =
+    let r : Ran before (session_at floor None) (session_state ran mine) sent written by = rw (rests, begins) at served in record {
+      turns = r.turns;
+      last = r.last;
+      later = r.later;
+      lines = r.lines;
+      state = sym (ap (session_state new) gone) ∙ leaves ∙ ap left (at_rest ran mine idle ∙ r.state);
+      out = r.out;
+      goes = r.goes;
+      cause = r.cause;
+      count = r.count;
+    }
 
 pub state_after-append : (xs ys : List Turn) (w : SessionState) → state_after (xs ++ ys) w ≡ state_after ys (state_after xs w)
 state_after-append [] ys w = refl
@@ -294,7 +187,7 @@ AllGoOn-append (x ∷ xs) ys h k = (h.0, h.1, AllGoOn-append xs ys h.2 k)
 -- lines served, and then more
 pub Going-more : (turns more : List Turn) (before mid later : List ℕ) (old now new : SessionState) (sent so_far written : List ℕ) → Going turns before mid old now sent so_far → Going more mid later now new so_far written → Going (turns ++ more) before later old new sent written
 Going-more turns more before mid later old now new sent so_far written a b = record {
-  lines = a.lines ∙ ap (λ x. items_of turns ++ x) b.lines ∙ sym (ap (λ x. x ++ lines_of line_limit later) (items_of-append turns more) ∙ append_assoc (items_of turns) (items_of more) (lines_of line_limit later));
+  lines = a.lines ∙ ap (λ x. items_of turns ++ x) b.lines ∙ sym (ap (λ x. x ++ lines_of line_limit later) (map-append (λ (turn : Turn). item_of turn.line) turns more) ∙ append_assoc (items_of turns) (items_of more) (lines_of line_limit later));
   state = b.state ∙ ap (state_after more) a.state ∙ sym (state_after-append turns more old);
   out = b.out ∙ ap (λ x. x ++ text_of more now) a.out ∙ ap (λ w. (sent ++ text_of turns old) ++ text_of more w) a.state ∙ append_assoc sent (text_of turns old) (text_of more (state_after turns old)) ∙ ap (λ x. sent ++ x) (sym (text_of-append turns more old));
   goes = AllGoOn-append turns more a.goes b.goes;
@@ -302,16 +195,10 @@ Going-more turns more before mid later old now new sent so_far written a b = rec
 
 -- the cause of an end that a line brings is that of the whole session
 cause_more : (by : End) (turns more last : List Turn) (text whole : List ℕ) (later : List Item) → ends_by_line by ≡ true → text ≡ whole → IsCause by more last text later → IsCause by (turns ++ more) last whole later
-cause_more Quit turns more last text whole later h e c = c
-cause_more Stop turns more last text whole later h e c = c
-cause_more Input turns more last text whole later h e c = c
-cause_more (Read NeverEnds) turns more last text whole later h e c = c
-cause_more (Read Device) turns more last text whole later h e c = c
-cause_more (Read Interrupted) turns more last text whole later h e c = c
-cause_more (Read NoRoom) turns more last text whole later h e c = c
 cause_more (CutOff cut) turns more last text whole later h e c = (c.0, c.1, subst (λ x. cut.sent < length x) e c.2)
-cause_more Memory turns more last text whole later h e c = cc
+cause_more (Read NeverEnds) turns more last text whole later h e c = c
 cause_more Spent turns more last text whole later h e c = cc
+cause_more by turns more last text whole later h e c = c
 
 -- lines served, and then the last
 pub Served-more : (turns : List Turn) (before mid : List ℕ) (old now new : SessionState) (sent so_far written : List ℕ) (by : End) → Going turns before mid old now sent so_far → (b : Ran mid now new so_far written by) → ends_by_line by ≡ true → length (turns ++ b.turns) + length b.last ≤ 16777216 → Ran before old new sent written by
@@ -319,7 +206,7 @@ Served-more turns before mid old now new sent so_far written by a b ended count 
   turns = turns ++ b.turns;
   last = b.last;
   later = b.later;
-  lines = a.lines ∙ ap (λ x. items_of turns ++ x) b.lines ∙ sym (ap (λ x. x ++ (items_of b.last ++ b.later)) (items_of-append turns b.turns) ∙ append_assoc (items_of turns) (items_of b.turns) (items_of b.last ++ b.later));
+  lines = a.lines ∙ ap (λ x. items_of turns ++ x) b.lines ∙ sym (ap (λ x. x ++ (items_of b.last ++ b.later)) (map-append (λ (turn : Turn). item_of turn.line) turns b.turns) ∙ append_assoc (items_of turns) (items_of b.turns) (items_of b.last ++ b.later));
   state = b.state ∙ ap (λ w. state_after b.last (state_after b.turns w)) a.state ∙ ap (state_after b.last) (sym (state_after-append turns b.turns old));
   out = b.out ∙ ap (λ x. x ++ (text_of b.turns now ++ sent_by by (text_of b.last (state_after b.turns now)))) a.out ∙ ap (λ w. (sent ++ text_of turns old) ++ (text_of b.turns w ++ sent_by by (text_of b.last (state_after b.turns w)))) a.state ∙ rw (text_of-append turns b.turns old, state_after-append turns b.turns old) (simp append_assoc);
   goes = AllGoOn-append turns b.turns a.goes b.goes;
@@ -327,56 +214,27 @@ Served-more turns before mid old now new sent so_far written by a b ended count 
   count = count;
 }
 
--- an answer that went out whole leaves no fault of the writer
-pub cause_whole : (by : Option End) (old new : ℕ) → ForSome by (λ e. ends_whole e ≡ true) → old ≤ new → IsCutCause by old new
-cause_whole None old new h le = le
-cause_whole (Some Quit) old new h le = le
-cause_whole (Some Stop) old new h le = le
-cause_whole (Some Input) old new h le = le
-cause_whole (Some (Read f)) old new h le = let e : ends_whole (Read f) ≡ true = h _ refl in cc
-cause_whole (Some (CutOff c)) old new h le = let e : ends_whole (CutOff c) ≡ true = h _ refl in cc
-cause_whole (Some Memory) old new h le = let e : ends_whole Memory ≡ true = h _ refl in cc
-cause_whole (Some Spent) old new h le = let e : ends_whole Spent ≡ true = h _ refl in cc
+-- an end by which no answer was cut, as one that comes once an answer is out whole: no call of the writer has failed
+abbrev pub is_uncut : Option End → Bool
+is_uncut (Some (CutOff cut)) = false
+is_uncut end = true
 
-pub run_whole : (by : Option End) (faults : List StreamFault) → ForSome by (λ e. ends_whole e ≡ true) → faults ≡ [] → IsCutRun by faults
-run_whole None faults h none = none
-run_whole (Some Quit) faults h none = none
-run_whole (Some Stop) faults h none = none
-run_whole (Some Input) faults h none = none
-run_whole (Some (Read f)) faults h none = none
-run_whole (Some (CutOff c)) faults h none = let e : ends_whole (CutOff c) ≡ true = h _ refl in cc
-run_whole (Some Memory) faults h none = none
-run_whole (Some Spent) faults h none = none
+pub whole_uncut : (end : Option End) → ForSome end (λ e. ends_whole e ≡ true) → is_uncut end ≡ true
+whole_uncut None h = refl
+whole_uncut (Some by) h = let whole = h by refl in grind arith
 
--- the answer to a line brings no end by the reader
-pub read_answered : (by : Option End) (old new : ℕ) → ForSome by (λ e. ends_by_answer e ≡ true) → old ≤ new → IsReadEnd by old new
-read_answered None old new h le = le
-read_answered (Some Quit) old new h le = le
-read_answered (Some Stop) old new h le = le
-read_answered (Some Input) old new h le = le
-read_answered (Some (Read f)) old new h le = let e : ends_by_answer (Read f) ≡ true = h _ refl in cc
-read_answered (Some (CutOff c)) old new h le = le
-read_answered (Some Memory) old new h le = le
-read_answered (Some Spent) old new h le = le
+pub uncut_cause : (end : Option End) (old new : ℕ) → is_uncut end ≡ true → old ≤ new → IsCutCause end old new
+uncut_cause end old new h le = grind arith
 
-pub run_answered : (by : Option End) (faults : List StreamFault) → ForSome by (λ e. ends_by_answer e ≡ true) → faults ≡ [] → IsReadEndRun by faults
-run_answered None faults h none = none
-run_answered (Some Quit) faults h none = none
-run_answered (Some Stop) faults h none = none
-run_answered (Some Input) faults h none = none
-run_answered (Some (Read f)) faults h none = let e : ends_by_answer (Read f) ≡ true = h _ refl in cc
-run_answered (Some (CutOff c)) faults h none = none
-run_answered (Some Memory) faults h none = none
-run_answered (Some Spent) faults h none = none
+pub uncut_run : (end : Option End) (faults : List StreamFault) → is_uncut end ≡ true → faults ≡ [] → IsCutRun end faults
+uncut_run end faults h none = grind arith
 
-pub line_answered : (by : End) → ends_by_answer by ≡ true → ends_by_line by ≡ true
-line_answered Quit h = refl
-line_answered Stop h = refl
-line_answered Input h = refl
-line_answered (Read f) h = refl
-line_answered (CutOff c) h = refl
-line_answered Memory h = cc
-line_answered Spent h = cc
+-- the answer to a line brings no end by the reader, nor by want of memory
+pub read_answered : (by : End) (old new : ℕ) → ends_by_answer by ≡ true → old ≤ new → IsReadEnd (Some by) old new
+read_answered by old new h le = grind arith
 
-pub not_memory : (by : End) → ends_by_line by ≡ true → by ≢ Memory
-not_memory by h e = let none : ends_by_line Memory ≡ true = subst (λ x. ends_by_line x ≡ true) e h in cc
+pub run_answered : (by : End) (faults : List StreamFault) → ends_by_answer by ≡ true → faults ≡ [] → IsReadEndRun (Some by) faults
+run_answered by faults h none = grind arith
+
+pub line_answered : (by : End) → ends_by_answer by ≡ true → (ends_by_line by ≡ true) × (by ≢ Memory)
+line_answered by h = (grind arith, λ is. grind arith)

@@ -1,77 +1,61 @@
 -- What a request finds at a desk whose watchers take, and what the calls of a desk answer to it.
-use Rattle.std.proofs.Common.{◌≡◌, ◌≢◌, ◌≤◌, ◌∙◌, ℕ, zero, suc, List, [], ◌∷◌, ◌++◌, length, replicate, Option, Some, None, slice_get, Ok, Err, refl, sym, ap, subst, arith, inr}
-use Rattle.std.specs.Prelude.{Result, IfOk}
+use Rattle.std.proofs.Common.{◌≡◌, ◌≢◌, ◌≤◌, ◌∙◌, ℕ, zero, suc, List, [], ◌∷◌, ◌++◌, length, replicate, Option, Some, None, Ok, Err, refl, sym, ap, subst, arith, inr, Result, IfOk}
 use Rattle.std.specs.Option.{ForSome, option_map_or}
+use Rattle.std.proofs.lemmas.List.{same_from_push}
 use Rattle.mt_skel.specs.declared.fault.Fault.{Fault}
-use Rattle.mt_skel.specs.declared.fault.Fault.TheVariants.{NoMemory, NoWatcher}
-use Rattle.mt_skel.specs.Keyed.{row_at, put}
+use Rattle.mt_skel.specs.declared.fault.Fault.TheVariants.{NoMemory}
+use Rattle.mt_skel.specs.Keyed.{row_at}
 use Rattle.mt_skel.proofs.MiddleLaws.{row_mid}
 use Rattle.mt_events.specs.Posts.{PostView}
 use Rattle.mt_events.specs.Following.{IsRun}
 use Rattle.mt_events.specs.declared.opening.Scope.{Scope}
 use Rattle.mt_book.specs.declared.command.Command.{Command}
 use Rattle.mt_book.specs.declared.command.Reply.{Reply}
-use Rattle.mt_book.specs.Step.{after}
-use Rattle.mt_book.specs.Book.{found_at}
 use Rattle.mt_requests.specs.declared.request.Request.{Request}
-use Rattle.mt_requests.specs.declared.request.Request.TheVariants.{Run, Show, Find, Watch}
+use Rattle.mt_requests.specs.declared.request.Request.TheVariants.{Watch}
 use Rattle.mt_floor.specs.declared.event.Event.{Event}
 use Rattle.mt_floor.specs.declared.event.Event.TheVariants.{Apply, Open, Take, Close}
 use Rattle.mt_floor.specs.declared.event.Answer.{Answer}
-use Rattle.mt_floor.specs.declared.event.Answer.TheVariants.{Replied, Opened, Took, Closed}
-use Rattle.mt_floor.specs.Watcher.{Watcher, watcher_key}
-use Rattle.mt_floor.specs.Schedule.{FloorView, Stepped, floor_step, run, changed, took, nothing_left, opening_refusal}
+use Rattle.mt_floor.specs.declared.event.Answer.TheVariants.{Replied, Opened, Closed}
+use Rattle.mt_floor.specs.Schedule.{FloorView, floor_step, run, opening_refusal}
 use Rattle.mt_floor.proofs.RunLaws.{run_told}
 use Rattle.mt_desk.specs.Desk.{DeskRow, DeskView, IsDesk, row_key, floor_of_desk, new_desk_row, with_watcher}
 use Rattle.mt_desk.specs.Calls.{WatcherView, IsApplied, IsClosed, unseen}
 use Rattle.mt_desk.proofs.ScheduleLaws.{rows_rise, opened_stays}
 use Rattle.mt_events.specs.Texts.{opening_text, posts_text}
-use Rattle.mt_session.specs.Answers.{refusal, reply_text, shown_text, found_text}
-use Rattle.mt_session.specs.Requests.{replied_text, opened_text, closed_text, answer_to}
-use Rattle.mt_session.specs.SharedTurns.{floor_seen, found_state, with_taken_posts, IsBegun, IsUndoneBy, HasTaken}
-use Rattle.mt_session.proofs.IdleLaws.{apply_told, apply_refused, open_told, open_found, open_refused, close_posts}
+use Rattle.mt_session.specs.Answers.{refusal, reply_text}
+use Rattle.mt_session.specs.Requests.{replied_text, opened_text, closed_text, answer_to, SessionState}
+use Rattle.mt_session.specs.SharedTurns.{floor_seen, with_taken_posts, IsBegun, IsUndoneBy, HasTaken}
+use Rattle.mt_session.proofs.TurnLaws.{apply_told, apply_refused, open_told, open_found, open_refused, close_posts}
 
 -- ---- A floor that only takes
 
-took_watchers : (s : FloorView) (r : Watcher) (o : Option PostView)
-    → (ws : List Watcher) × ((option_map_or {U = Stepped} (λ p. (changed s (record r { taken = r.taken ++ p ∷ [] }), Ok (Took (Some p)))) o (s, nothing_left r.phase)).0 ≡ record s { watchers = ws })
-took_watchers s r None = (s.watchers, refl)
-took_watchers s r (Some p) = (put watcher_key (record r { taken = r.taken ++ p ∷ [] }) s.watchers, refl)
-
-take_watchers : (s : FloorView) (key : ℕ) → (ws : List Watcher) × ((floor_step s (Take key)).0 ≡ record s { watchers = ws })
+take_watchers : (s : FloorView) (key : ℕ) → (floor_step s (Take key)).0 ≡ record s { watchers = (floor_step s (Take key)).0.watchers }
 unfolding floor_step
-take_watchers s key = by (row_at watcher_key key s.watchers)
-  where
-    by : (o : Option Watcher) → (ws : List Watcher) × ((option_map_or (took s) o (s, Err NoWatcher)).0 ≡ record s { watchers = ws })
-    by None = (s.watchers, refl)
-    by (Some r) = took_watchers s r (slice_get r.sent (length r.taken))
+take_watchers s key = grind arith
 
 -- takes change the watchers alone
-takes_watchers : (s : FloorView) (key n : ℕ) → (ws : List Watcher) × ((run s (replicate n (Take key))).0 ≡ record s { watchers = ws })
-takes_watchers s key zero = (s.watchers, refl)
+takes_watchers : (s : FloorView) (key n : ℕ) → (run s (replicate n (Take key))).0 ≡ record s { watchers = (run s (replicate n (Take key))).0.watchers }
+takes_watchers s key zero = refl
 takes_watchers s key (suc n) =
-    let one = take_watchers s key in
-    let more = takes_watchers (floor_step s (Take key)).0 key n in
-    (more.0, more.1 ∙ ap (λ (t : FloorView). record t { watchers = more.0 }) one.1)
+    let now = floor_step s (Take key) in
+    takes_watchers now.0 key n ∙ ap (λ (t : FloorView). record t { watchers = (run now.0 (replicate n (Take key))).0.watchers }) (take_watchers s key)
 
 -- so the floor that a request finds is that of the desk but for its watchers
-pub seen_watchers : (d : DeskView) (w : Option WatcherView) → (ws : List Watcher) × (floor_seen d w ≡ record (floor_of_desk d) { watchers = ws })
-seen_watchers d None = ((floor_of_desk d).watchers, refl)
-seen_watchers d (Some w) = by (row_at row_key w.key d.rows)
-  where
-    by : (o : Option DeskRow)
-        → (ws : List Watcher) × (option_map_or (λ (r : DeskRow). (run (floor_of_desk d) (replicate (unseen d.capacity r w.half) (Take w.key))).0) o (floor_of_desk d) ≡ record (floor_of_desk d) { watchers = ws })
-    by None = ((floor_of_desk d).watchers, refl)
-    by (Some r) = takes_watchers (floor_of_desk d) w.key (unseen d.capacity r w.half)
+seen_watchers : (d : DeskView) (w : Option WatcherView) → floor_seen d w ≡ record (floor_of_desk d) { watchers = (floor_seen d w).watchers }
+seen_watchers d None = refl
+seen_watchers d (Some w) =
+    let seen : Option DeskRow → FloorView = λ o. option_map_or (λ (r : DeskRow). (run (floor_of_desk d) (replicate (unseen d.capacity r w.half) (Take w.key))).0) o (floor_of_desk d) in
+    elim (row_at row_key w.key d.rows) as (λ o. seen o ≡ record (floor_of_desk d) { watchers = (seen o).watchers }) [ None ↦ refl | Some r ↦ takes_watchers (floor_of_desk d) w.key (unseen d.capacity r w.half) ]
 
 pub seen_journal : (d : DeskView) (w : Option WatcherView) → (floor_seen d w).journal ≡ d.journal
-seen_journal d w = ap (λ (s : FloorView). s.journal) (seen_watchers d w).1
+seen_journal d w = ap (λ (s : FloorView). s.journal) (seen_watchers d w)
 
 pub seen_replied : (d : DeskView) (w : Option WatcherView) (c : Command) → replied_text (floor_seen d w) c ≡ replied_text (floor_of_desk d) c
-seen_replied d w c = ap (λ (s : FloorView). replied_text s c) (seen_watchers d w).1
+seen_replied d w c = ap (λ (s : FloorView). replied_text s c) (seen_watchers d w)
 
 seen_idle : (d : DeskView) (w : Option WatcherView) → (floor_seen d w).due ≡ []
-seen_idle d w = ap (λ (s : FloorView). s.due) (seen_watchers d w).1
+seen_idle d w = ap (λ (s : FloorView). s.due) (seen_watchers d w)
 
 -- ---- Commands
 
@@ -126,17 +110,6 @@ watch_undone d held now own scope w posts none h step desk key empty c =
 
 -- ---- Watchers that go
 
-abbrev last_answer : Result Answer Fault → List (Result Answer Fault) → Result Answer Fault
-last_answer y [] = y
-last_answer y (x ∷ xs) = last_answer x xs
-
-last_of : (xs : List (Result Answer Fault)) (x y : Result Answer Fault) → last_answer y (xs ++ x ∷ []) ≡ x
-last_of [] x y = refl
-last_of (z ∷ xs) x y = last_of xs x z
-
-last_is : (xs ys : List (Result Answer Fault)) (x y : Result Answer Fault) → xs ++ x ∷ [] ≡ ys ++ y ∷ [] → x ≡ y
-last_is xs ys x y e = sym (last_of xs x x) ∙ ap (last_answer x) e ∙ last_of ys y x
-
 pub end_told : (d now : DeskView) (w : WatcherView) (posts : List PostView) → IsClosed d w posts now → closed_text (floor_seen d (Some w)) w.key ≡ posts_text posts
 end_told d now w posts c =
     let s : FloorView = floor_of_desk d in
@@ -145,38 +118,20 @@ end_told d now w posts c =
     let seen : floor_seen d (Some w) ≡ before = ap (λ (o : Option DeskRow). option_map_or (λ (r : DeskRow). (run s (replicate (unseen d.capacity r w.half) (Take w.key))).0) o s) c.there in
     let answers : (run s takes).1 ++ (floor_step before (Close w.key)).1 ∷ [] ≡ c.told ++ Ok (Closed posts) ∷ [] =
     sym (run_told s takes (Close w.key ∷ [])) ∙ ap (λ (p : FloorView × List (Result Answer Fault)). p.1) c.schedule in
-    let last : (floor_step before (Close w.key)).1 ≡ Ok (Closed posts) = last_is (run s takes).1 c.told _ _ answers in
+    let last : (floor_step before (Close w.key)).1 ≡ Ok (Closed posts) = (same_from_push (run s takes).1 c.told _ _ answers).1 in
     let idle : before.due ≡ [] = ap (λ (t : FloorView). t.due) (sym seen) ∙ seen_idle d (Some w) in
     ap (λ (t : FloorView). closed_text t w.key) seen ∙ close_posts before (floor_step before (Close w.key)).0 idle w.key posts (ap (λ (r : Result Answer Fault). ((floor_step before (Close w.key)).0, r)) last)
 
 -- ---- Requests that ask for no watcher
 
-pub run_answered : (d : DeskView) (own : Option WatcherView) (q : Request) (c : Command) (r : Result (List ℕ) Fault) → q ≡ Run c → IfOk r (λ text. text ≡ replied_text (floor_of_desk d) c)
-    → IfOk r (λ text. text ≡ answer_to (found_state d own) q)
-unfolding answer_to
-run_answered d own q c r is told =
-    subst (λ (x : Request). IfOk r (λ text. text ≡ answer_to (found_state d own) x)) (sym is)
-    (subst (λ (t : List ℕ). IfOk r (λ text. text ≡ t)) (sym (seen_replied d own c)) told)
-
-pub show_answered : (d : DeskView) (own : Option WatcherView) (q : Request) (journal : List Command) (n : ℕ) (r : Result (List ℕ) Fault) → q ≡ Show n → journal ≡ d.journal
-    → IfOk r (λ text. text ≡ shown_text journal n) → IfOk r (λ text. text ≡ answer_to (found_state d own) q)
-unfolding answer_to
-show_answered d own q journal n r is same told =
-    subst (λ (x : Request). IfOk r (λ text. text ≡ answer_to (found_state d own) x)) (sym is)
-    (subst (λ (cs : List Command). IfOk r (λ text. text ≡ shown_text cs n)) (same ∙ sym (seen_journal d own)) told)
-
-pub find_answered : (d : DeskView) (own : Option WatcherView) (q : Request) (journal : List Command) (n : ℕ) (path : List (List ℕ)) (r : Result (List ℕ) Fault) → q ≡ Find n path → journal ≡ d.journal
-    → IfOk r (λ text. text ≡ found_text (found_at (after journal) n path)) → IfOk r (λ text. text ≡ answer_to (found_state d own) q)
-unfolding answer_to
-find_answered d own q journal n path r is same told =
-    subst (λ (x : Request). IfOk r (λ text. text ≡ answer_to (found_state d own) x)) (sym is)
-    (subst (λ (cs : List Command). IfOk r (λ text. text ≡ found_text (found_at (after cs) n path))) (same ∙ sym (seen_journal d own)) told)
+-- what is told is what a request is answered
+pub told_as : (s : SessionState) (q asked : Request) (r : Result (List ℕ) Fault) (told : List ℕ) → q ≡ asked → told ≡ answer_to s asked → IfOk r (λ text. text ≡ told) → IfOk r (λ text. text ≡ answer_to s q)
+told_as s q asked r told is same ok = rw (is, ← same) ok
 
 -- ---- Posts that were taken and could not be printed
 
 pub lost_posts : (own own' : Option WatcherView) (w w' : WatcherView) (posts : List PostView) (most : ℕ) → own ≡ Some w → own' ≡ Some w' → w' ≡ with_taken_posts w posts → length posts ≤ most → IsRun w'.half.opening w'.half.taken
     → ForSome own (λ (v : WatcherView). (lost : List PostView) × (v' : WatcherView) × HasTaken v lost v' × (own' ≡ Some v') × (length lost ≤ most))
 lost_posts own own' w w' posts most is is' taken within run = λ v at.
-    let stays : IsRun w.half.opening (w.half.taken ++ posts) = subst (λ (x : WatcherView). IsRun x.half.opening x.half.taken) taken run in
     let same : w ≡ v = let both = sym is ∙ at in cc in
-    subst (λ (x : WatcherView). (lost : List PostView) × (v' : WatcherView) × HasTaken x lost v' × (own' ≡ Some v') × (length lost ≤ most)) same (posts, w', (w.half.told, omega arith, taken, stays), is', within)
+    rw (← same) (posts, w', (w.half.told, omega arith, taken, rw taken at run), is', within)

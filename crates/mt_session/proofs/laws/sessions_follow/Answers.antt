@@ -1,5 +1,5 @@
 use Rattle.mt_session.proofs.FollowLaws.{sessions_follow}
-use Rattle.mt_session.proofs.TellingLaws.{answers_tell}
+use Rattle.mt_session.proofs.AnswerLaws.{answers_tell}
 use Rattle.mt_session.proofs.laws.sessions_follow.Goals as goal
 
 pub returns-clause-schedule : goal.returns-clause-schedule

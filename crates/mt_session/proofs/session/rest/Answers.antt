@@ -1,16 +1,12 @@
-use Rattle.std.proofs.Common.{◌∙◌, Ok, Err, ap, sym, refl}
-use Rattle.std.specs.Prelude.{is_some}
+use Rattle.std.proofs.Common.{◌∙◌, Err, ap, sym, refl, is_some}
 use Rattle.mt_floor.specs.declared.event.Event.TheVariants.{Meet}
 use Rattle.mt_floor.proofs.SettledLaws.{meet_same}
 use Rattle.mt_events.specs.Texts.{count_text}
-use Rattle.mt_session.proofs.TurnLaws.{step_is, floor_is}
-use Rattle.mt_session.proofs.IdleLaws.{meet_told, meet_refused}
+use Rattle.mt_session.proofs.TurnLaws.{step_is, floor_is, meet_told, meet_refused}
 use Rattle.mt_session.proofs.session.rest.Goals as goal
 
 pub rest_of-requires : goal.rest_of-requires
-rest_of-requires c =
-    let t = meet_told c.args.floor.now c.step.new.self c.requires.idle (count_text c.args.told) c.args.key c.in-Ok.met c.in-Ok.ensures.done in
-    ap is_some t.1
+rest_of-requires c = ap is_some (meet_told c.args.floor.now c.step.new.self c.requires.idle (count_text c.args.told) c.args.key c.in-Ok.met c.in-Ok.ensures.done).1
 
 pub returns-in-Ok-clause-text : goal.returns-in-Ok-clause-text
 returns-in-Ok-clause-text c =
@@ -18,8 +14,7 @@ returns-in-Ok-clause-text c =
     c.rest_of.ensures t.0 t.1 ∙ sym t.2
 
 pub returns-in-Ok-clause-floor : goal.returns-in-Ok-clause-floor
-returns-in-Ok-clause-floor c =
-    floor_is c.args.floor.now c.step.new.self (Meet c.args.key) (Ok c.in-Ok.met) c.in-Ok.ensures.done ∙ meet_same c.args.floor.now c.args.key
+returns-in-Ok-clause-floor c = floor_is _ _ _ _ c.in-Ok.ensures.done ∙ meet_same c.args.floor.now c.args.key
 
 pub returns-in-Err-clause-text : goal.returns-in-Err-clause-text
 returns-in-Err-clause-text c =

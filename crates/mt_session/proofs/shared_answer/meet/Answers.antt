@@ -1,4 +1,4 @@
-use Rattle.mt_session.proofs.SharedTakeLaws.{has_met}
+use Rattle.mt_session.proofs.WatcherLaws.{has_met}
 use Rattle.mt_session.proofs.shared_answer.meet.Goals as goal
 
 pub returns : goal.returns

@@ -1,4 +1,4 @@
-use Rattle.mt_session.proofs.SharedTakeLaws.{portion_met}
+use Rattle.mt_session.proofs.WatcherLaws.{portion_met}
 use Rattle.mt_session.proofs.shared_answer.take_met.Goals as goal
 
 pub returns-then-meeting : goal.returns-then-meeting

@@ -1,7 +1,7 @@
 use Rattle.std.proofs.Common.{Option, arith, subst}
 use Rattle.mt_desk.specs.Calls.{WatcherView}
 use Rattle.mt_session.specs.SharedServing.{IsPortion}
-use Rattle.mt_session.proofs.SharedTakeLaws.{popped_runs, popped_same, portion_at_once}
+use Rattle.mt_session.proofs.WatcherLaws.{popped_runs, popped_same, portion_at_once}
 use Rattle.mt_session.proofs.shared_answer.take_posts.Goals as goal
 
 pub take_met-requires-clause-running : goal.take_met-requires-clause-running

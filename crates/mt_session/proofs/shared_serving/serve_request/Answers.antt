@@ -1,7 +1,6 @@
-use Rattle.std.proofs.Common.{[], ◌++◌, arith}
-use Rattle.std.specs.Prelude.{unwrap_or}
-use Rattle.mt_session.proofs.SharedPieceLaws.{piece_more}
-use Rattle.mt_session.proofs.SharedLineLaws.{written_more, piece_over, piece_cut, piece_cause, piece_run}
+use Rattle.std.proofs.Common.{[], ◌++◌, arith, unwrap_or}
+use Rattle.mt_session.proofs.SessionLaws.{uncut_cause, uncut_run}
+use Rattle.mt_session.proofs.SharedLineLaws.{piece_more, written_more, piece_over, piece_cut, piece_uncut}
 use Rattle.mt_session.proofs.shared_serving.serve_request.Goals as goal
 
 pub returns-in-Err-clause-served : goal.returns-in-Err-clause-served
@@ -22,15 +21,15 @@ pub returns-in-Over-clause-cut : goal.returns-in-Over-clause-cut
 returns-in-Over-clause-cut g c t =
     let i = c.pieces.invariant.so_far in
     let p = c.next_piece-piece in
-    piece_cause c.args.session.now p.new.session c.args.request.now i.0 p.result.text p.result.then c.in-Over.end _ _
-    (p.ensures c.args.session.now i.0 i.1) c.in-Over.is (omega (arith, c.pieces.invariant.failed t, c.in_default.ensures.counted t))
+    uncut_cause c.in-Over.end _ _ (piece_uncut c.args.session.now p.new.session c.args.request.now i.0 p.result.text p.result.then c.in-Over.end (p.ensures c.args.session.now i.0 i.1) c.in-Over.is)
+    (omega (arith, c.pieces.invariant.failed t, c.in_default.ensures.counted t))
 
 pub returns-in-Over-clause-cut_run : goal.returns-in-Over-clause-cut_run
 returns-in-Over-clause-cut_run g c t none =
     let i = c.pieces.invariant.so_far in
     let p = c.next_piece-piece in
-    piece_run c.args.session.now p.new.session c.args.request.now i.0 p.result.text p.result.then c.in-Over.end _
-    (p.ensures c.args.session.now i.0 i.1) c.in-Over.is (c.in_default.ensures.served t (c.pieces.invariant.cut_run t none))
+    uncut_run c.in-Over.end _ (piece_uncut c.args.session.now p.new.session c.args.request.now i.0 p.result.text p.result.then c.in-Over.end (p.ensures c.args.session.now i.0 i.1) c.in-Over.is)
+    (c.in_default.ensures.served t (c.pieces.invariant.cut_run t none))
 
 pub pieces-preserved : goal.pieces-preserved
 pieces-preserved g c =

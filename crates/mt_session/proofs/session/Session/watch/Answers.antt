@@ -1,9 +1,7 @@
-use Rattle.std.proofs.Common.{◌∙◌, Ok, ap, sym, refl}
-use Rattle.mt_floor.specs.declared.event.Event.TheVariants.{Open, Close}
-use Rattle.mt_floor.specs.Schedule.{FloorView}
+use Rattle.std.proofs.Common.{◌∙◌, sym, refl}
+use Rattle.mt_floor.specs.declared.event.Event.TheVariants.{Close}
 use Rattle.mt_floor.proofs.SettledLaws.{open_idle, close_idle}
-use Rattle.mt_session.proofs.TurnLaws.{step_is, floor_is, refused_watch, undone_watch}
-use Rattle.mt_session.proofs.IdleLaws.{open_begins, open_told}
+use Rattle.mt_session.proofs.TurnLaws.{step_is, floor_is, idle_behind, open_begins, open_told, refused_watch, undone_watch}
 use Rattle.mt_session.proofs.session.Session.watch.Goals as goal
 
 pub returns-in-Err-clause-ok : goal.returns-in-Err-clause-ok
@@ -20,25 +18,20 @@ returns-in-Ok-opening-clause-ok c =
     (c.in-Ok-opening.ensures.text ∙ sym t.0, sym t.1)
 
 pub returns-in-Ok-opening-clause-idle : goal.returns-in-Ok-opening-clause-idle
-returns-in-Ok-opening-clause-idle c =
-    let now = floor_is c.args.floor.now c.step.new.self (Open c.args.scope) (Ok c.in-Ok.answer) c.in-Ok.ensures.done in
-    ap (λ (t : FloorView). t.due) now ∙ open_idle c.args.floor.now c.args.scope c.requires.idle
+returns-in-Ok-opening-clause-idle c = idle_behind _ _ _ _ c.in-Ok.ensures.done (open_idle c.args.floor.now c.args.scope c.requires.idle)
 
 pub returns-clause-memory : goal.returns-clause-memory
 returns-clause-memory c =
     let e = c.step-in-Err-opening.ensures in
     let b = c.begun_by-key in
-    let is = step_is c.step.new.self c.step-in-Err-opening.new.self (Close b.result.0) c.step-in-Err-opening.result refl e.done e.refused e.memory in
-    let gone = floor_is c.step.new.self c.step-in-Err-opening.new.self (Close b.result.0) c.step-in-Err-opening.result is in (
+    let is = step_is c.step.new.self c.step-in-Err-opening.new.self (Close b.result.0) c.step-in-Err-opening.result refl e.done e.refused e.memory in (
       c.in-Err-opening.ensures.memory,
-      undone_watch c.args.floor.now c.step.new.self c.step-in-Err-opening.new.self c.args.scope c.in-Ok.answer b.result.0 b.result.1 c.requires.idle c.in-Ok.ensures.done b.ensures c.args.self.now c.requires.none gone,
+      undone_watch c.args.floor.now c.step.new.self c.step-in-Err-opening.new.self c.args.scope c.in-Ok.answer b.result.0 b.result.1 c.args.self.now c.requires.idle c.requires.none c.in-Ok.ensures.done b.ensures (floor_is _ _ _ _ is),
     )
 
 pub returns-clause-idle : goal.returns-clause-idle
 returns-clause-idle c =
     let e = c.step-in-Err-opening.ensures in
-    let key = c.begun_by-key.result.0 in
-    let now = floor_is c.args.floor.now c.step.new.self (Open c.args.scope) (Ok c.in-Ok.answer) c.in-Ok.ensures.done in
-    let idle = ap (λ (t : FloorView). t.due) now ∙ open_idle c.args.floor.now c.args.scope c.requires.idle in
-    let is = step_is c.step.new.self c.step-in-Err-opening.new.self (Close key) c.step-in-Err-opening.result refl e.done e.refused e.memory in
-    ap (λ (t : FloorView). t.due) (floor_is c.step.new.self c.step-in-Err-opening.new.self (Close key) c.step-in-Err-opening.result is) ∙ close_idle c.step.new.self key idle
+    let idle = idle_behind _ _ _ _ c.in-Ok.ensures.done (open_idle c.args.floor.now c.args.scope c.requires.idle) in
+    let is = step_is c.step.new.self c.step-in-Err-opening.new.self (Close c.begun_by-key.result.0) c.step-in-Err-opening.result refl e.done e.refused e.memory in
+    idle_behind _ _ _ _ is (close_idle c.step.new.self c.begun_by-key.result.0 idle)

@@ -1,7 +1,13 @@
-use Rattle.std.proofs.Common.{◌∙◌, Some, refl, sym}
-use Rattle.mt_session.proofs.LeavingLaws.{taken_keeps}
+use Rattle.std.proofs.Common.{◌≡◌, ◌∙◌, List, Option, Some, refl, sym, subst}
+use Rattle.mt_events.specs.Posts.{PostView}
+use Rattle.mt_desk.specs.Calls.{WatcherView}
+use Rattle.mt_session.specs.SharedTurns.{with_taken_posts, KeepsWatcher}
 use Rattle.mt_session.proofs.SharedLaws.{lost_posts}
 use Rattle.mt_session.proofs.shared_session.SharedSession.pops.Goals as goal
+
+-- a watcher that has taken posts goes on
+taken_keeps : (own own' : Option WatcherView) (w w' : WatcherView) (posts : List PostView) → own ≡ Some w → own' ≡ Some w' → w' ≡ with_taken_posts w posts → KeepsWatcher own own'
+taken_keeps own own' w w' posts is is' taken = subst (λ (x : Option WatcherView). KeepsWatcher x own') (sym is) (w', is', (posts, w.half.told, taken))
 
 pub returns-clause-lost : goal.returns-clause-lost
 returns-clause-lost g c = λ failed.
