@@ -53,6 +53,7 @@ reads_both p q = record {
 pub nothing_read : {R : Type 0} {g : Ghosts R} (r : LineReader R g) → fault_of r ≡ None → AreRead [] r r
 nothing_read r fresh = record { on = read_still r fresh; came = λ t. refl }
 
+-- lines that were read, and then more
 pub read_both : {R : Type 0} {g : Ghosts R} {xs ys : List (List ℕ)} {a b c : LineReader R g} → AreRead xs a b → AreRead ys b c → AreRead (xs ++ ys) a c
 read_both {R} {g} {xs} {ys} p q = record { on = reads_both p.on q.on; came = λ t. runs_read xs ys _ (p.came t) (q.came t) }
 
@@ -89,6 +90,7 @@ appended_line n old text new line a b c h p e =
           ∙ ap (λ x. old ++ (printed h.0 ++ x)) (sym (append-nil (ended line))) ∙ ap (λ x. old ++ x) (sym (printed-append h.0 (line ∷ []))),
     )
 
+-- a first line to which others were appended is the text of them all
 pub text_whole : (first : List ℕ) (others : List (List ℕ)) (text begun : List ℕ) → begun ≡ [] ++ ended first → text ≡ begun ++ printed others → text ≡ printed (first ∷ others)
 text_whole first others text begun began is = is ∙ ap (λ x. x ++ printed others) began
 
@@ -152,12 +154,15 @@ passes_nothing h kind a x fresh is = record { others = []; is = is; read = nothi
 pub passes_line : {R O : Type 0} {g : Ghosts R} {h : OutputGhosts O} {kind : List (List ℕ) → Type 0} {line text : List ℕ} {a b : LineReader R g} {x y : O} → AreRead (line ∷ []) a b → text ≡ printed (line ∷ []) → IsOut h text x y → kind (line ∷ []) → PassesOn h [] kind a b x y
 passes_line {R} {O} {g} {h} {kind} {line} p e o is = record { others = line ∷ []; is = is; read = p; out = out_as e o }
 
+-- a line that was read before and is printed alone
 pub passes_seen : {R O : Type 0} {g : Ghosts R} {h : OutputGhosts O} {line text : List ℕ} {x y : O} (a : LineReader R g) → fault_of a ≡ None → text ≡ printed (line ∷ []) → IsOut h text x y → PassesOn h (line ∷ []) (λ ls. ls ≡ line ∷ []) a a x y
 passes_seen a fresh e o = record { others = []; is = refl; read = nothing_read a fresh; out = out_as e o }
 
+-- lines of one kind that are of another too
 pub passes_as : {R O : Type 0} {g : Ghosts R} {h : OutputGhosts O} {seen : List (List ℕ)} {kind more : List (List ℕ) → Type 0} {a b : LineReader R g} {x y : O} → ((ls : List (List ℕ)) → kind ls → more ls) → PassesOn h seen kind a b x y → PassesOn h seen more a b x y
 passes_as {R} {O} {g} {h} {seen} f p = record { others = p.others; is = f (seen ++ p.others) p.is; read = p.read; out = p.out }
 
+-- lines that were passed on, and then more
 pub passes_both : {R O : Type 0} {g : Ghosts R} {h : OutputGhosts O} {seen : List (List ℕ)} {kind more all : List (List ℕ) → Type 0} {a b c : LineReader R g} {x y z : O}
     → ((ls ms : List (List ℕ)) → kind ls → more ms → all (ls ++ ms)) → PassesOn h seen kind a b x y → PassesOn h [] more b c y z → PassesOn h seen all a c x z
 passes_both {R} {O} {g} {h} {seen} {kind} {more} {all} join p q = record {
@@ -167,9 +172,11 @@ passes_both {R} {O} {g} {h} {seen} {kind} {more} {all} join p q = record {
   out = out_as (sym (printed-append (seen ++ p.others) q.others) ∙ ap printed (append_assoc seen p.others q.others)) (out_both p.out q.out);
 }
 
+-- lines that were read first and printed with those behind them
 pub passes_behind : {R O : Type 0} {g : Ghosts R} {h : OutputGhosts O} {xs : List (List ℕ)} {kind : List (List ℕ) → Type 0} {a b c : LineReader R g} {x z : O} → AreRead xs a b → PassesOn h xs kind b c x z → PassesOn h [] kind a c x z
 passes_behind {R} {O} {g} {h} {xs} p q = record { others = xs ++ q.others; is = q.is; read = read_both p q.read; out = q.out }
 
+-- a refusal that was passed on, as it was read
 pub refused_of : {R O : Type 0} {g : Ghosts R} {h : OutputGhosts O} {a b : LineReader R g} {x y : O} → PassesRefusal h a b x y → IsTrue g.tells → HasRefused (last_line b) (lines_left a) (lines_left b)
 refused_of p t = record { is = p.is; read = p.read.came t }
 
@@ -210,10 +217,12 @@ pass_fault_printing {R} {O} {g} {h} {f} {kind} {seen} {xs} {text} {a} {b} {x} {z
       out = subst (λ s. IsCutOff s (h.written x) (h.written z)) is (part.1.cut u);
     }))
 
+-- the output failed within lines that were read behind others, which were printed
 pub pass_fault_printing_behind : {R O : Type 0} {g : Ghosts R} {h : OutputGhosts O} {f : ClientFault} {kind : List (List ℕ) → Type 0} {xs ys : List (List ℕ)} {text : List ℕ} {a b c : LineReader R g} {x y z : O}
     → AreRead xs a b → IsOut h (printed xs) x y → AreRead ys b c → text ≡ printed ys → (f ≡ Output) × IsOutInPart h text y z → IsPassFault h f kind [] a c x z
 pass_fault_printing_behind p o q is part = pass_fault_behind {inner = λ ls. ls ≡ []} {seen = []} p o (λ t none. absurd (none [] _ refl refl)) (pass_fault_printing q is part)
 
+-- a fault behind lines that were printed, since no lines of this kind come first
 pub pass_refused_behind : {R O : Type 0} {g : Ghosts R} {h : OutputGhosts O} {kind : List (List ℕ) → Type 0} {seen xs : List (List ℕ)} {a b c : LineReader R g} {x y : O} → AreRead xs a b → IsOut h (printed (seen ++ xs)) x y → limit_of c ≡ limit_of b
     → (IsTrue g.tells → NoneFirst kind (texts seen ++ lines_left a)) → IsPassFault h Connection kind seen a c x y
 pass_refused_behind p o limit none = pass_fault_behind {inner = λ ls. ⊥} p o (λ t never. none t) (pass_unprinted (fault_refused limit (λ t lines later never. absurd never)))

@@ -47,6 +47,7 @@ rows_join n ls ms a r =
       all = (λ i. a.all i ++ r.2 i) ∙ sym (map-append line a.rows (r.0 ∷ []));
     }
 
+-- so many rows do not come first where behind fewer of them no row comes
 pub rows_ended : (n count : ℕ) (before middle : List Item) → HasRead (AreRowLines n) before middle → n < count → NoneFirst IsRowLine middle → NoneFirst (AreRowLines count) before
 rows_ended n count before middle h lt none = rows_cut n count h.1.rows before middle (h.2 ∙ ap (λ ls. texts ls ++ middle) h.1.all) h.1.many lt h.1.valid none
 
@@ -94,9 +95,11 @@ post_many n seen middle later lines counts k e =
     let t = first_taken later refl k.all e in
     sym (same_Some n (length k.others) (counts ∙ ap (λ l. event_count (words l)) (sym t.0) ∙ k.counted))
 
+-- no post comes first where fewer lines stand behind its first one than it tells
 pub post_needs_lines : (n : ℕ) (seen : List ℕ) (middle : List Item) → Some n ≡ event_count (words seen) → NoneFirst (AreSoMany n) middle → NoneFirst IsPostLines (Text seen ∷ middle)
 post_needs_lines n seen middle counts none lines later k e = none k.others later (post_many n seen middle later lines counts k e) (first_taken later refl k.all e).1
 
+-- nor where the text of these lines is that of no post
 pub post_needs_text : (n : ℕ) (seen : List ℕ) (middle after : List Item) (text begun : List ℕ) → Some n ≡ event_count (words seen) → begun ≡ [] ++ ended seen
     → HasReadMore n middle after begun text → ((post : PostView) → IsPost post → text ≢ post_text post) → NoneFirst IsPostLines (Text seen ∷ middle)
 post_needs_text n seen middle after text begun counts began read none lines later k e =
@@ -130,6 +133,7 @@ parts_alike g h middle later p q e =
     let same = rows_many p.count p.rows p.valid ∙ sym w.2 ∙ sym (rows_many q.count q.rows q.valid) in
     omega (arith, first, second, same)
 
+-- two posts that come first have as many lines, and so have two blocks of one kind
 pub posts_alike : Alike IsPostLines
 posts_alike g h middle later p q e =
     let m = post_many (length p.others) p.first (texts p.others ++ middle) later h (sym p.counted) q (sym (ap (λ ls. texts ls ++ middle) p.all) ∙ e) in
@@ -141,9 +145,11 @@ pub blocks_alike : (block : Block) → Alike (IsBlock block)
 blocks_alike Namespace = parts_alike
 blocks_alike Post = posts_alike
 
+-- no block of a kind comes first where none does in the same lines
 pub block_read : {T : Type 0} (block read : Block) (before middle : List Item) → read ≡ block → (T → before ≡ middle) → T → NoneFirst (IsBlock read) middle → NoneFirst (IsBlock block) before
 block_read block read before middle is came t none = subst (λ b. NoneFirst (IsBlock b) before) is (subst (NoneFirst (IsBlock read)) (sym (came t)) none)
 
+-- no block comes first where no line does
 pub block_needs_line : (block : Block) (before : List Item) → NoneFirst (AreSoMany 1) before → NoneFirst (IsBlock block) before
 block_needs_line Namespace before none = needs_line (λ _ k. (_, _, k.all)) none
 block_needs_line Post before none = needs_line (λ _ k. (_, _, k.all)) none

@@ -44,6 +44,7 @@ followed_more n before middle after old between new f h =
       };
     }
 
+-- so many posts, and the line that ends them
 pub followed_all : (count : ℕ) (before middle after : List Item) (old new : MirrorView) → HasFollowedSome count before middle old new → middle ≡ texts (counted_line count ∷ []) ++ after → HasFollowedAll count before after old new
 followed_all count before middle after old new f e = record {
   lines = f.lines ++ counted_line count ∷ [];
@@ -55,6 +56,7 @@ followed_all count before middle after old new f e = record {
   follows = f.follows;
 }
 
+-- an opening, and behind it so many posts with their end
 pub mirrored_whole : (space count : ℕ) (before middle after : List Item) (found made : MirrorView) → HasOpened space before middle found → HasFollowedAll count middle after found made → HasMirrored space count before after made
 mirrored_whole space count before middle after found made o f = record {
   found = found;
@@ -108,6 +110,7 @@ post_counted seen others p valid all =
 pub event_many : (n : ℕ) (seen : List ℕ) (others : List (List ℕ)) (p : PostView) → Some n ≡ event_count (words seen) → IsPost p → seen ∷ others ≡ post_lines p → length others ≡ n
 event_many n seen others p counts valid all = sym (same_Some n (length others) (counts ∙ post_counted seen others p valid all))
 
+-- the lines of a post are printed as its text
 pub printed_post : (lines : List (List ℕ)) (p : PostView) → lines ≡ post_lines p → printed lines ≡ post_text p
 unfolding post_text
 printed_post lines p e = ap printed e

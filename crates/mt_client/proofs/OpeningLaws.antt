@@ -113,6 +113,7 @@ opening_is m =
     let n : 1 + length m.rows ≡ 0 + (1 + length m.rows) = omega arith in
     ap (λ x. ended (counted_line (1 + length m.rows)) ++ x) (part_is m ∙ sym (append-nil _)) ∙ ap (λ x. count_text x ++ flat_map part_text (opening_with m).parts) n
 
+-- a line is the first one of a namespace where its words are, and none where they are not
 pub heading_is : (r : Option Heading) (line : List ℕ) (ws : List (List ℕ)) → ws ≡ words line
     → MatchOption r ((space number count : ℕ) → space < 2 ^ 64 → number < 2 ^ 64 → count < 2 ^ 64 → ws ≢ heading_words space number count) (λ h. ws ≡ heading_words h.space h.number h.count)
     → MatchOption r ((space number count : ℕ) → space < 2 ^ 64 → number < 2 ^ 64 → count < 2 ^ 64 → line ≢ join_with_byte 32 (heading_words space number count)) (λ h. line ≡ join_with_byte 32 (heading_words h.space h.number h.count))
@@ -169,12 +170,14 @@ within_needs_room left h seen before middle there is small over lines later k e 
     let within = k.within in
     omega (arith, same, within, over)
 
+-- no namespace comes first where fewer rows stand behind its first line than it tells
 pub within_needs_rows : (left : ℕ) (h : Heading) (seen : List ℕ) (before middle : List Item) → before ≡ Text seen ∷ middle → seen ≡ join_with_byte 32 (heading_words h.space h.number h.count)
     → (h.space < 2 ^ 64) × (h.number < 2 ^ 64) × (h.count < 2 ^ 64) → NoneFirst (AreRowLines h.count) middle → NoneFirst (IsPartWithin left) before
 within_needs_rows left h seen before middle there is small none lines later k e =
     let t = within_told left h seen before middle later lines there is small k e in
     none (map line k.found.rows) later (record { rows = k.found.rows; valid = k.shown.rows; many = sym t.0; all = refl }) t.1
 
+-- nor where the rows behind it do not stand by rising ID
 pub within_needs_rising : (left : ℕ) (h : Heading) (seen : List ℕ) (rows : List Row) (before middle after : List Item) → before ≡ Text seen ∷ middle → seen ≡ join_with_byte 32 (heading_words h.space h.number h.count)
     → (h.space < 2 ^ 64) × (h.number < 2 ^ 64) × (h.count < 2 ^ 64) → middle ≡ texts (map line rows) ++ after → length rows ≡ h.count → AllByRecursion IsRow rows → (IsTrue (rises row_id rows) → ⊥)
     → NoneFirst (IsPartWithin left) before
@@ -230,6 +233,7 @@ found_is scope parts =
     let many : length (parts_lines parts) ≡ lines_of_parts (map part_found parts) = omega (arith, l) in
     (λ i. ended (counted_line (length (parts_lines parts))) ++ parts_text parts i) ∙ ap (λ n. count_text n ++ flat_map part_text (map part_found parts)) many
 
+-- the lines of what a watcher finds are the text of its opening
 pub watched_whole : (scope : Scope) (parts : List MirrorView) (before after : List Item) → HasFound scope before after parts → HasWatched scope before after parts
 watched_whole scope parts before after f = record { lines = found_lines parts; shown = f.shown; read = f.read; text = found_is scope parts }
 

@@ -46,6 +46,7 @@ row_here n (y ∷ ys) h = go (nat_le n y.space) refl (row_here n ys (and_second 
         let behind : row_at mirror_space n (y ∷ ys) ≡ row_at mirror_space n ys = rw same refl in
         behind ∙ ih ∙ ap (λ k. cond (here n k (y ∷ ys)) (slice_get (y ∷ ys) k) None) (sym e)
 
+-- the mirror at its place, or one that begins where none is there, is that of the namespace
 pub mirror_is : (n at : ℕ) (xs : List MirrorView) (m : MirrorView) → IsTrue (rises mirror_space xs) → at ≡ place n xs
     → (here n at xs ≡ true → slice_get xs at ≡ Some m) → (here n at xs ≡ false → m ≡ mirror_begun n) → m ≡ mirror_in xs n
 mirror_is n at xs m rising is there begun =

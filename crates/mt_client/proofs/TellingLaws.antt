@@ -26,6 +26,7 @@ use Rattle.mt_lines.specs.Words.{words}
 use Rattle.mt_events.specs.declared.opening.Scope.TheVariants.{All}
 use Rattle.mt_client.specs.Effects.{HasToldLines}
 
+-- what is told of posts and of others behind them, against the mirrors that the first have made
 pub told_both : (named : NamedTelling) (ps qs : List PostView) (old : List MirrorView) → posts_told named old (ps ++ qs) ≡ posts_told named old ps ++ posts_told named (mirrors_by old ps) qs
 told_both named [] qs old = refl
 told_both named (p ∷ ps) qs old =
@@ -173,6 +174,7 @@ pub up_to_some : {named : NamedTelling} {fault : ClientFault} {count n : ℕ} {s
 up_to_some {named} {fault} {count} {n} {scope} {old} {new} {before} {middle} {begun} {between} le f s =
     record { made = new; middle = middle; between = between; so = so_few le f; stopped = s }
 
+-- a fault up to which nothing was told
 pub up_to_none : {named : NamedTelling} {fault : ClientFault} {count : ℕ} {scope : Scope} {old : List MirrorView} {before : List Item} {begun done : List ℕ} → IsUnsaid fault before begun done → IsToldUpTo named fault count scope old before begun done
 up_to_none {named} {fault} {count} {scope} {old} {before} {begun} u = record { made = old; middle = before; between = begun; so = so_none; stopped = inl u }
 
@@ -200,6 +202,7 @@ pub follows_part : (count k : ℕ) (old mid new : List ℕ) → mid ≡ old ++ f
 follows_part count k old mid new e p =
     (k + 1, subst (λ t. IsSentPart t old new) (sym (follows_more count k)) (part_second (follows_text count k) (ended (numbered_text (codes "follow") count)) old mid new e p))
 
+-- a part of the request of a watcher, as a part of the requests of a telling
 pub telling_first : (scope : Scope) (old new : List ℕ) → IsSentPart (ended (watch_text scope)) old new → (times : ℕ) × IsSentPart (telling_text scope times) old new
 telling_first scope old new p = (0, part_first (ended (watch_text scope)) (follows_text portion 0) old new p)
 
@@ -219,6 +222,7 @@ come_whole {named} {scope} {found} {made} {before} {opened} {after} f s =
       text = printed-append w.lines t.lines ∙ (λ k. w.text k ++ t.text k);
     }
 
+-- what a watcher found, all that was told behind it, and the refusal at its end
 pub told_whole : {named : NamedTelling} {scope : Scope} {found : List MirrorView} {before opened : List Item} (after : List Item) (begun done : List ℕ) → HasFound scope before opened found → HasToldAllOut named portion scope found opened after begun done
     → (mirrors : List MirrorView) × (portions : List (List PostView)) × (rest : List PostView) × (refusal : List ℕ) × HasTold scope portions rest refusal before after mirrors × (done ≡ begun ++ posts_told named mirrors (all_posts portions rest) ++ ended refusal)
 told_whole {named} {scope} {found} {before} {opened} after begun done f h =
@@ -233,6 +237,7 @@ told_whole {named} {scope} {found} {before} {opened} after begun done f h =
       h.3 ∙ ap (λ x. x ++ ended h.0) t.out,
     )
 
+-- what was told behind what a watcher found, up to a fault
 pub telling_stopped : {named : NamedTelling} {fault : ClientFault} {scope : Scope} {found : List MirrorView} {before opened : List Item} {begun done : List ℕ} → HasFound scope before opened found → IsToldUpTo named fault portion scope found opened begun done → IsBrokenOff named fault scope before begun done
 telling_stopped {named} {fault} {scope} {found} {before} {opened} {begun} {done} f h =
     let s = h.so in

@@ -31,6 +31,7 @@ drop-at_separator separator [] k n e = absurd (omega arith)
 drop-at_separator separator (b ∷ text) zero n e = let is : b ≡ separator = eqb-true b separator e in ap (λ x. x ∷ text) is
 drop-at_separator separator (b ∷ text) (suc k) n e = drop-at_separator separator text k (omega arith) e
 
+-- a text is cut at its first separator, and is one piece where it has none
 pub first_piece : (separator : ℕ) (text : List ℕ) (r : Option ℕ) → IsFirstByte (is_byte separator) text r → MatchOption r (pieces separator text ≡ text ∷ []) (λ k. (k < length text) × (pieces separator text ≡ take k text ∷ pieces separator (drop (k + 1) text)))
 first_piece separator text None h =
     let u = IsUnbroken-below separator text (length text) (λ j lt. h j (omega arith) lt) (omega arith) in
@@ -41,10 +42,12 @@ first_piece separator text (Some k) h =
     let split : text ≡ take k text ++ separator ∷ drop (suc k) text = sym (take-append-drop k text) ∙ ap (λ x. take k text ++ x) (drop-at_separator separator text k before.high h.1) in
     (before.high, rw add-one (ap (pieces separator) split ∙ pieces-cut separator (take k text) (drop (suc k) text) u))
 
+-- digits behind what is no number make none
 pub number_from_none : (ds : List ℕ) → number_from None ds ≡ None
 number_from_none [] = refl
 number_from_none (d ∷ ds) = refl
 
+-- bytes say no number where one is no digit, or makes one that 64 bits do not hold
 pub digits_none : (n i : ℕ) (ds : List ℕ) → number_from (Some n) (drop i ds) ≡ number_from (Some 0) ds → i < length ds → with_digit n (get_or ds i 0) ≡ None → number_from (Some 0) ds ≡ None
 digits_none n i ds h lt none =
     sym h ∙ ap (number_from (Some n)) (drop-cons ds i 0 lt) ∙ ap (λ m. number_from m (drop (suc i) ds)) none ∙ number_from_none (drop (suc i) ds)

@@ -100,6 +100,7 @@ with_all None clr prop recursive s c p = cc
 with_all (Some set) None prop recursive s c p = cc
 with_all (Some set) (Some clr) None recursive s c p = cc
 
+-- options that are right, and of which no key is there twice, say a change
 pub change_right : (options : List (List ℕ)) → list_all is_right_option options ≡ true → list_any (is_repeated options) option_keys ≡ false → is_some (change_of options) ≡ true
 change_right options all once =
     let are : are_options options ≡ true = rw (all_options options all, once) refl in

@@ -15,11 +15,13 @@ name_free : (name : List ℕ) (ms : Members) → members_have_float ms ≡ false
 name_free [] ms fms = fms
 name_free (b ∷ bs) ms fms = put_free (codes "name") (text_data (b ∷ bs)) ms refl fms
 
+-- the object of an event has none where what it tells of a mount has none
 pub event_free : (event name : List ℕ) (n : ℕ) (ms : Members) → members_have_float ms ≡ false → has_float (object (with_name name (put (codes "namespace") (number_data n) (put (codes "event") (text_data event) ms)))) ≡ false
 event_free event name n ms fms =
     let told = put (codes "event") (text_data event) ms in
     name_free name (put (codes "namespace") (number_data n) told) (put_free (codes "namespace") (number_data n) told refl (put_free (codes "event") (text_data event) ms refl fms))
 
+-- what is told of a mount that is new, that left, or that changed has none
 pub new_free : (r : Row) → members_have_float (with_mount r no_members) ≡ false
 new_free r = mount_free r no_members refl
 

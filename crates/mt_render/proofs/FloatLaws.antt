@@ -56,6 +56,7 @@ kinds_free r ms fms =
     let options = text_data (join_with_byte 44 (option_words r.attrs)) in
     put_free (codes "propagation") (text_data (kinds_text r)) (put (codes "options") options ms) refl (put_free (codes "options") options ms refl fms)
 
+-- the members of a mount have none, added to others that have none
 pub mount_free : (r : Row) (ms : Members) → members_have_float ms ≡ false → members_have_float (with_mount r ms) ≡ false
 unfolding with_mount
 mount_free r ms fms = groups_free r (with_kinds r (with_shown r (with_standing r ms))) (kinds_free r (with_shown r (with_standing r ms)) (shown_free r (with_standing r ms) (standing_free r ms fms)))
@@ -67,6 +68,7 @@ children_free (d ∷ ds) ms fds fms = put_free (codes "children") (array (items_
 node_with_free : (r : Row) (ds : List Data) → items_have_float (items_of ds) ≡ false → has_float (node_with r ds) ≡ false
 node_with_free r ds fds = children_free ds (with_mount r no_members) fds (mount_free r no_members refl)
 
+-- the object of a mount without its children has none
 pub flat_free : (r : Row) → has_float (flat_node r) ≡ false
 flat_free r = node_with_free r [] refl
 
@@ -87,6 +89,7 @@ pub listing_free : (n : ℕ) (ds : List Data) → items_have_float (items_of ds)
 listing_free n ds fds =
     put_free (codes "filesystems") (array (items_of ds)) (put (codes "namespace") (number_data n) no_members) fds (put_free (codes "namespace") (number_data n) no_members refl refl)
 
+-- no list of mounts has one: of all by rising ID, of each below its parent, or of the one where a path ends
 pub flat_listing_free : (n : ℕ) (rows : List Row) → has_float (object (listing n (map flat_node rows))) ≡ false
 flat_listing_free n rows = listing_free n (map flat_node rows) (all_free flat_node flat_free rows)
 

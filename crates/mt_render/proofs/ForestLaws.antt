@@ -40,12 +40,15 @@ child_pushed lasts r t now later last s0 s1 s2 e passes e1 e2 e3 =
 none_left : (n : ℕ) → (suc n == 0) ≡ false
 none_left n = grind (arith, nat_tests)
 
+-- where the next row is a child, there are some
 pub some_child : (r : Row) (t : Row → Bool) (now later : List Row) → now ≡ r ∷ later → t r ≡ true → false ≡ (length (filter t now) == 0)
 some_child r t now later e passes = sym (none_left (length (filter t later))) ∙ ap (λ (cs : List Row). length cs == 0) (sym (child_first r t now later e passes))
 
+-- a row that is no child adds none
 pub no_child : (r : Row) (t : Row → Bool) (now later : List Row) → now ≡ r ∷ later → t r ≡ false → filter t now ≡ filter t later
 no_child r t now later e passes = ap (λ rs. filter t rs) e ∙ ap (λ b. cond b (r ∷ filter t later) (filter t later)) passes
 
+-- the stack is the same where the children are
 pub kept_below : (lasts : List Bool) (cs ds : List Row) (s0 : List BranchView) → cs ≡ ds → s0 ++ reverse (branches lasts cs) ≡ s0 ++ reverse (branches lasts ds)
 kept_below lasts cs ds s0 e = ap (λ rs. s0 ++ reverse (branches lasts rs)) e
 

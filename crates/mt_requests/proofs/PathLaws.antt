@@ -55,6 +55,7 @@ pieces_kept = record {
     plain_piece x w b ne ih true is = rw is (unescaped-nil [] refl, ih)
     plain_piece x w b ne ih false is = rw is (plain_onto x (pieces 47 w) (pieces 47 b) ne ih)
 
+-- the pieces of a word stand for those of its bytes
 pub pieces_stand : (w b : List ℕ) → unescaped w ≡ Some b → StandFor (pieces 47 w) (pieces 47 b)
 pieces_stand = all_kept KeepsPieces pieces_kept
 
@@ -200,12 +201,14 @@ some_text w h = go (text_length w) refl h
     go None is some = cc
     go (Some n) is some = let r = text w n is in (r.0, r.1)
 
+-- a word that stands for a text has a first byte
 pub has_first : (w : List ℕ) → IsSome (text_length w) → 0 < length w
 has_first w h =
     let r = some_text w h in
     let t = r.1 in
     let some : nat_eq (length w) 0 ≡ false = length_same w r.0 t.stands ∙ t.nonempty in grind (arith, nat_tests)
 
+-- a word that does not begin with a slash stands for no path
 pub unrooted : (w : List ℕ) → IsSome (text_length w) → get_or w 0 0 ≢ 47 → is_path (label_bytes w) ≡ false
 unrooted w h ne =
     let r = some_text w h in
@@ -252,12 +255,14 @@ rooted_text x y ys bytes e t =
     let nonzero : is_nonzero (47 ∷ m.0) ≡ true = sym (ap is_nonzero m.2) ∙ t.nonzero in
     rooted_more x y ys m.0 e is m.1 nonzero
 
+-- a word that begins with a slash and is longer stands for a slash and bytes behind it
 pub rooted_word : (w : List ℕ) → IsSome (text_length w) → get_or w 0 0 ≡ 47 → (length w ≡ 1 → ⊥) → IsRooted w
 rooted_word [] h e long = let some : 0 < 0 = has_first [] h in absurd (omega arith)
 rooted_word (x ∷ []) h e long = absurd (long refl)
 rooted_word (x ∷ y ∷ ys) h e long =
     let r = some_text (x ∷ y ∷ ys) h in rooted_text x y ys r.0 e r.1
 
+-- a word that is a slash alone stands for the root
 pub root_is : (w : List ℕ) → IsSome (text_length w) → get_or w 0 0 ≡ 47 → length w ≡ 1 → label_bytes w ≡ codes "/"
 root_is [] h e one = absurd (omega arith)
 root_is (x ∷ []) h e one =

@@ -48,6 +48,7 @@ set_leads s words word =
     by_word word (codes "strictatime") (SetLeads s words) (λ later. rw (later (record s { strictatime = true }), or-true s.strictatime) refl) (λ e9.
     λ later. rw (e1, e2, e3, e4, e5, e6, e7, e8, e9) refl)))))))))
 
+-- what the words of a list set one by one is what the list sets
 pub set_folded : (list : List ℕ) → folded set_with nothing_set (pieces 44 list) ≡ set_words list
 set_folded list = folded_all set_with set_finished set_finished_nil set_leads (pieces 44 list) nothing_set
 
@@ -81,5 +82,6 @@ clear_leads c words word =
     by_word word (codes "atime") (ClearLeads c words) (λ later. rw (later (record c { atime = true }), or-true c.atime) refl) (λ e7.
     λ later. rw (e1, e2, e3, e4, e5, e6, e7) refl)))))))
 
+-- what the words of a list clear one by one is what the list clears
 pub cleared_folded : (list : List ℕ) → folded cleared_with nothing_cleared (pieces 44 list) ≡ clr_words list
 cleared_folded list = folded_all cleared_with cleared_finished cleared_finished_nil clear_leads (pieces 44 list) nothing_cleared

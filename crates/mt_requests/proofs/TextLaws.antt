@@ -73,9 +73,11 @@ text word n h =
       r.3,
     )
 
+-- the bytes that a word stands for
 pub label_bytes-is : (word bytes : List ℕ) → unescaped word ≡ Some bytes → label_bytes word ≡ bytes
 label_bytes-is word bytes h = rw h refl
 
+-- from 1 to 255 bytes, of which none is zero, are a label
 pub label_is : (bytes : List ℕ) → nat_eq (length bytes) 0 ≡ false → nat_lt 255 (length bytes) ≡ false → is_nonzero bytes ≡ true → is_label bytes ≡ true
 label_is bytes some short nonzero =
     let low : nat_le 1 (length bytes) ≡ true = grind (arith, nat_tests) in

@@ -128,6 +128,7 @@ request_answer s Close = of_watcher form.Posts s.watcher _ _ (λ key. close_answ
 request_answer s Quit = inr refl
 request_answer s Stop = inr refl
 
+-- an answer refuses, or has the form of the verb that its line begins with
 pub answers_have_forms : AnswersHaveForms
 answers_have_forms line state r e =
     let is = ap (λ v. option_map_or verb_form v form.Never) (lines_tell line r e) in

@@ -162,6 +162,7 @@ module _ (capacity : ℕ) (before : List Event) (front : List Turn) (turn : Turn
           rebuilt = rebuild capacity es (length earlier) key began.opening opened_at;
         }
 
+-- lines are a schedule of the floor, and each watcher that begins with one is told its posts by those behind it
 pub sessions_follow : SessionsFollow
 sessions_follow capacity before turns s from idle =
     let h : Rests s = record { floor = subst IsFloor (sym from) (after_well capacity before); idle = idle } in record {

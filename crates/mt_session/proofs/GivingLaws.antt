@@ -181,6 +181,7 @@ granted_turn : (key : ℕ) (s : SessionState) (q : Result Request Fault) → Res
 granted_turn key s (Ok r) h = request_turn key s r h
 granted_turn key s (Err f) h = still h.idle
 
+-- behind these events the floor is well-formed too, and nothing is due on it
 pub turn_rests : {key : ℕ} {s now : SessionState} {es : List Event} {told : List PostView} → Rests s → Turns key s now es told → Rests now
 turn_rests {s = s} {es = es} h t = record { floor = subst IsFloor t.floor (floors_stay s.floor es h.floor); idle = t.idle }
 
@@ -241,6 +242,7 @@ pub line_turn : (key : ℕ) (s : SessionState) (turn : Turn) → Rests s → Tur
 unfolding state_after_turn events_of told_by
 line_turn key s turn h = line_with key s turn.growth (request_of_line turn.line) h
 
+-- what lines do to a floor, one after another, and what they tell of a watcher
 pub lines_turn : (key : ℕ) (turns : List Turn) (s : SessionState) → Rests s → Turns key s (state_after turns s) (session_events turns s) (session_told key turns s)
 lines_turn key [] s h = still h.idle
 lines_turn key (turn ∷ turns) s h = let first = line_turn key s turn h in both first (lines_turn key turns (state_after_turn s turn) (turn_rests h first))

@@ -172,6 +172,7 @@ session_served before floor rested ran new fresh mine left_over sent written by 
       count = r.count;
     }
 
+-- lines, and more behind them: the state after all, their text, and that none ends the session
 pub state_after-append : (xs ys : List Turn) (w : SessionState) → state_after (xs ++ ys) w ≡ state_after ys (state_after xs w)
 state_after-append [] ys w = refl
 state_after-append (x ∷ xs) ys w = state_after-append xs ys (state_after_turn w x)

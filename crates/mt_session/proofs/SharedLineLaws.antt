@@ -66,6 +66,7 @@ goes_further w most told next mid after w' out text posts g h is count within sa
   text = ap (λ (x : List ℕ). x ++ text) g.text ∙ ap (λ (x : List ℕ). flat_map post_text g.posts ++ x) says ∙ sym (flat_map-append post_text g.posts posts);
 }
 
+-- posts that were taken are the next piece of the answer to a `follow`, and more may come behind it
 pub follow_posts : (w mid w' : Option WatcherView) (most told limit : ℕ) (printed : PrintedPosts) (out : List ℕ) (p : Option (List ℕ)) (n : Then)
     → IsSoFar w (Follow most) out told mid → IsPortion mid limit (Ok (Posts printed)) w' → told + limit ≤ most → p ≡ Some printed.text.items → n ≡ More (told + printed.posts) → IsPiece w (Follow most) out p n w'
 follow_posts w None w' most told limit printed out p n s h within text next = absurd h

@@ -113,6 +113,7 @@ has_portion w mid most printed w' h p some = record {
   count = p.count;
 }
 
+-- posts that waited were taken at once
 pub portion_at_once : (w w' : Option WatcherView) (most : ℕ) (printed : PrintedPosts)
     → ForSome w (λ (v : WatcherView). HasPopped v most printed w') → IsSome w → printed.posts ≢ 0 → IsPortion w most (Ok (Posts printed)) w'
 portion_at_once w w' most printed p some more =
@@ -120,6 +121,7 @@ portion_at_once w w' most printed p some more =
     let there : at.2.posts ≢ [] = λ empty. more (at.2.count ∙ ap (λ (posts : List PostView). length posts) empty) in
     rw at.1 (has_portion at.0 at.0 most printed w' (moved_none at.0) at.2 there)
 
+-- posts of which a meeting told were taken behind it
 pub portion_met : (w mid w' : Option WatcherView) (m : Meeting) (most : ℕ) (printed : PrintedPosts)
     → 0 < most → HasMet w (Some m) mid → m.taken < m.posted → ForSome mid (λ (v : WatcherView). HasPopped v most printed w') → IsPortion w most (Ok (Posts printed)) w'
 portion_met None mid w' m most printed any h more p = cc
@@ -190,6 +192,7 @@ told_keeps w (Ok (Take k)) text w' t = take_keeps w k text w' t
 told_keeps w (Ok (Follow k)) text w' t = follow_keeps w k text w' t
 told_keeps w (Ok r) text w' t = answered_keeps (Some w) w' r text t
 
+-- whatever a line is answered, the session's watcher goes on or is left
 pub turn_keeps : (w : Option WatcherView) (asked : Result Request Fault) (text : List ℕ) (w' : Option WatcherView) → IsTurn w asked text w' → IsKeptOrLeft w w'
 turn_keeps None asked text w' t = tt
 turn_keeps (Some w) asked text w' (inl t) = told_keeps w asked text w' t
@@ -233,6 +236,7 @@ follows_in_order w l =
       tables = told_tables now.capacity es c.followed.at w.key w.half.opening c.followed.began w.half.taken (g.0 ++ posts) first;
     }
 
+-- what a session's watcher has taken behind each of its lines is in order, and gives the tables
 pub shared_sessions_follow : SharedSessionsFollow
 shared_sessions_follow before sent written by s front back is =
     let t = turns_split front back None s.watcher (subst (λ (l : List SharedTurn). AreTurns None l s.watcher) is s.told) in
