@@ -45,6 +45,7 @@ behind_small cs w h few =
     let shorter : length h.before ≤ 1048576 = omega (arith, few, ap (λ (l : List Command). length l) h.all, length-append h.before (h.last ∷ [])) in
     subst IsSmall (sym h.world) (reached_small (after h.before) (length h.before) shorter (reached h.before))
 
+-- a new book: the empty world, no commands, and no spare world
 pub book_new : (noted : SinceView) → IsBook empty_world noted Gone [] []
 unfolding after space_numbers
 book_new noted = record {

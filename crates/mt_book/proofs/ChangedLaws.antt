@@ -48,6 +48,7 @@ apart : (s : ℕ) (rest : List ℕ) (rs : List (ℕ × ℕ)) → list_all (λ r.
 apart s rest [] h = refl
 apart s rest (r ∷ rs) h = let ih = apart s rest rs in grind (arith, nat_tests)
 
+-- the rows of some namespaces are that of the lowest, if it has one, and then those of the others
 pub next_row : (s : ℕ) (rest : List ℕ) (rs : List (ℕ × ℕ)) → list_all (λ y. nat_lt s y) rest ≡ true → rises space_in rs ≡ true
     → filter (is_in (s ∷ rest)) rs ≡ option_to_list (row_at space_in s rs) ++ filter (is_in rest) rs
 next_row s rest [] a up = refl
@@ -75,9 +76,11 @@ next_found spaces rs found new all i d l rise up before e =
     ap (λ t. t ++ filter (is_in rest) rs) e ∙ append_assoc found (option_to_list (row_at space_in s rs)) (filter (is_in rest) rs)
     ∙ ap (λ t. found ++ t) (sym (next_row s rest rs above up)) ∙ ap (λ (t : List ℕ). found ++ filter (is_in t) rs) (sym split) ∙ before
 
+-- of no namespaces there are no rows
 pub none_in : (rs : List (ℕ × ℕ)) → filter (is_in []) rs ≡ []
 none_in rs = none-picked (is_in []) rs (λ r there. refl)
 
+-- once each of the namespaces was looked for, all their rows are found
 pub last_found : (spaces : List ℕ) (rs found all : List (ℕ × ℕ)) (i : ℕ) → length spaces ≤ i → found ++ filter (is_in (drop i spaces)) rs ≡ all → found ≡ all
 last_found spaces rs found all i l before =
     sym (append-nil found) ∙ ap (λ t. found ++ t) (sym (ap (λ (t : List ℕ). filter (is_in t) rs) (drop_all i spaces l) ∙ none_in rs)) ∙ before
@@ -154,6 +157,7 @@ counted-map : (w v : WorldView) (rs : List (ℕ × ℕ)) → counted w v rs ≡ 
 counted-map w v [] = refl
 counted-map w v (r ∷ rs) = ap (λ l. count_row w v r ∷ l) (counted-map w v rs)
 
+-- new numbers leave the namespaces in their order
 pub counted_rises : (w v : WorldView) (rs : List (ℕ × ℕ)) → rises space_in (counted w v rs) ≡ rises space_in rs
 counted_rises w v rs = ap (rises space_in) (counted-map w v rs) ∙ rises-map space_in (count_row w v) (λ r. refl) rs
 

@@ -14,11 +14,13 @@ few_given f a (suc n) =
     let ih = few_given f (a + 1) n in
     elim (f a) as (λ o. length (cons_option o (filter_map f (range_with_len (a + 1) n))) ≤ suc n) [ None ↦ omega (arith, ih) | Some p ↦ omega (arith, ih) ]
 
+-- a command gives no more posts than there are commands up to it, itself among them
 pub few_posts : (cs : List Command) (c : Command) → length (posts_of cs c) ≤ length cs + 1
 unfolding posts_of
 few_posts cs c =
     omega (arith, few_given (λ n. given n (space_number n cs + 1) (after cs) c) 1 ((next_world (after cs) c).next_space - 1), (next_reached (after cs) c (length cs) (reached cs)).spaces)
 
+-- and each of the commands behind others no more than there are commands in all
 pub posts_few : (before cs : List Command) (m : ℕ) → length before + length cs ≤ m → length (posts_from before cs) ≤ length cs * m
 posts_few before [] m l = omega arith
 posts_few before (c ∷ cs) m l =

@@ -89,6 +89,7 @@ made_from n number k w (c ∷ cs) h low high =
           omega (arith, some, all)
     ]
 
+-- a namespace whose number was given out has had a post
 pub number_some : (n : ℕ) (cs : List Command) → 1 ≤ n → n < (after cs).next_space → 1 ≤ space_number n cs
 unfolding after events
 number_some n cs one low = made_from n 1 0 empty_world cs none_reached one low
@@ -138,6 +139,7 @@ emptied n number t some =
     ap (λ (rs : List Row). post_of n number (told (map row_id rs))) (all_gone t)
     ∙ ap (λ (b : Bool). cond {A = Option PostView} b None (Some p)) (some_told t some)
 
+-- a command that drops a namespace gives one post of it, the next one, which tells that all its mounts are gone
 pub last_post : (n : ℕ) (cs : List Command) (v : WorldView) (r : Reply) → step (after cs) (DropSpace n) ≡ Ok (v, r)
     → space_posts n (posts_of cs (DropSpace n)) ≡ record { space = n; number = space_number n cs + 1; gone = map row_id (table_of (after cs) n); rows = [] } ∷ []
 unfolding step

@@ -33,6 +33,7 @@ use Rattle.mt_book.proofs.GrowthLaws.{reached}
 use Rattle.mt_book.proofs.DirectoryLaws.{no_post}
 use Rattle.mt_book.proofs.RiseLaws.{step_rises}
 
+-- the posts of commands, and then those of the commands behind them
 pub posts_from-append : (before xs ys : List Command) → posts_from before (xs ++ ys) ≡ posts_from before xs ++ posts_from (before ++ xs) ys
 posts_from-append before [] ys = ap (λ l. posts_from l ys) (sym (append-nil before))
 posts_from-append before (x ∷ xs) ys =
@@ -58,10 +59,12 @@ after_from-append : (w : WorldView) (xs ys : List Command) → after_from w (xs 
 after_from-append w [] ys = refl
 after_from-append w (x ∷ xs) ys = after_from-append (next_world w x) xs ys
 
+-- commands behind others go on from the world that these have left
 pub after-append : (xs ys : List Command) → after (xs ++ ys) ≡ after_from (after xs) ys
 unfolding after
 after-append xs ys = after_from-append empty_world xs ys
 
+-- the number of the next namespace never falls
 pub next_higher : (w : WorldView) (c : Command) → w.next_space ≤ (next_world w c).next_space
 next_higher w c = next_by (λ v. w.next_space ≤ v.next_space) w c (omega arith) (λ v r e. (step_rises w c v r e).spaces)
 
@@ -89,6 +92,7 @@ post_is n number d p e = by (is_empty d) e
         let same : r ≡ p = cc in
         subst (IsPostOf n number d) same (record { space_is = refl; number_is = refl; delta_is = refl })
 
+-- where a namespace has no post, its table is as it was
 pub same_table : (n number : ℕ) (v w : WorldView) → IsGood v → IsGood w → post_of n number (difference (table_of v n) (table_of w n)) ≡ None → table_of v n ≡ table_of w n
 same_table n number v w g h e = (empty-equal (table_of v n) (table_of w n) (table_rises v n g.formed) (table_rises w n h.formed)).0 (by (is_empty (difference (table_of v n) (table_of w n))) refl e)
   where

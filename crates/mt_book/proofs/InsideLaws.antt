@@ -72,6 +72,7 @@ step_outside n w (Detach k path) v r h a is e = at_issue k n w v is a (λ b. det
 step_outside n w (SetAttr k path change) v r h a is e = at_issue k n w v is a (λ b. attributed-outside w k path change v h b (done_ok _ v r e))
 step_outside n w c v r h a is e = absurd (cc)
 
+-- so the tables of all other namespaces stay
 pub step_inside : (n : ℕ) (w : WorldView) (c : Command) (v : WorldView) (r : Reply) → IsWellFormed w → IsSkeleton w.skel → IsContained n w → is_issued_in n c ≡ true → step w c ≡ Ok (v, r) → (k : ℕ) → k ≢ n
     → table_of v k ≡ table_of w k
 step_inside n w c v r h s a is e k off = same_table n w v h (step_kept w c v r h s e).0 a (step_outside n w c v r h a is e) k off
@@ -120,6 +121,7 @@ less_stands w m n v g e =
       contained = less_copied w m v n g.formed is;
     }
 
+-- what is done in a less privileged copy leaves the tables of all other namespaces, as long as no copy of it was accepted
 pub less_inside : (w : WorldView) (m n : ℕ) (v : WorldView) → IsWellFormed w → IsSkeleton w.skel → step w (CopySpace m true) ≡ Ok (v, Number n) → (done : List Command) → IsNotCopied n v done
     → (c : Command) → is_issued_in n c ≡ true → (k : ℕ) → k ≢ n → table_of (next_world (after_from v done) c) k ≡ table_of (after_from v done) k
 less_inside w m n v h s e done off c is k other = stands_inside n (after_from v done) c (all_stand n v done (less_stands w m n v (record { formed = h; skeleton = s }) e) off) is k other

@@ -16,6 +16,7 @@ use Rattle.mt_book.proofs.EachLaws.{each_kept}
 use Rattle.mt_book.proofs.ValidLaws.{posts_valid}
 use Rattle.mt_book.proofs.HistoryLaws.{space_events, numbers, posts_events, tables_made}
 
+-- each of the posts of its namespace is the next one of the mirror, and they give it the table and the number after the commands
 pub mirrors_followed : (n : ℕ) (before cs : List Command) (told : List PostView) → length (before ++ cs) ≤ command_limit → AllByRecursion IsCommand (before ++ cs) → AllByRecursion IsPost told
     → map post_text told ≡ map post_text (space_posts n (posts_from before cs))
     → IsTrue (are_next (mirror_of n before) told) × (mirrored_by (mirror_of n before) told ≡ mirror_of n (before ++ cs))

@@ -20,6 +20,7 @@ use Rattle.mt_book.proofs.SpaceLaws.{step_gone}
 use Rattle.mt_book.proofs.ThereLaws.{paired, all_in, newborn-rows, counted-rows, posted-rows, there-rows, spaces-next, posts-all, all-rise, rows-few}
 use Rattle.mt_book.proofs.EndLaws.{number_late}
 
+-- the world after an accepted command is the one that it has made
 pub after-accepted : (cs : List Command) (c : Command) (v : WorldView) (r : Reply) → step (after cs) c ≡ Ok (v, r) → after (cs ++ c ∷ []) ≡ v
 after-accepted cs c v r e = after-append cs (c ∷ []) ∙ ap (world_or (after cs)) e
 
@@ -39,6 +40,7 @@ number-more n cs c =
     ∙ ap (λ (l : List PostView). space_number n cs + length l) (append-nil here)
     ∙ one-more (is_empty d) (space_number n cs) post
 
+-- the next number of a namespace is its number after the command
 pub number-next : (n : ℕ) (cs : List Command) (c : Command) (v : WorldView) (r : Reply) → step (after cs) c ≡ Ok (v, r) → next_number (after cs) v n (space_number n cs) ≡ space_number n (cs ++ c ∷ [])
 number-next n cs c v r e = ap (λ (x : WorldView). next_number (after cs) x n (space_number n cs)) (sym (ap (world_or (after cs)) e)) ∙ sym (number-more n cs c)
 
@@ -57,6 +59,7 @@ pub number-few : (n : ℕ) (cs : List Command) → space_number n cs ≤ length 
 unfolding events
 number-few n cs = from-few n 1 empty_world cs
 
+-- a namespace whose number was not given out yet has number 0
 pub number-newborn : (n : ℕ) (cs : List Command) → (after cs).next_space ≤ n → space_number n cs ≡ 0
 number-newborn n cs late = number_late n cs (inr late)
 
@@ -97,6 +100,7 @@ posts-next cs c v r e =
     ∙ posts-all w more v.next_space (λ n. next_post w v n (f n)) h.well_formed.from_one.1 (step_spaces w c v r (length cs) h e) (λ n low gone. gone_none cs c v r e n (f n) low gone)
     ∙ ap (λ (x : WorldView). filter_map (λ n. next_post w x n (f n)) (range_with_len 1 (x.next_space - 1))) (sym (ap (world_or w) e))
 
+-- the numbers of all namespaces, and of one that is made, are in order, and each can go up
 pub numbers-are : (cs : List Command) (more : Bool) → length cs ≤ command_limit → AreNumbers (with_newborn (space_numbers cs) (after cs).next_space more)
 unfolding space_numbers
 numbers-are cs more few =

@@ -36,6 +36,7 @@ number_told cs ks n o same read =
         subst (λ (o : Option ℕ). IsTold cs n (ok_or o NoNamespace)) (sym (number_there (λ k. space_number k cs) (after cs) n is low.0 low.1)) ((is, refl), tt)
     by false gone = subst (λ (o : Option ℕ). IsTold cs n (ok_or o NoNamespace)) (sym (number_nowhere (λ k. space_number k cs) (after cs) n gone)) (tt, (refl, gone))
 
+-- the namespaces whose numbers are kept are those that are there
 pub spaces_read : (cs : List Command) (ks : List (ℕ × ℕ)) → ks ≡ space_numbers cs → map space_in ks ≡ spaces_of (after cs)
 unfolding space_numbers
 spaces_read cs ks same = ap (map space_in) same ∙ rows-spaces (λ n. space_number n cs) (spaces_of (after cs))

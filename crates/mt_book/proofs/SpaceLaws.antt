@@ -35,6 +35,7 @@ use Rattle.mt_book.proofs.EffectLaws.{number_ok, done_ok, effect}
 use Rattle.mt_book.proofs.StepLaws.{step_kept}
 use Rattle.mt_book.proofs.HasLaws.{Has, step_has, space_has, has_space}
 
+-- a namespace that is there stays through a command that does not end it
 pub step_stays : (w : WorldView) (c : Command) (v : WorldView) (r : Reply) (n : ℕ) → IsWellFormed w → IsSkeleton w.skel → step w c ≡ Ok (v, r) → ends_space n c ≡ false → is_space w n ≡ true → is_space v n ≡ true
 step_stays w c v r n g s e d is = has_space n v (step_kept w c v r g s e).0 (step_has n w c v r g e d (space_has n w g is))
 
@@ -122,6 +123,7 @@ step_makes w (CopySpace k less) v r g e m =
     subst (Has w.next_space) a.world (copy_has w k less g (space_has k w g a.there))
 step_makes w c v r g e m = absurd (cc)
 
+-- so the namespace that a command makes has the next number, and is there
 pub made_there : (w : WorldView) (c : Command) (v : WorldView) (r : Reply) → IsWellFormed w → IsSkeleton w.skel → step w c ≡ Ok (v, r) → makes_space c ≡ true → is_space v w.next_space ≡ true
 made_there w c v r g s e m = has_space w.next_space v (step_kept w c v r g s e).0 (step_makes w c v r g e m)
 

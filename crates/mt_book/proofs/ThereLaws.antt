@@ -86,6 +86,7 @@ all-range w true s one e = sym (ap (range_with_len 1) (longer (s - 1) (w.next_sp
     longer m n same = omega (arith, same)
 all-range w false s one e = append-nil (range_with_len 1 (w.next_space - 1)) ∙ ap (λ k. range_with_len 1 (k - 1)) (omega (arith, e))
 
+-- the namespaces after a command are those from before that are still there, and the one that it makes
 pub spaces-next : (w v : WorldView) (more : Bool) → 1 ≤ w.next_space → v.next_space ≡ w.next_space + cond more 1 0 → ((n : ℕ) → n < w.next_space → is_space w n ≡ false → is_space v n ≡ false)
     → filter (is_space v) (all_in w more) ≡ spaces_of v
 spaces-next w v more one e off =
@@ -94,6 +95,7 @@ spaces-next w v more one e off =
     ∙ sym (filter-append (is_space v) (range_with_len 1 (w.next_space - 1)) (cond more (w.next_space ∷ []) []))
     ∙ ap (filter (is_space v)) (all-range w more v.next_space one e)
 
+-- where no namespace that is gone has a post, all posts are of those that are there and of the one that is made
 pub posts-all : (w : WorldView) (more : Bool) (s : ℕ) (h : ℕ → Option PostView) → 1 ≤ w.next_space → s ≡ w.next_space + cond more 1 0 → ((n : ℕ) → n < w.next_space → is_space w n ≡ false → h n ≡ None)
     → filter_map h (all_in w more) ≡ filter_map h (range_with_len 1 (s - 1))
 posts-all w more s h one e off =
@@ -119,9 +121,11 @@ rises-part p true a k s e =
     omega (arith, low.1, e, row_at-key (λ n. n) i part n at)))) ∙ rises-put (λ n. n) s part (rises-filter (λ n. n) p (range_with_len a k) (range-rises a k))
 rises-part p false a k s e = ap (rises (λ n. n)) (append-nil (filter p (range_with_len a k))) ∙ rises-filter (λ n. n) p (range_with_len a k) (range-rises a k)
 
+-- the namespaces that are there, and the one that is made, stand by rising number
 pub all-rise : (f : ℕ → ℕ) (w : WorldView) (more : Bool) → 1 ≤ w.next_space → rises space_in (paired f (all_in w more)) ≡ true
 all-rise f w more one = rows-rise f (all_in w more) ∙ rises-part (is_space w) more 1 (w.next_space - 1) w.next_space (omega (arith, one))
 
+-- where no number is above a limit, none that is kept is above it
 pub rows-few : (f : ℕ → ℕ) (l : ℕ) → ((n : ℕ) → f n ≤ l) → (xs : List ℕ) (i : ℕ) (r : ℕ × ℕ) → i < length (paired f xs) → r ≡ slice_index_or (paired f xs) i r → number_in r ≤ l
 rows-few f l few [] i r low e = absurd (omega (arith, low))
 rows-few f l few (x ∷ xs) zero r low e = let same : number_in r ≡ f x = ap number_in e in omega (arith, few x, same)

@@ -27,6 +27,7 @@ module _ (w v : WorldView) (ids : List ℕ) (h : IsWellFormed w) (g : IsWellForm
       let kept = row_kept w v h g same ids t m (ap (mount_at w.forest) key ∙ e) (ap (mount_at v.forest) key ∙ later) (ap (may_differ w v ids) key ∙ stays) in
       row_by_space w n i h m e ∙ elim (eqb m.space n) as (λ b. option_map (row_of w) (cond b (Some m) None) ≡ option_map (row_of v) (cond b (Some m) None)) [ true ↦ ap Some kept | false ↦ refl ] ∙ sym (row_by_space v n i g m later)
 
+-- a list of the mounts whose rows may differ holds every mount whose row differs, in any namespace
 pub rows_held : (w v : WorldView) (ids rows : List ℕ) → IsWellFormed w → IsWellFormed v → w.skel ≡ v.skel → IsTouched w v ids
     → ((i : ℕ) → among rows i ≡ may_differ w v ids i) → (n : ℕ) → HoldsChanged (table_of w n) (table_of v n) rows
 rows_held w v ids rows h g same t is n i out = at_row w v ids h g same t n i (sym (is i) ∙ out) (mount_at w.forest i) refl

@@ -39,6 +39,7 @@ post_pieces p text0 text1 text2 text3 e1 e2 e3 =
 abbrev pub post_with : ℕ → ℕ → List ℕ → List Row → PostView
 post_with space number gone rows = record { space = space; number = number; gone = gone; rows = rows }
 
+-- posts of one namespace and number are equal where their lists are
 pub post_same : (space number : ℕ) (gone left : List ℕ) (rows news : List Row) → gone ≡ left → rows ≡ news → post_with space number gone rows ≡ post_with space number left news
 post_same space number gone left rows news e f = λ k. post_with space number (e k) (f k)
 
@@ -80,12 +81,14 @@ module _ {X : Type 0} (f : X → List ℕ) (start : List ℕ) (each : (x : X) (r
       let later : map f xs ++ r ≡ map f ys ++ s = cc in
       λ i. tells x y p.0 q.0 here i ∷ same_lines tells xs ys r s later h k p.1 q.1 i
 
+-- the line of a mount that left begins with a minus, and that of a row with an equals sign
 pub gone_begins : (i : ℕ) (rest : List (List ℕ)) → begins minus (gone_line i ∷ rest) ≡ true
 gone_begins i rest = refl
 
 pub row_begins : (r : Row) (rest : List (List ℕ)) → begins equals (row_line r ∷ rest) ≡ true
 row_begins r rest = refl
 
+-- so where the rows come, no line of a mount that left comes any more
 pub rows_end : (rows : List Row) → begins minus (map row_line rows ++ [] ∷ []) ≡ false
 rows_end [] = refl
 rows_end (r ∷ rows) = refl
@@ -105,6 +108,7 @@ event_split line old more rest space number count a b d e f =
     let is : line ≡ join_with_byte 32 (event_words space number count) = cc in
     ap words is ∙ pieces_joined 32 _ _ (event_lacks space number count a b d)
 
+-- lines of which the first has the words of an event begin with the first line of a post
 pub event_is : (line : List ℕ) (old more ws : List (List ℕ)) (space number count : ℕ) → old ≡ line ∷ more → ws ≡ words line → ws ≡ event_words space number count → old ≡ join_with_byte 32 (event_words space number count) ∷ more
 event_is line old more ws space number count e w f =
     e ∙ ap (λ l. l ∷ more) (sym (joined_pieces 32 line) ∙ ap (join_with_byte 32) (sym w ∙ f))
@@ -141,6 +145,7 @@ post_split text p h e =
     ∙ pieces_joined 10 (event_line p) ((map gone_line p.gone ++ map row_line p.rows) ++ [] ∷ []) lacking
     ∙ ap (λ ls. event_line p ∷ ls) (append_assoc (map gone_line p.gone) (map row_line p.rows) ([] ∷ []))
 
+-- a text whose lines are, part by part, those of a post is its text
 pub post_is : (text : List ℕ) (p : PostView) (count : ℕ) (whole past_event past_gone past_rows : List (List ℕ)) → whole ≡ pieces 10 text → whole ≡ join_with_byte 32 (event_words p.space p.number count) ∷ past_event → count ≡ length p.gone + length p.rows
     → past_event ≡ map gone_line p.gone ++ past_gone → past_gone ≡ map row_line p.rows ++ past_rows → past_rows ≡ [] ∷ [] → text ≡ post_text p
 unfolding post_text

@@ -89,5 +89,6 @@ counts s e = each_event s (λ e a. (a.0.next_key ≡ s.next_key) ⊎ Gives s a) 
   on_stop = λ none. inl refl;
 }) e
 
+-- so the next key never falls
 pub grows : (s : FloorView) (e : Event) → s.next_key ≤ (floor_step s e).0.next_key
 grows s e = elim (counts s e) [ inl same ↦ omega (arith, same) | inr gives ↦ omega (arith, gives.next) ]

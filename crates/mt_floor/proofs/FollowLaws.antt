@@ -14,6 +14,7 @@ use Rattle.mt_floor.proofs.RunLaws.{run_state, run_told}
 use Rattle.mt_floor.proofs.HeadLaws.{held_at, run_from_opening, in_order}
 use Rattle.mt_floor.proofs.TableLaws.{rebuild, posts_tell}
 
+-- the headline holds of every list of events
 pub all_follow : (capacity : ℕ) (es : List Event) → WatchersFollow capacity es
 all_follow capacity es at key o is = (in_order capacity es at key o is, rebuild capacity es at key o is)
 

@@ -118,9 +118,11 @@ pub floors_stay : (s : FloorView) (es : List Event) → IsFloor s → IsFloor (r
 floors_stay s [] h = h
 floors_stay s (e ∷ es) h = floors_stay (floor_step s e).0 es (stays s e h)
 
+-- so a floor is well-formed after any events from its beginning on
 pub after_well : (capacity : ℕ) (es : List Event) → IsFloor (floor_after capacity es)
 after_well capacity es = floors_stay (empty_floor capacity) es (begins_well capacity)
 
+-- a watcher is given the first of the posts that were posted to it, in order, and they tell its tables
 pub given_in_order : (capacity : ℕ) (es : List Event) (at key : ℕ) (o : Opening) → slice_get (answers capacity es) at ≡ Some (Ok (Opened key o)) → IsGivenInOrder capacity es at key o
 given_in_order capacity es at key o is =
     let g = given_from (floor_after capacity (take at es)) (drop at es) key o (after_kept capacity (take at es)) (told_next capacity es at ∙ is) in

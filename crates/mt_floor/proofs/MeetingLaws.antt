@@ -83,5 +83,6 @@ module _ (capacity : ℕ) (es : List Event) (at key : ℕ) (o : Opening) (is : s
       let r = (held_then capacity es at key o is n less).row a.row a.at in
       (ap (λ (x : Meeting). x.posted) a.told ∙ ap length r.posted_is, ap (λ (x : Meeting). x.taken) a.told ∙ ap length r.taken_is)
 
+-- a meeting tells how many posts were posted to a watcher and how many it took, and a close answers those that it did not take
 pub told : (capacity : ℕ) (es : List Event) (at key : ℕ) (o : Opening) → slice_get (answers capacity es) at ≡ Some (Ok (Opened key o)) → IsTold capacity es at key
 told capacity es at key o is = record { met = λ n m less e f. met_then capacity es at key o is n less m e f; closed = λ n ps less e f. closed_then capacity es at key o is n less ps e f }

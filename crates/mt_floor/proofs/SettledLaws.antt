@@ -78,6 +78,7 @@ keeps_idle s e idle = each_event s (λ e a. ((c : Command) → e ≢ Apply c) �
   on_stop = λ none other. idle;
 }) e
 
+-- so a floor with nothing due stays so through a take, a close, a stop and an opening
 pub take_idle : (s : FloorView) (key : ℕ) → s.due ≡ [] → (floor_step s (Take key)).0.due ≡ []
 take_idle s key none = keeps_idle s (Take key) none (λ c e. cc)
 
@@ -90,6 +91,7 @@ stop_idle s none = keeps_idle s Stop none (λ c e. cc)
 pub open_idle : (s : FloorView) (scope : Scope) → s.due ≡ [] → (floor_step s (Open scope)).0.due ≡ []
 open_idle s scope none = keeps_idle s (Open scope) none (λ c e. cc)
 
+-- a meeting changes nothing
 pub meet_same : (s : FloorView) (key : ℕ) → (floor_step s (Meet key)).0 ≡ s
 unfolding floor_step
 meet_same s key = by s.due (row_at watcher_key key s.watchers)

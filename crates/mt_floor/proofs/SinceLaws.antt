@@ -15,6 +15,7 @@ use Rattle.mt_floor.specs.Headline.{answers, floor_after, taken_by, taken_posts,
 use Rattle.mt_floor.proofs.RunLaws.{run_told, run_split, get_left}
 use Rattle.mt_floor.proofs.EffectLaws.{Still, emptied, still_answer, each_event}
 
+-- each event has one answer
 pub told_count : (s : FloorView) (es : List Event) → length (run s es).1 ≡ length es
 told_count s [] = refl
 told_count s (e ∷ es) = ap (λ n. suc n) (told_count (floor_step s e).0 es)
@@ -94,6 +95,7 @@ quiet s e key due = each_event s (λ e a. e ≢ PostNext → posted_by key due a
     still emptied = refl
     still a = refl
 
+-- so takes post nothing, and no more does a close
 pub takes_quiet : (s : FloorView) (n k key : ℕ) → posted_to key s (replicate n (Take k)) ≡ []
 takes_quiet s zero k key = refl
 takes_quiet s (suc n) k key = ap (λ l. l ++ posted_to key (floor_step s (Take k)).0 (replicate n (Take k))) (quiet s (Take k) key s.due (λ e. cc)) ∙ takes_quiet (floor_step s (Take k)).0 n k key

@@ -63,6 +63,7 @@ bounded s e h order = each_event s (λ e a. IsBounded a.0) (record {
         let len = length-put watcher_key r' s.watchers r order (ap (λ k. row_at watcher_key k s.watchers) (same ∙ row_at-key watcher_key q s.watchers r at) ∙ at) in
         record { journal = h.journal; watchers = omega (arith, len, h.watchers); keys = h.keys }
 
+-- on a well-formed floor watchers stand by rising key, each below the next one
 pub kept_of : {s : FloorView} → IsFloor s → Kept s
 kept_of h = record { rising = h.rising; below = h.below }
 
@@ -191,6 +192,7 @@ module _ (s : FloorView) (e : Event) (h : IsFloor s) where
     idle = idle_next;
   }
 
+-- a floor with nothing done is well-formed
 pub begins_well : (capacity : ℕ) → IsFloor (empty_floor capacity)
 begins_well capacity = record {
   rising = refl;

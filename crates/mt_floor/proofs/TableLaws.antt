@@ -46,6 +46,7 @@ module _ (capacity : ℕ) (es : List Event) (at key : ℕ) (o : Opening) (is : s
     pub posts_tell : TellTables capacity es o ps
     posts_tell = record { untouched = λ n named e. ap (with_posts (start_table o n)) e; as_of = table_told }
 
+-- applied to what a watcher found, the posts that it has taken give each table as of the last of them
 pub rebuild : (capacity : ℕ) (es : List Event) (at key : ℕ) (o : Opening) → slice_get (answers capacity es) at ≡ Some (Ok (Opened key o)) → IsRebuilt capacity es at key o
 rebuild capacity es at key o is =
     let h = held_at capacity es at key o is in

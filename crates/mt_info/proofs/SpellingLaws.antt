@@ -29,6 +29,7 @@ spelling_kept = record {
   backslash = λ w b ih h. ap (λ t. 92 ∷ 49 ∷ 51 ∷ 52 ∷ t) (ih h);
 }
 
+-- so a word without such bytes is the escaped form of what it stands for
 pub spelling : (w b : List ℕ) → list_all is_bare w ≡ true → unescaped w ≡ Some b → w ≡ escaped b
 spelling w b bare h = all_kept IsSpelling spelling_kept w b h bare
 

@@ -34,6 +34,7 @@ begins = record {
     one zero v e = subst (Fits 0 0 no_opening 0 [] [] 0) (some-injective _ _ e) ((λ _. (refl, refl, refl, refl, omega arith)), (λ _. (refl, refl, refl, omega arith)))
     one (suc j) v e = absurd (some-ne-none v (sym e))
 
+-- a push adds the post at the end of what was sent, and keeps the rule where that stays a run
 pub pushes : (n pass : ℕ) (v : PassView) (x : Item) → v.pushes ≡ true → v.capacity ≡ n → IsRun v.opening.opening (v.sent ++ arc_value x ∷ [])
     → Pushes KeepsRule n pass v x (IsPushed v x)
 pushes n pass v x may cap run items views room h at =
@@ -62,11 +63,13 @@ pushes n pass v x may cap run items views room h at =
       refl,
     )
 
+-- a push refused as full teaches that more was sent than the last meeting said was taken, by as many at least as the queue holds
 pub fills : (pass : ℕ) (v : PassView) → v.pushes ≡ true → Learns KeepsRule pass v (IsFilled v)
 fills pass v may items views h at =
     let mine = (h.each pass v at).0 may in
     omega (arith, mine.4, ap length mine.3, held_length h.sent h.taken items h.split)
 
+-- a pop adds the front to what was taken, which stays a run, and keeps the rule
 pub pops : (pass : ℕ) (v : PassView) → v.pops ≡ true → Pops KeepsRule pass v (IsPopped v)
 pops pass v may x items views h at =
     let p : PostView = arc_value x in
@@ -98,11 +101,13 @@ pops pass v may x items views h at =
       ),
     )
 
+-- a pop of none teaches that the last meeting told of no more posts than were taken and the queue holds
 pub drains : (pass : ℕ) (v : PassView) → v.pops ≡ true → Learns KeepsRule pass v (IsDrained v)
 drains pass v may items views h at =
     let mine = (h.each pass v at).1 may in
     omega (arith, mine.3, ap length mine.2, held_length h.sent h.taken items h.split)
 
+-- a look by the pass that may push and pop teaches the rule over both its lists
 pub balances : (pass : ℕ) (v : PassView) → v.pushes ≡ true → v.pops ≡ true → Learns KeepsRule pass v (IsBalanced v)
 balances pass v may may' items views h at =
     let s = (h.each pass v at).0 may in
@@ -116,6 +121,7 @@ balances pass v may may' items views h at =
       run = subst (λ (y : TaggedOpening × List PostView). IsRun y.0.opening y.1) (λ i. (sym s.1 i, sym s.3 i)) h.run;
     }
 
+-- a pop by this pass takes the next of what was sent
 pub pops_left : (pass : ℕ) (v : PassView) → v.pushes ≡ true → v.pops ≡ true → Pops KeepsRule pass v (IsPoppedLeft v)
 pops_left pass v may may' x items views h at =
     let r = pops pass v may' x items views h at in

@@ -10,12 +10,14 @@ use Rattle.mt_unmount.proofs.DetachedLaws.{detached-takes}
 use Rattle.mt_unmount.proofs.LeftLaws.{takes-contained, takes-outside}
 use Rattle.mt_unmount.proofs.UnmountLaws.{unmounted-takes}
 
+-- a contained namespace stays so through an unmount, and if this is done in one, nothing changes outside it
 pub unmounted-contained : (k : ℕ) (w : WorldView) (n : ℕ) (path : List (List ℕ)) (v : WorldView) → IsWellFormed w → IsContained k w → unmounted w n path ≡ Ok v → IsContained k v
 unmounted-contained k w n path v h c e = takes-contained w h n v (unmounted-takes w h n path v e) k c
 
 pub unmounted-outside : (w : WorldView) (n : ℕ) (path : List (List ℕ)) (v : WorldView) → IsWellFormed w → IsContained n w → unmounted w n path ≡ Ok v → IsSameOutside n w v
 unmounted-outside w n path v h c e = takes-outside w h n v (unmounted-takes w h n path v e) c
 
+-- and so it is of a detach
 pub detached-contained : (k : ℕ) (w : WorldView) (n : ℕ) (path : List (List ℕ)) (v : WorldView) → IsWellFormed w → IsContained k w → detached w n path ≡ Ok v → IsContained k v
 detached-contained k w n path v h c e = takes-contained w h n v (detached-takes w h n path v e) k c
 

@@ -25,6 +25,7 @@ once_sized w goes few =
       within = omega (arith, few, few_pass stays w.forest, length-map (filter stays w.forest) slide);
     }
 
+-- so neither an unmount nor a detach adds anything
 pub gone_sized : (w v : WorldView) (n : ℕ) (path : List (List ℕ)) → length w.forest ≤ 4096 → unmounted w n path ≡ Ok v → IsSized w v 0
 unfolding without_mount
 gone_sized w v n path few e = subst (λ (x : WorldView). IsSized w x 0) (unmount_accepted w n path v e).world (once_sized w (is_removed w (path_end w n path).mount) few)
