@@ -37,6 +37,7 @@ copying_contained k n w v h c m = subst (IsContained k) m.made (copied-contained
 copying_outside : (n : ℕ) (w v : WorldView) → IsWellFormed w → IsContained n w → IsCopying n w v → IsSameOutside n w v
 copying_outside n w v h c m = subst (IsSameOutside n w) m.made (copied-outside w h m.src m.dest m.source m.destination m.near n c m.here)
 
+-- a mount, a bind and a move keep contained namespaces contained, and made in one they change nothing outside it
 pub mount_contained : (k : ℕ) (w : WorldView) (n : ℕ) (name : List ℕ) (path : List (List ℕ)) (v : WorldView) (i : ℕ) → IsWellFormed w → IsContained k w → mounted w n name path ≡ Ok (v, i) → IsContained k v
 mount_contained k w n name path v i h c e = copying_contained k n w v h c (mount_copies w n name path v i h e)
 

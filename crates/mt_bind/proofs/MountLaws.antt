@@ -68,6 +68,7 @@ mount_copies w n name path v i h e =
     let low = holds_there w.skel r.0.root p.dir r.3 in
     copying w v n path (fresh w fs) h a.ended a.off_root a.world (fresh_is_source w h fs p (omega (arith, low))) (λ here. fresh_near w h fs p)
 
+-- a world stays well-formed through a mount that is accepted
 pub mount_keeps : (w : WorldView) (n : ℕ) (name : List ℕ) (path : List (List ℕ)) (v : WorldView) (i : ℕ) → IsWellFormed w → mounted w n name path ≡ Ok (v, i) → IsWellFormed v
 mount_keeps w n name path v i h e = copying_keeps n w v h (mount_copies w n name path v i h e)
 
@@ -92,6 +93,7 @@ bind_copies w n recursive from to v i h e =
     copying w v n to src h a.ended a.off_root a.world (bound_source w n from recursive s p h a.begun)
     (near_below w h s.mount n src.mounts p (bound_below w n from recursive s h a.begun) (ended-inside w h n from (ap refusal_of a.begun)))
 
+-- and through a bind
 pub bind_keeps : (w : WorldView) (n : ℕ) (recursive : Bool) (from to : List (List ℕ)) (v : WorldView) (i : ℕ) → IsWellFormed w → bound w n recursive from to ≡ Ok (v, i) → IsWellFormed v
 bind_keeps w n recursive from to v i h e = copying_keeps n w v h (bind_copies w n recursive from to v i h e)
 
@@ -112,5 +114,6 @@ move_copies w n from to v h e =
     copying w v n to (tree_of w s.mount) h a.ended a.off_root a.world (moving_source w n from to s p h a.begun a.placed a.ended a.outside)
     (near_below w h s.mount n (tree_of w s.mount).mounts p (tree_below w h s.mount q.0 q.1) (ended-inside w h n from (ap refusal_of a.begun)))
 
+-- and through a move
 pub move_keeps : (w : WorldView) (n : ℕ) (from to : List (List ℕ)) (v : WorldView) → IsWellFormed w → moved w n from to ≡ Ok v → IsWellFormed v
 move_keeps w n from to v h e = copying_keeps n w v h (move_copies w n from to v h e)

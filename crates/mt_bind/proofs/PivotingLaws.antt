@@ -333,6 +333,7 @@ pivots w n new old v h e =
     let p = path_end w n old in
     record { new = s.mount; old = root_id w n; dest = p; made = a.world; may = may_pivot w n new old s p h a.begun a.placed a.ended a.off_root a.inside; here = ended-inside w h n new (ap refusal_of a.begun) }
 
+-- a pivot keeps a world well-formed and contained namespaces contained, and made in one it changes nothing outside it
 pub pivoted_keeps : (w : WorldView) (n : ℕ) (new old : List (List ℕ)) (v : WorldView) → IsWellFormed w → pivoted w n new old ≡ Ok v → IsWellFormed v
 pivoted_keeps w n new old v h e =
     let a = pivots w n new old v h e in

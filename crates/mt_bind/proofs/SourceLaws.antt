@@ -27,6 +27,7 @@ use Rattle.mt_propagate.proofs.RowLaws.{picked-row, row-picked, mapped-row, row-
 use Rattle.mt_bind.specs.Sources.{fresh, alone, top_at, tree_within, is_bindable, stands_within, leads_within, is_bound_along, path_to}
 use Rattle.mt_bind.proofs.TreeOfLaws.{part_tree, below_self, below_parent, below_has_parent, above_not_below, path_top, path_step}
 
+-- a directory that another holds is there, and of the filesystem of the other
 pub holds_fs : (s : Skeleton) (outer inner : ℕ) → holds s outer inner ≡ true → (directory s inner).fs ≡ (directory s outer).fs
 holds_fs s outer inner e = let a = (holds-Decides s outer inner).0 e in sym a.one
 

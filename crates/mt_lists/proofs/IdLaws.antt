@@ -16,6 +16,7 @@ rising-map : (rows : List ListRow) → rising (map listed_id rows) ≡ rises lis
 rising-map [] = refl
 rising-map (r ∷ rs) = rw (over-map r.id rs, rising-map rs) refl
 
+-- the IDs of one number rise
 pub rising-ids : (rows : List ListRow) (n : ℕ) → rises listed_id rows ≡ true → rising (ids rows n) ≡ true
 rising-ids rows n r = rising-map (filter (λ (r : ListRow). eqb n r.number) rows) ∙ rises-filter listed_id (λ (r : ListRow). eqb n r.number) rows r
 

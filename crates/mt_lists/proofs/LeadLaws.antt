@@ -38,6 +38,7 @@ lead-names ties apart j q at (Some s) (Some i) e =
       | inr ne ↦ ne_eqb i q (λ u. ne (apart s j q (v ∙ ap (λ x. Some x) u) at)) ∙ sym (ne_eqb s j ne)
     ]
 
+-- there is no place where there is no ID, and the other way round
 pub lead-none : (f : ℕ → Option ℕ) (o i : Option ℕ) → LeadsTo f o i → is_none o ≡ is_none i
 lead-none f None None e = refl
 lead-none f None (Some i) e = absurd (cc)

@@ -32,10 +32,12 @@ over-among k q (x ∷ xs) h m =
     let ih = over-among k q xs in
     grind (arith, nat_tests)
 
+-- where all are above a number, the first of them is the next above it
 pub above-over : (k : ℕ) (xs : List ℕ) → over k xs ≡ true → above k xs ≡ first xs
 above-over k [] h = refl
 above-over k (x ∷ xs) h = grind (arith, nat_tests)
 
+-- a neighbour is in the list, and on its side of the number
 pub below-among : (k b : ℕ) (xs : List ℕ) → below k xs ≡ Some b → (among xs b ≡ true) × (b < k)
 below-among k b [] e = absurd (let v : None ≡ Some b = e in cc)
 below-among k b (x ∷ xs) e = go (below k xs) (λ c. below-among k c xs) (ltb x k) refl e
@@ -57,6 +59,7 @@ first-put : (y id : ℕ) (ys : List ℕ) → y < id → over y ys ≡ true → a
 first-put y id [] l h n = grind (arith, nat_tests)
 first-put y id (z ∷ zs) l h n = grind (arith, nat_tests)
 
+-- the number that is put is next above the one below it, and next below the one above it; the others keep their neighbours
 pub above-put : (id q : ℕ) (xs : List ℕ) → rising xs ≡ true → among xs id ≡ false → among xs q ≡ true → above q (put itself id xs) ≡ cond (names (below id xs) q) (Some id) (above q xs)
 above-put id q [] r n m = absurd (let e : false ≡ true = m in cc)
 above-put id q (y ∷ ys) r n m =
@@ -94,6 +97,7 @@ below-put id q (y ∷ ys) r n m = go (above id ys) refl (λ a. above-among id a 
         let o_a = over-among y a ys in
         grind (arith, nat_tests)
 
+-- a number has the same neighbours before and after it is put in the list
 pub above-put-itself : (id : ℕ) (xs : List ℕ) → rising xs ≡ true → among xs id ≡ false → above id (put itself id xs) ≡ above id xs
 above-put-itself id [] r n = grind (arith, nat_tests)
 above-put-itself id (y ∷ ys) r n =
@@ -125,6 +129,7 @@ last-put id y (z ∷ zs) l r n =
     let low = last-low z zs in
     grind (arith, nat_tests)
 
+-- what one number more makes of the ends and the length of the list
 pub ends-put : (id : ℕ) (xs : List ℕ) → rising xs ≡ true → among xs id ≡ false → ends_of (put itself id xs) ≡ Some (grown id (ends_of xs))
 ends-put id [] r n = refl
 ends-put id (y ∷ ys) r n =
@@ -260,6 +265,7 @@ below-less id q (y ∷ ys) r n m ne = go (above id ys) refl (λ a. above-among i
         let b_y = below-second id q ys in
         grind (arith, nat_tests)
 
+-- a list that loses a number is shorter by one
 pub length-less : (id : ℕ) (xs : List ℕ) → rising xs ≡ true → among xs id ≡ true → suc (length (less id xs)) ≡ length xs
 length-less id [] r n = absurd (let e : false ≡ true = n in cc)
 length-less id (y ∷ ys) r n =
@@ -283,6 +289,7 @@ last-less id x (z ∷ zs) r n =
     let h = last-here x z zs in
     grind (arith, nat_tests)
 
+-- what one number less makes of the ends and the length of the list
 pub ends-less : (id : ℕ) (xs : List ℕ) → rising xs ≡ true → among xs id ≡ true → ends_of (less id xs) ≡ option_and_then (shrunk id (below id xs) (above id xs)) (ends_of xs)
 ends-less id [] r n = absurd (let e : false ≡ true = n in cc)
 ends-less id (y ∷ []) r n = grind (arith, nat_tests)
@@ -344,6 +351,7 @@ sought-above h id (x ∷ xs) r m l e = go (below id xs) refl (λ o f. sought-ove
           grind (arith, nat_tests)
     ]
 
+-- a number below the new one is the one next below it, where what follows it is not below the new one
 pub sought-up : (h id : ℕ) (xs : List ℕ) (o : Option ℕ) → rising xs ≡ true → among xs h ≡ true → h < id → o ≡ above h xs → ((a : ℕ) → o ≡ Some a → id ≤ a) → Some h ≡ below id xs
 sought-up h id xs o r m l e f = sought-above h id xs r m l (λ a s. f a (e ∙ s))
 

@@ -33,6 +33,7 @@ of-lead f None (Some i) e = absurd (cc)
 of-lead f (Some s) None e = absurd (cc)
 of-lead f (Some s) (Some i) e = let v : f s ≡ Some i = cc in v
 
+-- where a place leads to an ID, it has one
 pub lead-there : (f : ℕ → Option ℕ) (o i : Option ℕ) → LeadsTo f o i → IsThere f o
 lead-there f None i e = tt
 lead-there f (Some s) None e = absurd (cc)

@@ -122,6 +122,7 @@ ids-kept [] k t u e same = refl
 ids-kept (x ∷ slots) zero t u e same = ap (λ o. o ∷ ids_in slots) (ap (λ i. Some i) same ∙ sym (ap id_of_tie e))
 ids-kept (x ∷ slots) (suc k) t u e same = ap (λ xs. id_of_tie x ∷ xs) (ids-kept slots k t u e same)
 
+-- a slot without a tie has no ID to lose
 pub ids-vacant : (slots : List (Option Tie)) (k : ℕ) → tie_in slots k ≡ None → slice_set (ids_in slots) k None ≡ ids_in slots
 ids-vacant [] k e = refl
 ids-vacant (x ∷ slots) zero e = ap (λ o. o ∷ ids_in slots) (sym (ap id_of_tie e))
@@ -156,6 +157,7 @@ tie-none zero k = refl
 tie-none (suc n) zero = refl
 tie-none (suc n) (suc k) = tie-none n k
 
+-- each slot has the tie that it had, and those that are new have none
 pub tie-wider : (slots : List (Option Tie)) (n k : ℕ) → tie_in (slots ++ replicate n None) k ≡ tie_in slots k
 tie-wider [] n k = tie-none n k
 tie-wider (x ∷ slots) n zero = refl
@@ -165,6 +167,7 @@ ids-none : (n : ℕ) → ids_in (replicate n None) ≡ replicate n None
 ids-none zero = refl
 ids-none (suc n) = ap (λ xs. None ∷ xs) (ids-none n)
 
+-- and so it is with their IDs
 pub ids-wider : (slots : List (Option Tie)) (n : ℕ) → ids_in (slots ++ replicate n None) ≡ ids_in slots ++ replicate n None
 ids-wider [] n = ids-none n
 ids-wider (x ∷ slots) n = ap (λ xs. id_of_tie x ∷ xs) (ids-wider slots n)

@@ -29,6 +29,7 @@ rises-from : (es : List (ℕ × Entry)) → rises listed_id (rows_from es) ≡ t
 rises-from [] = refl
 rises-from (e ∷ es) = rises-put listed_id (row_of_entry e.0 e.1) (rows_from es) (rises-from es)
 
+-- the rows rise, and the row of an ID is that of its entry
 pub rises-rows : (m : Index Entry) → rises listed_id (rows_of m) ≡ true
 unfolding rows_of
 rises-rows m = rises-from m.entries
@@ -37,6 +38,7 @@ pub row-rows : (m : Index Entry) (q : ℕ) → row_at listed_id q (rows_of m) �
 unfolding rows_of
 row-rows m q = row-from m.entries q
 
+-- a table with no entries has no rows, and one with the same entries has the same rows
 pub rows-empty : (m : Index Entry) → m.entries ≡ [] → rows_of m ≡ []
 unfolding rows_of
 rows-empty m e = ap rows_from e
@@ -137,10 +139,12 @@ length-from [] h = refl
 length-from (e ∷ es) h =
     length-put-new (row_of_entry e.0 e.1) (rows_from es) (row-from es e.0 ∙ ap (option_map (row_of_entry e.0)) (lookup-apart e.0 es h.0)) ∙ ap suc (length-from es h.1)
 
+-- a table has as many rows as entries
 pub length-rows : (m : Index Entry) → IsUnique nat_eq m → length (rows_of m) ≡ length m.entries
 unfolding rows_of
 length-rows m h = length-from m.entries h
 
+-- a number has no more IDs than there are rows
 pub length-ids : (rows : List ListRow) (n : ℕ) → length (ids rows n) ≤ length rows
 length-ids [] n = omega arith
 length-ids (r ∷ rs) n =

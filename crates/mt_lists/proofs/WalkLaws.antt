@@ -25,6 +25,7 @@ rest-first (x ∷ xs) r =
     let o = rest-over x xs in
     grind (arith, nat_tests)
 
+-- the part from an ID on is that ID and the part from the next one on
 pub rest-next : (k : ℕ) (xs : List ℕ) → rising xs ≡ true → among xs k ≡ true → rest_from (Some k) xs ≡ k ∷ rest_from (above k xs) xs
 rest-next k [] r m = absurd (let e : false ≡ true = m in cc)
 rest-next k (y ∷ ys) r m = go (above k ys) refl (λ a. above-among k a ys) (rest-next k ys)

@@ -38,6 +38,7 @@ child_test i m =
 root_test : (n : ℕ) (m : Mount) → has_number id_of rooted_in n m ≡ is_root n m
 root_test n m = elim (is_none m.place) as (λ b. option_map_or (λ k. eqb k n) (cond b (Some m.space) None) false ≡ (b && eqb m.space n)) [ true ↦ refl | false ↦ refl ]
 
+-- the rows answer the children of a mount, the mounts of a namespace, and its root mount
 pub child_ids : (ms : List Mount) (rows : List ListRow) → rows ≡ rows_by id_of parent_of ms → (i : ℕ) → ids rows i ≡ children ms i
 child_ids ms rows e i = numbered_as parent_of stands_on child_test ms rows e i
 

@@ -13,6 +13,7 @@ use Rattle.mt_mounts.proofs.SlotLaws.{same_options, none_found, mapped}
 use Rattle.mt_mounts.proofs.ForestLaws.{find_row, find_passes, find_none}
 use Rattle.mt_mounts.proofs.WrittenLaws.{IsWritten, written_here, written_other, written_cases}
 
+-- two places may be compared in either order, and the test says equality
 pub turned_place : (p q : Place) → place_eq p q ≡ place_eq q p
 turned_place p q = grind (arith, nat_tests)
 

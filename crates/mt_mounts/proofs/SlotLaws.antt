@@ -114,6 +114,7 @@ count_all : (ms : List Mount) → count (λ m. true) ms ≡ length ms
 count_all [] = refl
 count_all (m ∷ ms) = ap suc (count_all ms)
 
+-- a table has as many mounts as its slab, where no two slots have mounts of one ID
 pub length_table : (s : Slab Mount) → AreApart s.slots → length (slab_mounts s) ≡ slab_len s
 unfolding slab_mounts
 length_table s apart =

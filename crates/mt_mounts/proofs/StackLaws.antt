@@ -17,6 +17,7 @@ use Rattle.mt_mounts.specs.Forest.{is_at, place_eq, root_place}
 use Rattle.mt_mounts.specs.Stacks.{reach, leads, IsStacked, IsBare, StandsOnly, IsShortened, linked, unlinked, gone_from}
 use Rattle.mt_mounts.proofs.PlaceLaws.{same_place}
 
+-- each place is equal to itself
 pub place_self : (p : Place) → place_eq p p ≡ true
 place_self p = grind (arith, nat_tests)
 

@@ -82,6 +82,7 @@ module _ (f : Bool → Mount → Mount) (keeps : (b : Bool) (m : Mount) → (f b
   changed_written : rises id_of ms ≡ true → IsWritten ms i (option_map (f true) o) (map (λ m. f (eqb m.id i) m) ms)
   changed_written r = record { rising = rises-map id_of (λ m. f (eqb m.id i) m) (λ m. keeps (eqb m.id i) m) ms ∙ r; rows = changed_rows }
 
+-- a mount that is moved stands at the new place, and each other is as it was
 pub place_rows : (ms : List Mount) (i : ℕ) (p : Place) (q : ℕ) → mount_at (with_place i p ms) q ≡ cond (eqb q i) (option_map (moved_to p) (mount_at ms i)) (mount_at ms q)
 place_rows ms i p q = changed_rows (λ b m. record m { place = cond b (Some p) m.place }) (λ b m. refl) (λ m. refl) ms i (mount_at ms i) refl q
 

@@ -16,6 +16,7 @@ among_nowhere : (ids : List ℕ) (id : ℕ) → ((i d : ℕ) → i < length ids 
 among_nowhere [] id h = refl
 among_nowhere (x ∷ xs) id h = ap (λ b. b || among xs id) (ne_eqb x id (h 0 x (omega arith))) ∙ among_nowhere xs id (λ i d l. h (suc i) d (omega (arith, l)))
 
+-- an ID that is found is one of the list, and one that only parts it into lower and higher ones is not
 pub halved_found : (ids : List ℕ) (id at : ℕ) → at < length ids → HoldsAt (λ y. nat_cmp y id ≡ Equal) ids at → true ≡ among ids id
 halved_found ids id at l h = sym (among_at ids id at 0 l (ranked _ id _ (sym (h 0))))
 

@@ -44,6 +44,7 @@ like-IsClosed P Q old new a grouped mastered = record {
       ]);
 }
 
+-- a set that agrees with a closed one on the mounts that are there is closed
 pub same-IsClosed : (P Q : ℕ → Type 0) (es : List Peer) → ((i : ℕ) (s : State) → state_at es i ≡ Some s → (P i → Q i) × (Q i → P i)) → IsClosed P es → IsClosed Q es
 same-IsClosed P Q es same a =
     like-IsClosed P Q es es a (λ i t g e is. let b = same i t e in (i, t, e, is, b.0, b.1)) (λ i t g e is. (i, t, e, inl is, (same i t e).0))

@@ -144,6 +144,7 @@ low-drop ids i d up l =
     lowest (get_or ids i d) d (drop (i + 1) ids)
     (λ j k. let long = length-drop (i + 1) ids in let high = up i (i + 1 + j) d (omega arith) (omega (arith, k, long)) in subst (λ v. get_or ids i d ≤ v) (sym (get_or-drop (i + 1) ids j d)) high)
 
+-- one mount more is changed, at the end of the list none is left to change, and the mounts rise as before
 pub each-step : (k : Kind) (ids : List ℕ) (i d : ℕ) (p q all : Peering) → IsNonDecreasing ids → i < length ids → rises mount_of p.peers ≡ true → q ≡ unsettled k (nat_eq (get_or ids i d)) p
     → unsettled k (among (drop i ids)) p ≡ all → unsettled k (among (drop (i + 1) ids)) q ≡ all
 each-step k ids i d p q all sorted l up one told =

@@ -47,6 +47,7 @@ collected-rows es t g m q up =
     ∙ count-filter (λ (e : Peer). names (collected_slave t g e.mount e.state.group) q) (has_master m) es
     ∙ count-same (λ (e : Peer). has_master m e && names (collected_slave t g e.mount e.state.group) q) (λ e. has_master m e && other_at t g q e) (λ e. ap (λ b. has_master m e && b) (names-cond (t e.mount && not (in_group g e)) e.mount q)) es
 
+-- how often a mount is picked by two tests, one of its row and one of its ID
 pub occ-filter : (es : List Peer) (t : ℕ → Bool) (s : Peer → Bool) (q : ℕ) → occ q (filter t (map mount_of (filter s es))) ≡ count (λ e. s e && (t e.mount && (e.mount == q))) es
 occ-filter es t s q =
     count-filter (λ j. j == q) t (map mount_of (filter s es))

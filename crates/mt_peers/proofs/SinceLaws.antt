@@ -19,6 +19,7 @@ use Rattle.mt_peers.proofs.MemberLaws.{state_at-without}
 use Rattle.mt_peers.proofs.EntryLaws.{other_state}
 use Rattle.mt_peers.proofs.ListedLaws.{group-listed, master-listed}
 
+-- a state that has not changed is the one before the change
 pub same_state : (e : Entry) → is_changed e ≡ false → e.was ≡ e.state
 same_state e h =
     let g : e.state.group ≡ e.was.group = same_of _ _ (grind arith) in

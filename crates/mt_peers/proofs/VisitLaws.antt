@@ -14,6 +14,7 @@ use Rattle.mt_peers.specs.Masters.{master_of}
 use Rattle.mt_peers.proofs.WorklistLaws.{count-zero, IsWorklist, led_by, worklist-next, worklist-all, next-led}
 use Rattle.mt_peers.proofs.ReceivedLaws.{entered-rows, collected-rows, other-more, led-gets, led-all}
 
+-- how many slaves a group has, and how many members
 pub length-slaves : (es : List Peer) (m : ℕ) → length (slaves es m) ≡ count (has_master m) es
 length-slaves es m = length-of-map mount_of (filter (has_master m) es) ∙ length-filter (has_master m) es
 

@@ -25,9 +25,11 @@ use Rattle.mt_propagate.proofs.TreeLaws.{parent-from}
 use Rattle.mt_propagate.proofs.WalkLaws.{walked}
 use Rattle.mt_propagate.proofs.ShownLaws.{grouped-state, slave-state, mount-state, state-group}
 
+-- the master of a mount is the one that its listed state has
 pub master-is : (w : WorldView) (i g : ℕ) (s : State) → state_at w.peering.peers i ≡ Some s → s.master ≡ Some g → (state_of w i).master ≡ Some g
 master-is w i g s e is = ap (λ o. (unwrap_or o private).master) e ∙ is
 
+-- a namespace is contained where its mounts are with all that receive from them, and only there
 pub closed : (n : ℕ) (w : WorldView) → IsContained n w → IsClosed (λ i. space_of w i ≡ n) w.peering.peers
 closed n w c = record {
   groups = λ i j s t g es et gs gt q. c.groups j i g (state-group w j g t et gt) (state-group w i g s es gs) q;

@@ -76,6 +76,7 @@ module _ (w : WorldView) (p : Place) (g : ℕ) (home : group_of w p.mount ≡ So
       let a = all-looks in
       omega arith
 
+-- a group has no more members, and no more mounts to which it comes through a master, than there are mounts
 pub members-few : (es : List Peer) (g : ℕ) → length (members es g) ≤ length es
 members-few es g = let e = length-members es g in let l = count-length (in_group g) es in omega arith
 

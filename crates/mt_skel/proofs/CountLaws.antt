@@ -33,6 +33,7 @@ pub count-append : {X : Type 0} (t : X → Bool) (xs ys : List X) → count t (x
 count-append t [] ys = omega arith
 count-append t (x ∷ xs) ys = grind (arith, count-append t xs ys)
 
+-- how many pass of a list that is mapped, and of one that is filtered
 pub count-map : {X Y : Type 0} (t : Y → Bool) (f : X → Y) (xs : List X) → count t (map f xs) ≡ count (λ x. t (f x)) xs
 count-map t f [] = refl
 count-map t f (x ∷ xs) = ap (λ n. cond (t (f x)) (suc n) n) (count-map t f xs)
@@ -41,6 +42,7 @@ pub count-filter : {X : Type 0} (t s : X → Bool) (xs : List X) → count t (fi
 count-filter t s [] = refl
 count-filter t s (x ∷ xs) = grind (arith, count-filter t s xs)
 
+-- and how long such lists are
 pub length-filter : {X : Type 0} (s : X → Bool) (xs : List X) → length (filter s xs) ≡ count s xs
 length-filter s [] = refl
 length-filter s (x ∷ xs) = grind (arith, length-filter s xs)

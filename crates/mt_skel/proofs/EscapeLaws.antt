@@ -14,6 +14,7 @@ unescaped-plain x (a ∷ []) h = rw (ne_eqb x 92 h) refl
 unescaped-plain x (a ∷ b ∷ []) h = rw (ne_eqb x 92 h) refl
 unescaped-plain x (a ∷ b ∷ c ∷ rest) h = rw (ne_eqb x 92 h) refl
 
+-- a backslash with fewer than three characters behind it begins no escape
 pub unescaped-short : (xs : List ℕ) → length xs < 3 → unescaped (92 ∷ xs) ≡ None
 unfolding unescaped
 unescaped-short [] h = refl
@@ -38,6 +39,7 @@ rest_of text = take (length text - 1) (drop 1 text)
 pub rest_of-cons : (x : ℕ) (xs : List ℕ) → rest_of (x ∷ xs) ≡ xs
 rest_of-cons x xs = take_all (length (x ∷ xs) - 1) xs (omega arith)
 
+-- a text by its first byte: one that is no backslash, and a backslash with too few characters behind it or with three
 pub first_plain : (text : List ℕ) → 0 < length text → get_or text 0 0 ≢ 92 → unescaped text ≡ cons_to (Some (get_or text 0 0)) (unescaped (rest_of text))
 first_plain [] h ne = absurd (omega arith)
 first_plain (x ∷ xs) h ne = rw (rest_of-cons x xs) (unescaped-plain x xs ne)
@@ -52,6 +54,7 @@ first_code (x ∷ xs) o h e le k =
     let r = rest_of-cons x xs in
     rw (e, k, r) (unescaped-code xs (rw r at le))
 
+-- an empty text stands for no bytes
 pub unescaped-nil : (text : List ℕ) → length text ≡ 0 → unescaped text ≡ Some []
 unfolding unescaped
 unescaped-nil [] h = refl

@@ -39,6 +39,7 @@ module _ {X : Type 0} (key : X → ℕ) where
   without_mid [] back x h = grind (arith, nat_tests, none_above (key x) back)
   without_mid (z ∷ front) back x h = grind (arith, nat_tests, below_mid front back z x h, without_mid front back x)
 
+-- the element behind the front is set, removed or read at its place
 pub set_mid : {X : Type 0} (front back : List X) (x y : X) → set (front ++ x ∷ back) (length front) y ≡ front ++ y ∷ back
 set_mid [] back x y = refl
 set_mid (z ∷ front) back x y = ap (λ l. z ∷ l) (set_mid front back x y)
@@ -81,6 +82,7 @@ module _ {X : Type 0} (P : X → Type 0) where
   each_last [] y h p = (p, tt)
   each_last (x ∷ xs) y h p = (h.0, each_last xs y h.1 p)
 
+-- what holds of each once all are mapped, and what follows from what holds of each
 pub each_map : {X : Type 0} (P Q : X → Type 0) (f : X → X) → ((x : X) → P x → Q (f x)) → (xs : List X) → AllByRecursion P xs → AllByRecursion Q (map f xs)
 each_map P Q f go [] h = tt
 each_map P Q f go (x ∷ xs) h = (go x h.0, each_map P Q f go xs h.1)

@@ -40,6 +40,7 @@ length-dirs_from : (done : List Directory) (ns : List Node) → length (dirs_fro
 length-dirs_from done [] = omega arith
 length-dirs_from done (n ∷ ns) = omega (arith, length-dirs_from (done ++ dir_of done n ∷ []) ns, length-append done (dir_of done n ∷ []))
 
+-- there is a directory for each node
 pub length-dirs_of : (ns : List Node) → length (dirs_of ns) ≡ length ns
 unfolding dirs_of
 length-dirs_of ns = omega (arith, length-dirs_from [] ns)
@@ -77,6 +78,7 @@ dirs_from_push : (done : List Directory) (ns : List Node) (n : Node) → dirs_fr
 dirs_from_push done [] n = refl
 dirs_from_push done (x ∷ ns) n = dirs_from_push (done ++ dir_of done x ∷ []) ns n
 
+-- one node more is one directory more, behind the others
 pub dirs_push : (ns : List Node) (n : Node) → dirs_of (ns ++ n ∷ []) ≡ dirs_of ns ++ dir_of (dirs_of ns) n ∷ []
 unfolding dirs_of
 dirs_push ns n = dirs_from_push [] ns n

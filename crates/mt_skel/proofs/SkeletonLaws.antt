@@ -32,6 +32,7 @@ module _ {X : Type 0} (p : X → Bool) where
   no_place (x ∷ xs) k e zero y at = grind arith
   no_place (x ∷ xs) k e (suc j) y at = no_place xs (k + 1) (grind arith) j y at
 
+-- the test of paths says equality
 pub path_eq-Decides : (xs ys : List (List ℕ)) → Decides (path_eq xs ys) (xs ≡ ys)
 path_eq-Decides xs ys = slice_eq-Decides bytes_eq-Decides xs ys (path_eq xs ys) refl
 
@@ -57,6 +58,7 @@ number_none s d off = by (directory_number s d) refl
     by None e = refl
     by (Some i) e = absurd (off i (at_number s d i e))
 
+-- a directory that has no number stands nowhere
 pub none_number : (s : Skeleton) (d : Directory) (i : ℕ) → directory_number s d ≡ None → ¬ (slice_get s.directories i ≡ Some d)
 none_number s d i e at = true≢false (sym ((directory_eq-Decides d d).1 refl) ∙ no_place (directory_eq d) s.directories 0 e i d at)
 
@@ -128,6 +130,7 @@ holds-Decides s outer inner =
     Decides-like (holds s outer inner) (λ h. record { there = h.0.0; one = h.0.1; rest = h.1.0; joined = h.1.1 }) (λ a. ((a.there, a.one), (a.rest, a.joined)))
     (Decides-and (is_directory s inner && eqb o.fs i.fs) (starts_with bytes_eq i.path o.path) (Decides-and (is_directory s inner) (eqb o.fs i.fs) (Decides-ltb inner (length s.directories)) (Decides-eqb o.fs i.fs)) (path_begins i.path o.path))
 
+-- a directory that is there holds itself
 pub holds_self : (s : Skeleton) (d : ℕ) → d < length s.directories → holds s d d ≡ true
 holds_self s d l = (holds-Decides s d d).1 (record { there = l; one = refl; rest = []; joined = sym (append-nil (directory s d).path) })
 

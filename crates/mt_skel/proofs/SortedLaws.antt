@@ -14,6 +14,7 @@ use Rattle.mt_skel.specs.Counted.{occ}
 use Rattle.mt_skel.proofs.CountLaws.{count-same, count-row}
 use Rattle.mt_skel.proofs.KeyedLaws.{row_at-key, all-lower, same_rows}
 
+-- a list that strictly increases passes the test that it rises
 pub rises_of : (xs : List ℕ) → IsStrictlyIncreasing xs → rises (λ n. n) xs ≡ true
 rises_of [] h = refl
 rises_of (x ∷ []) h = refl
@@ -26,6 +27,7 @@ occ-sum : (q : ℕ) (xs : List ℕ) → sum_by (λ j. cond (j == q) 1 0) xs ≡ 
 occ-sum q [] = refl
 occ-sum q (x ∷ xs) = grind (arith, sum_by-cons (λ j. cond (j == q) 1 0) x xs, occ-sum q xs)
 
+-- a number stands as often in a permutation of a list as in the list
 pub occ-permutation : (q : ℕ) (xs ys : List ℕ) → IsPermutation xs ys → occ q ys ≡ occ q xs
 occ-permutation q xs ys p = sym (occ-sum q ys) ∙ sum_by-IsPermutation (λ j. cond (j == q) 1 0) xs ys p ∙ occ-sum q xs
 
