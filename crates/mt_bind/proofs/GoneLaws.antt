@@ -16,7 +16,8 @@ use Rattle.mt_peers.proofs.LeavingLaws.{left-IsPeering}
 use Rattle.mt_peers.proofs.AlikeLaws.{IsAlike, left-IsAlike, same-IsAlike}
 use Rattle.mt_propagate.specs.World.{WorldView, space_of, is_space}
 use Rattle.mt_propagate.specs.WellFormed.{IsWellFormed, fs_at}
-use Rattle.mt_propagate.proofs.RowLaws.{filter-same, all-each, found-each, kept-row, keys-filter}
+use Rattle.mt_skel.proofs.MiddleLaws.{each_still}
+use Rattle.mt_propagate.proofs.RowLaws.{filter-same, found-each, kept-row, keys-filter}
 use Rattle.mt_propagate.proofs.TreeLaws.{forest_without}
 use Rattle.mt_propagate.proofs.ShownLaws.{shown-alike, groups-show, masters-show, left-mounts, state-mount}
 use Rattle.mt_propagate.specs.Carried.{staying}
@@ -39,7 +40,7 @@ module _ (w : WorldView) (h : IsWellFormed w) (n : ℕ) where
   -- those that vanish are those whose states leave
   pub agree : AllByRecursion (λ m. not (gone m) ≡ not (leaves m.id)) w.forest
   agree =
-      all-each (λ m. mount_at w.forest m.id ≡ Some m) (λ m. not (gone m) ≡ not (leaves m.id))
+      each_still (λ m. mount_at w.forest m.id ≡ Some m) (λ m. not (gone m) ≡ not (leaves m.id))
       (λ m e. ap (λ o. not (unwrap_or (option_map (λ (m : Mount). m.space) o) 0 == n)) (sym e)) w.forest (found-each id_of w.forest h.forest.rising)
 
   same_ids : map id_of (without gone w.forest) ≡ map mount_of (left leaves w.peering).peers

@@ -28,7 +28,8 @@ use Rattle.mt_propagate.proofs.ContainedLaws.{ended-inside, below-space}
 use Rattle.mt_propagate.proofs.WalkLaws.{walked, root_here}
 use Rattle.mt_propagate.proofs.CopyForestLaws.{stands_here}
 use Rattle.mt_propagate.proofs.CopyRowLaws.{space_is}
-use Rattle.mt_propagate.proofs.RowLaws.{mapped-row, row-mapped, all-each, found-each, keys-map, part-mapped}
+use Rattle.mt_skel.proofs.MiddleLaws.{each_still}
+use Rattle.mt_propagate.proofs.RowLaws.{mapped-row, row-mapped, found-each, keys-map, part-mapped}
 use Rattle.mt_propagate.proofs.TreeLaws.{parent-from, parent-is, rank-fell}
 use Rattle.mt_propagate.proofs.MovedForestLaws.{lifted, from_lifted}
 use Rattle.mt_bind.specs.Pivoting.{root_id, pivoted, with_pivot, MayPivot, pivoted_mount}
@@ -286,7 +287,7 @@ module _ (w : WorldView) (i j : ℕ) (p : Place) where
         skel = refl;
         mounts = λ k off.
             part-mapped (in_space k) pivoting w.forest
-            (all-each (λ m. mount_at w.forest m.id ≡ Some m) (λ m. (in_space k (pivoting m) ≡ in_space k m) × (in_space k m ≡ true → pivoting m ≡ m))
+            (each_still (λ m. mount_at w.forest m.id ≡ Some m) (λ m. (in_space k (pivoting m) ≡ in_space k m) × (in_space k m ≡ true → pivoting m ≡ m))
             (λ m e. (refl, λ is. unchanged m e (λ same. off (sym (eqb-true m.space k is) ∙ same)))) w.forest (found-each id_of w.forest h.forest.rising));
         states = λ k m e off. refl;
       }

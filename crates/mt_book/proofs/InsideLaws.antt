@@ -15,8 +15,7 @@ use Rattle.mt_bind.specs.Spaces.{with_copy}
 use Rattle.mt_bind.proofs.AcceptedLaws.{copy_space_accepted, drop_space_accepted}
 use Rattle.mt_bind.proofs.InsideLaws.{mount_contained, mount_outside, bind_contained, bind_outside, move_contained, move_outside, made_contained, copied_contained, less_copied, end_contained, end_outside}
 use Rattle.mt_bind.proofs.PivotingLaws.{pivoted_contained, pivoted_outside}
-use Rattle.mt_unmount.proofs.InsideLaws.{unmounted-contained, unmounted-outside}
-use Rattle.mt_unmount.proofs.DetachInsideLaws.{detached-contained, detached-outside}
+use Rattle.mt_unmount.proofs.InsideLaws.{unmounted-contained, unmounted-outside, detached-contained, detached-outside}
 use Rattle.mt_setattr.proofs.InsideLaws.{attributed-contained, attributed-outside}
 use Rattle.mt_info.specs.Table.{table_of}
 use Rattle.mt_info.proofs.OutsideTables.{same_table}

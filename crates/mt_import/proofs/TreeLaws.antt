@@ -2,9 +2,10 @@
 use Rattle.std.proofs.Common.{get_or, ◌⊎◌, inl, inr, subst, eqb-true, replicate, ◌≡◌, ℕ, zero, suc, ◌+◌, ◌-◌, ◌≤◌, ◌<◌, ◌==◌, Bool, true, false, cond, List, [], ◌∷◌, ◌++◌, map, length, slice_get, Option, Some, None, Result, Ok, Err, IfOk, refl, sym, ap, ◌∙◌, arith}
 use Rattle.std.proofs.Math.ListN.{set}
 use Rattle.std.proofs.lemmas.Bool.Decides.{nat_tests}
+use Rattle.std.proofs.lemmas.List.{map_push}
 use Rattle.std.proofs.lemmas.Option.{slice_get_within}
 use Rattle.mt_skel.specs.Counted.{occ}
-use Rattle.mt_skel.proofs.CountLaws.{count-append}
+use Rattle.mt_skel.proofs.CountLaws.{count-append, length-of-map}
 use Rattle.mt_import.specs.declared.mount.Mount.{Mount}
 use Rattle.mt_import.specs.declared.reason.Reason.{Reason}
 use Rattle.mt_import.specs.Placing.{IsPlacedOn}
@@ -16,14 +17,6 @@ stands_more : (number : ℕ) (aboves : List ℕ) (above : ℕ) → stand_on_earl
     → stand_on_earlier number (aboves ++ above ∷ []) ≡ true
 stands_more number [] above all is = grind (arith, nat_tests)
 stands_more number (x ∷ xs) above all is = let ih = stands_more (suc number) xs above in grind (arith, nat_tests)
-
-map_more : {X Y : Type 0} (f : X → Y) (xs : List X) (x : X) → map f (xs ++ x ∷ []) ≡ map f xs ++ f x ∷ []
-map_more f [] x = refl
-map_more f (y ∷ xs) x = ap (λ l. f y ∷ l) (map_more f xs x)
-
-length_map : {X Y : Type 0} (f : X → Y) (xs : List X) → length (map f xs) ≡ length xs
-length_map f [] = refl
-length_map f (x ∷ xs) = ap suc (length_map f xs)
 
 -- what an element is once one was set
 got_set : {X : Type 0} (xs : List X) (i j : ℕ) (a : X) → i < length xs → slice_get (set xs i a) j ≡ cond (j == i) (Some a) (slice_get xs j)
@@ -113,11 +106,11 @@ pub mount_more : (rs : List ToldMount) (ms ms' : List Mount) (m : Mount) (left l
     → is_waiting left n ≡ true → n < length left → left' ≡ set left n None → IsMakingOrder rs ms left → IsMakingOrder rs ms' left'
 mount_more rs ms ms' m left left' n is next turn in_it new tree = record {
   order =
-      ap (λ x. stand_on_earlier 0 (map (λ (m : Mount). m.above) x)) is ∙ ap (stand_on_earlier 0) (map_more (λ (m : Mount). m.above) ms m)
-      ∙ stands_more 0 (map (λ (m : Mount). m.above) ms) m.above tree.order (let e = length_map (λ (m : Mount). m.above) ms in let w = next.within in omega (arith, w, e));
+      ap (λ x. stand_on_earlier 0 (map (λ (m : Mount). m.above) x)) is ∙ ap (stand_on_earlier 0) (map_push (λ (m : Mount). m.above) ms m)
+      ∙ stands_more 0 (map (λ (m : Mount). m.above) ms) m.above tree.order (let e = length-of-map (λ (m : Mount). m.above) ms in let w = next.within in omega (arith, w, e));
   stands = stands_more_at rs ms ms' m is next.stands tree.stands;
   once = λ i.
-      ap (λ x. occ i (map (λ (m : Mount). m.number) x)) is ∙ ap (occ i) (map_more (λ (m : Mount). m.number) ms m)
+      ap (λ x. occ i (map (λ (m : Mount). m.number) x)) is ∙ ap (occ i) (map_push (λ (m : Mount). m.number) ms m)
       ∙ ap (λ k. occ i (map (λ (m : Mount). m.number) ms ++ k ∷ [])) next.numbered
       ∙ rows_made (map (λ (m : Mount). m.number) ms) left n in_it (not_yet (slice_get left n) turn) tree.once i ∙ ap (λ x. cond (has_mount x i) 1 0) (sym new);
 }

@@ -15,9 +15,6 @@ use Rattle.mt_mounts.specs.Forest.{id_of}
 use Rattle.mt_mounts.specs.ForestView.{without_id}
 use Rattle.mt_mounts.specs.Slots.{by_id, slab_mounts}
 
-pub eqb-turned : (a b : ℕ) → eqb a b ≡ eqb b a
-eqb-turned a b = grind (arith, nat_tests)
-
 -- two options with the same values are equal
 pub same_options : {X : Type 0} (a b : Option X) → ((x : X) → a ≡ Some x → b ≡ Some x) → ((x : X) → b ≡ Some x → a ≡ Some x) → a ≡ b
 same_options None None f g = refl

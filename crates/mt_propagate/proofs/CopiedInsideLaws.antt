@@ -8,7 +8,7 @@ use Rattle.std.proofs.lemmas.List.Elements.{filter-append}
 use Rattle.mt_skel.specs.Keyed.{rises}
 use Rattle.mt_skel.proofs.KeyedLaws.{row_at-key}
 use Rattle.mt_skel.proofs.ElementLaws.{In, any_in, in_row, find_in}
-use Rattle.mt_skel.proofs.MiddleLaws.{and_first, and_second}
+use Rattle.mt_skel.proofs.MiddleLaws.{and_first, and_second, each_still}
 use Rattle.mt_mounts.specs.declared.mount.Mount.{Mount}
 use Rattle.mt_mounts.specs.declared.mount.Place.{Place}
 use Rattle.mt_mounts.specs.Forest.{id_of, mount_at, is_at, in_space}
@@ -32,7 +32,7 @@ use Rattle.mt_propagate.proofs.ListedLaws.{relocated-same, regrouped-mount, relo
 use Rattle.mt_mounts.proofs.SlotLaws.{none_found}
 use Rattle.mt_propagate.proofs.WalkLaws.{stands_at}
 use Rattle.mt_propagate.proofs.JoinLaws.{both_kinds, state_row}
-use Rattle.mt_propagate.proofs.RowLaws.{in_pairs, row-mapped, row-first, all-each, found-each, part-mapped, none-picked}
+use Rattle.mt_propagate.proofs.RowLaws.{in_pairs, row-mapped, row-first, found-each, part-mapped, none-picked}
 use Rattle.mt_propagate.proofs.ShownLaws.{mount-state, state-group}
 use Rattle.mt_propagate.proofs.KeyLaws.{group_known, master_known, old_low, key_at, copy_in, state-unshared, state-shared, at_home, nearest, above_from, master_by_cases, key_in, new_number, old_key}
 use Rattle.mt_propagate.proofs.CopyRowLaws.{state_at_mount, space_is, in_mounts, new_target, num_here, each_copy, moving, kept, made}
@@ -247,7 +247,7 @@ module _ (w : WorldView) (h : IsWellFormed w) (src : Source) (dest : Place) (s :
           old : filter (in_space k) (map (relocated w src dest) w.forest) ≡ filter (in_space k) w.forest
           old =
               part-mapped (in_space k) (relocated w src dest) w.forest
-              (all-each (λ m. mount_at w.forest m.id ≡ Some m) (λ m. (in_space k (relocated w src dest m) ≡ in_space k m) × (in_space k m ≡ true → relocated w src dest m ≡ m))
+              (each_still (λ m. mount_at w.forest m.id ≡ Some m) (λ m. (in_space k (relocated w src dest m) ≡ in_space k m) × (in_space k m ≡ true → relocated w src dest m ≡ m))
               (λ m e. (ap (λ v. v == k) (relocated-space w src dest m), λ is. stays m e (apart m is))) w.forest (found-each id_of w.forest h.forest.rising))
 
           new : filter (in_space k) (new_mounts w src dest) ≡ []

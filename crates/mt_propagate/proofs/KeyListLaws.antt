@@ -6,7 +6,7 @@ use Rattle.std.proofs.lemmas.Bool.Decides.{nat_tests}
 use Rattle.mt_propagate.specs.Groups.{key_eq}
 use Rattle.mt_propagate.specs.declared.keys.Key.{Key}
 use Rattle.mt_propagate.specs.Keys.{key_view, keys_of}
-use Rattle.mt_propagate.proofs.PositionLaws.{index-within}
+use Rattle.mt_skel.proofs.PlaceLaws.{place-within}
 
 -- whether two keys in memory are the same
 abbrev pub is_key : Key → Key → Bool
@@ -44,4 +44,4 @@ pub index-is : {X : Type 0} (p : X → Bool) (xs : List X) (i : ℕ) → positio
 index-is p xs i e = grind (arith, nat_tests)
 
 pub index-none : {X : Type 0} (p : X → Bool) (xs : List X) → position p xs ≡ None → length xs ≡ position_or_len p xs
-index-none p xs e = let le = index-within p xs in grind (arith, nat_tests)
+index-none p xs e = let le = place-within p xs in grind (arith, nat_tests)

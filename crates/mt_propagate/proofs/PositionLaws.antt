@@ -4,15 +4,12 @@ use Rattle.std.specs.Prelude.{nat_eq, nat_lt}
 use Rattle.std.specs.List.{list_any, position_or_len}
 use Rattle.std.proofs.lemmas.Bool.Decides.{nat_tests}
 use Rattle.std.proofs.lemmas.Nat.{mul-le}
+use Rattle.mt_skel.proofs.PlaceLaws.{place-within}
 use Rattle.mt_propagate.specs.Copies.{MountCopy, copy_eq}
 use Rattle.mt_propagate.specs.Planned.{copies_by}
 use Rattle.mt_propagate.proofs.NumberLaws.{copy_by}
 use Rattle.mt_propagate.proofs.ListedLaws.{length-pairs}
 
--- an index is at most how many there are
-pub index-within : {X : Type 0} (p : X → Bool) (xs : List X) → position_or_len p xs ≤ length xs
-index-within p [] = omega arith
-index-within p (x ∷ xs) = by (p x) (index-within p xs)
   where
     by : (b : Bool) → position_or_len p xs ≤ length xs → cond (not b) (1 + position_or_len p xs) 0 ≤ suc (length xs)
     by true le = omega arith
@@ -123,8 +120,8 @@ module _ (t s : ℕ) (ss ts : List ℕ) (cs : List MountCopy) (m n a b : ℕ) (m
   module _ (there : a ≢ m) (known : b ≢ n) where
     lower : (a < m) × (b < n)
     lower =
-        let at = index-within (nat_eq t) ts in
-        let bt = index-within (nat_eq s) ss in
+        let at = place-within (nat_eq t) ts in
+        let bt = place-within (nat_eq s) ss in
         let la : a ≤ m = omega (arith, at, before, targets) in
         let lb : b ≤ n = omega (arith, bt, index, sources) in
         (omega (arith, la, there), omega (arith, lb, known))

@@ -1,20 +1,16 @@
 -- Options that are right by themselves, and of which none is there twice, say a change.
 use Rattle.std.proofs.Common.{◌≡◌, ℕ, Bool, true, false, cond, ◌&&◌, ◌||◌, List, [], ◌∷◌, ◌++◌, length, drop, codes, Option, Some, None, is_some, refl, sym, subst}
+use Rattle.std.proofs.lemmas.Bool.{and_parts}
 use Rattle.std.proofs.lemmas.Bool.Decides.{Decides-eqb}
 use Rattle.std.proofs.lemmas.Slice.Eq.{starts_is}
 use Rattle.std.specs.List.{find, list_all, list_any}
 use Rattle.std.specs.Option.{option_map, option_map_or}
 use Rattle.std.specs.Str.{bytes_eq}
-use Rattle.mt_skel.proofs.MiddleLaws.{and_first, and_second}
 use Rattle.mt_peers.specs.declared.state.Kind.{Kind}
 use Rattle.mt_setattr.specs.declared.change.SetWords.{SetWords}
 use Rattle.mt_setattr.specs.declared.change.ClrWords.{ClrWords}
 use Rattle.mt_requests.specs.Options.{option_keys, has_key, is_option, is_repeated, are_options, nothing_set, nothing_cleared, set_words, clr_words, kind_of, said, set_of, clr_of, prop_of, is_recursive, change_with, change_of}
 use Rattle.mt_reasons.specs.Arguments.{is_right_option}
-
--- both tests pass
-pub both : (a b : Bool) → a && b ≡ true → (a ≡ true) × (b ≡ true)
-both a b e = (and_first a b e, and_second a b e)
 
 -- a word that begins with a key has no other one
 apart : (key word : List ℕ) (test : List ℕ → Bool) → has_key key word ≡ true → ((rest : List ℕ) → test (key ++ rest) ≡ false) → test word ≡ false
@@ -26,7 +22,7 @@ chosen_none : (r s c p x y z : Bool) → cond r true (cond s x (cond c y (p && z
 chosen_none true s c p x y z e = refl
 chosen_none false true c p x y z e = refl
 chosen_none false false true p x y z e = refl
-chosen_none false false false p x y z e = (both p z e).0
+chosen_none false false false p x y z e = (and_parts p z e).0
 
 option_is : (option : List ℕ) → is_right_option option ≡ true → is_option option ≡ true
 option_is option e =
@@ -57,7 +53,7 @@ clr_right option e has =
     (apart (codes "clr=") option (λ w. bytes_eq w (codes "rec")) has (λ rest. refl)) (apart (codes "clr=") option (has_key (codes "set=")) has (λ rest. refl)) has
 
 chosen_prop : (r s c p x y z : Bool) → cond r true (cond s x (cond c y (p && z))) ≡ true → r ≡ false → s ≡ false → c ≡ false → z ≡ true
-chosen_prop false false false p x y z e f g h = (both p z e).1
+chosen_prop false false false p x y z e f g h = (and_parts p z e).1
 chosen_prop true s c p x y z e f g h = cc
 chosen_prop false true c p x y z e f g h = cc
 chosen_prop false false true p x y z e f g h = cc
@@ -79,7 +75,7 @@ said_right : {A : Type 0} (key : List ℕ) (absent : Option A) (read : List ℕ 
     → (options : List (List ℕ)) → list_all is_right_option options ≡ true → is_some (said key absent read options) ≡ true
 said_right key absent read there each [] all = there
 said_right {A} key absent read there each (option ∷ options) all =
-    let first = both (is_right_option option) (list_all is_right_option options) all in
+    let first = and_parts (is_right_option option) (list_all is_right_option options) all in
     go (has_key key option) refl (each option first.0) (said_right key absent read there each options first.1)
   where
     go : (has : Bool) → has_key key option ≡ has → (has_key key option ≡ true → is_some (read (drop (length key) option)) ≡ true) → is_some (said key absent read options) ≡ true
@@ -90,7 +86,7 @@ said_right {A} key absent read there each (option ∷ options) all =
 all_options : (options : List (List ℕ)) → list_all is_right_option options ≡ true → list_all is_option options ≡ true
 all_options [] all = refl
 all_options (option ∷ options) all =
-    let first = both (is_right_option option) (list_all is_right_option options) all in
+    let first = and_parts (is_right_option option) (list_all is_right_option options) all in
     rw (option_is option first.0) (all_options options first.1)
 
 with_all : (set : Option SetWords) (clr : Option ClrWords) (prop : Option (Option Kind)) (recursive : Bool) → is_some set ≡ true → is_some clr ≡ true → is_some prop ≡ true

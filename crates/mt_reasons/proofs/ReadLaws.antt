@@ -19,17 +19,18 @@ use Rattle.mt_reasons.specs.declared.argument.Argument.{Argument}
 use Rattle.mt_reasons.specs.declared.argument.Argument.TheVariants.{Space, Scope, Count, Text, Less, Setting}
 use Rattle.mt_reasons.specs.Arguments.{arguments_of, is_right_option, is_right, are_counted, are_right}
 use Rattle.mt_reasons.specs.Reasons.{is_refused_as_bad, HasVerb}
-use Rattle.mt_reasons.proofs.OptionLaws.{both, change_right}
+use Rattle.std.proofs.lemmas.Bool.{and_parts}
+use Rattle.mt_reasons.proofs.OptionLaws.{change_right}
 
 -- words that are right as their arguments
 one_right : (p : Argument) (a : List ℕ) (arguments : List Argument) → are_right (p ∷ arguments) (a ∷ []) ≡ true → is_right p a ≡ true
-one_right p a arguments e = (both (is_right p a) (are_right arguments []) e).0
+one_right p a arguments e = (and_parts (is_right p a) (are_right arguments []) e).0
 
 two_right : (p q : Argument) (a b : List ℕ) → are_right (p ∷ q ∷ []) (a ∷ b ∷ []) ≡ true → (is_right p a ≡ true) × (is_right q b ≡ true)
-two_right p q a b e = let h = both (is_right p a) (are_right (q ∷ []) (b ∷ [])) e in (h.0, one_right q b [] h.1)
+two_right p q a b e = let h = and_parts (is_right p a) (are_right (q ∷ []) (b ∷ [])) e in (h.0, one_right q b [] h.1)
 
 three_right : (p q r : Argument) (a b c : List ℕ) → are_right (p ∷ q ∷ r ∷ []) (a ∷ b ∷ c ∷ []) ≡ true → (is_right p a ≡ true) × (is_right q b ≡ true) × (is_right r c ≡ true)
-three_right p q r a b c e = let h = both (is_right p a) (are_right (q ∷ r ∷ []) (b ∷ c ∷ [])) e in let k = two_right q r b c h.1 in (h.0, k.0, k.1)
+three_right p q r a b c e = let h = and_parts (is_right p a) (are_right (q ∷ r ∷ []) (b ∷ c ∷ [])) e in let k = two_right q r b c h.1 in (h.0, k.0, k.1)
 
 -- a text is not refused as a bad line
 too_long : (b : Bool) → is_bad_line (refuse_if b TooLong) ≡ false
@@ -194,10 +195,10 @@ setattr_twice : (words : List (List ℕ)) → are_counted (arguments_of verb.Set
 setattr_twice (space ∷ path ∷ options) counted right bad = go (list_any (is_repeated options) option_keys) refl
   where
     outer : (is_right Space space ≡ true) × (are_right (Text ∷ settings) (path ∷ options) ≡ true)
-    outer = both (is_right Space space) (are_right (Text ∷ settings) (path ∷ options)) right
+    outer = and_parts (is_right Space space) (are_right (Text ∷ settings) (path ∷ options)) right
 
     inner : (is_right Text path ≡ true) × (are_right settings options ≡ true)
-    inner = both (is_right Text path) (are_right settings options) outer.1
+    inner = and_parts (is_right Text path) (are_right settings options) outer.1
 
     fine : list_any (is_repeated options) option_keys ≡ false → is_refused_as_bad (setattr_of (space ∷ path ∷ options)) ≡ false
     fine once = value_fine (number_in_text space) _ outer.0 (λ n. value_fine (change_of options) _ (change_right options (settings_right options counted inner.1) once) (λ change. unless_fine _ _ (path_fine path inner.0)))

@@ -2,19 +2,12 @@
 use Rattle.std.proofs.Common.{◌≡◌, ℕ, zero, suc, Bool, true, false, cond, ◌&&◌, ◌||◌, ◌==◌, eqb-true, List, [], ◌∷◌, ◌++◌, length, length-append, refl, sym, ap, ◌∙◌, arith}
 use Rattle.std.specs.Prelude.{not}
 use Rattle.std.specs.List.{list_any, filter, flat_map, AllByRecursion}
+use Rattle.std.proofs.lemmas.Bool.{or_left, or_right}
 use Rattle.std.proofs.lemmas.Bool.Decides.{nat_tests}
 use Rattle.mt_skel.proofs.MiddleLaws.{and-true, and_first, and_second}
 use Rattle.mt_info.specs.declared.row.Row.{Row}
 use Rattle.mt_render.specs.Forest.{BranchView, without_lines, is_top, is_child, child_rows, branches, drawn_from, tree}
 use Rattle.mt_render.specs.Laws.{is_parent_branch}
-
-or-left : (a b : Bool) → a ≡ true → (a || b) ≡ true
-or-left true b e = refl
-or-left false b e = absurd (cc)
-
-or-right : (a b : Bool) → b ≡ true → (a || b) ≡ true
-or-right true b e = refl
-or-right false b e = e
 
 module _ (rows : List Row) where
   -- rows are top rows or stand below their parents', where these were passed before
@@ -30,7 +23,7 @@ module _ (rows : List Row) where
       and-true (is_top rows x.row || list_any (λ p. is_parent_branch p x) seen) (placed (x ∷ seen) (xs ++ ys))
       (and_first (is_top rows x.row || list_any (λ p. is_parent_branch p x) seen) (placed (x ∷ seen) xs) e)
       (append-placed xs ys (x ∷ seen) (and_second (is_top rows x.row || list_any (λ p. is_parent_branch p x) seen) (placed (x ∷ seen) xs) e)
-      (λ more has. after more (λ b h. has b (or-right (is_parent_branch x b) (list_any (λ p. is_parent_branch p b) seen) h))))
+      (λ more has. after more (λ b h. has b (or_right (is_parent_branch x b) (list_any (λ p. is_parent_branch p b) seen) h))))
 
   below-placed : (n : ℕ) → ((b : BranchView) (seen : List BranchView) → (is_top rows b.row || list_any (λ p. is_parent_branch p b) seen) ≡ true → placed seen (drawn_from rows n b) ≡ true)
       → (b : BranchView) (cs : List Row) → AllByRecursion (λ (c : Row). c.parent ≡ b.row.id) cs → (seen : List BranchView)
@@ -42,7 +35,7 @@ module _ (rows : List Row) where
       let lower : (length (b.lasts ++ (length cs == 0) ∷ []) == suc (length b.lasts)) ≡ true = longer b.lasts (length cs == 0) in
       let above : is_parent_branch b k ≡ true = and-true (b.row.id == c.parent) (length (b.lasts ++ (length cs == 0) ∷ []) == suc (length b.lasts)) own lower in
       append-placed (drawn_from rows n k) (flat_map (λ c. drawn_from rows n c) (branches b.lasts cs)) seen
-      (ih k seen (or-right (is_top rows c) (list_any (λ p. is_parent_branch p k) seen) (has k above)))
+      (ih k seen (or_right (is_top rows c) (list_any (λ p. is_parent_branch p k) seen) (has k above)))
       (λ more wider. below-placed n ih b cs all.1 more (λ d h. wider d (has d h)))
     where
       same : (i j : ℕ) → j ≡ i → (i == j) ≡ true
@@ -67,7 +60,7 @@ module _ (rows : List Row) where
   grown-placed zero b seen h = and-true (is_top rows b.row || list_any (λ p. is_parent_branch p b) seen) true h refl
   grown-placed (suc n) b seen h =
       and-true (is_top rows b.row || list_any (λ p. is_parent_branch p b) seen) (placed (b ∷ seen) (flat_map (λ c. drawn_from rows n c) (branches b.lasts (child_rows rows b.row)))) h
-      (below-placed n (grown-placed n) b (child_rows rows b.row) (children-of b.row.id rows) (b ∷ seen) (λ c a. or-left (is_parent_branch b c) (list_any (λ p. is_parent_branch p c) seen) a))
+      (below-placed n (grown-placed n) b (child_rows rows b.row) (children-of b.row.id rows) (b ∷ seen) (λ c a. or_left (is_parent_branch b c) (list_any (λ p. is_parent_branch p c) seen) a))
 
   tops-placed : (n : ℕ) (rs : List Row) (seen : List BranchView) → placed seen (flat_map (λ t. drawn_from rows n (without_lines t)) (filter (is_top rows) rs)) ≡ true
   tops-placed n [] seen = refl
@@ -76,13 +69,13 @@ module _ (rows : List Row) where
       go : (u : Bool) → is_top rows r ≡ u → ((more : List BranchView) → placed more (flat_map (λ t. drawn_from rows n (without_lines t)) (filter (is_top rows) rs)) ≡ true) → placed seen (flat_map (λ t. drawn_from rows n (without_lines t)) (cond u (r ∷ filter (is_top rows) rs) (filter (is_top rows) rs))) ≡ true
       go true e ih =
           append-placed (drawn_from rows n (without_lines r)) (flat_map (λ t. drawn_from rows n (without_lines t)) (filter (is_top rows) rs)) seen
-          (grown-placed n (without_lines r) seen (or-left (is_top rows r) (list_any (λ p. is_parent_branch p (without_lines r)) seen) e)) (λ more has. ih more)
+          (grown-placed n (without_lines r) seen (or_left (is_top rows r) (list_any (λ p. is_parent_branch p (without_lines r)) seen) e)) (λ more has. ih more)
       go false e ih = ih seen
 
   above-in : (front : List BranchView) (b : BranchView) (back seen : List BranchView) → placed seen (front ++ b ∷ back) ≡ true → is_top rows b.row ≡ false
       → (list_any (λ p. is_parent_branch p b) seen || list_any (λ p. is_parent_branch p b) front) ≡ true
   above-in [] b back seen e low =
-      or-left (list_any (λ p. is_parent_branch p b) seen) false
+      or_left (list_any (λ p. is_parent_branch p b) seen) false
       (ap (λ u. u || list_any (λ p. is_parent_branch p b) seen) (sym low) ∙ and_first (is_top rows b.row || list_any (λ p. is_parent_branch p b) seen) (placed (b ∷ seen) back) e)
   above-in (x ∷ xs) b back seen e low =
       moved (is_parent_branch x b) (list_any (λ p. is_parent_branch p b) seen) (list_any (λ p. is_parent_branch p b) xs)

@@ -5,7 +5,7 @@ use Rattle.std.specs.List.{filter}
 use Rattle.std.specs.Option.{option_map, option_map_or, option_and_then}
 use Rattle.std.proofs.lemmas.Bool.{true≢false}
 use Rattle.mt_skel.proofs.KeyedLaws.{row_at-map}
-use Rattle.mt_skel.proofs.MiddleLaws.{and_second}
+use Rattle.mt_skel.proofs.MiddleLaws.{and_second, each_still}
 use Rattle.mt_mounts.specs.declared.mount.Mount.{Mount}
 use Rattle.mt_mounts.specs.declared.mount.Place.{Place}
 use Rattle.mt_mounts.specs.Forest.{id_of, mount_at, in_space, parent, is_below}
@@ -19,7 +19,7 @@ use Rattle.mt_propagate.specs.WellFormed.{IsWellFormed}
 use Rattle.mt_propagate.specs.Contained.{IsContained, IsSameOutside}
 use Rattle.mt_propagate.proofs.ContainedLaws.{closed, contained, made-contained, made-state, below-space, ended-inside}
 use Rattle.mt_propagate.proofs.CopyRowLaws.{space_is}
-use Rattle.mt_propagate.proofs.RowLaws.{all-each, found-each, part-mapped}
+use Rattle.mt_propagate.proofs.RowLaws.{found-each, part-mapped}
 use Rattle.mt_setattr.specs.declared.change.Change.{Change}
 use Rattle.mt_setattr.specs.Change.{changed_attrs, changed_mount, is_chosen, with_change, attributed}
 use Rattle.mt_setattr.proofs.AcceptedLaws.{path_end, change_accepted}
@@ -70,7 +70,7 @@ module _ (w : WorldView) (h : IsWellFormed w) (c : Change) (i : ℕ) (n : ℕ) (
     same-mounts : (k : ℕ) → k ≢ n → filter (in_space k) (map change w.forest) ≡ filter (in_space k) w.forest
     same-mounts k off =
         part-mapped (in_space k) change w.forest
-        (all-each (λ m. mount_at w.forest m.id ≡ Some m) (λ m. (in_space k (change m) ≡ in_space k m) × (in_space k m ≡ true → change m ≡ m))
+        (each_still (λ m. mount_at w.forest m.id ≡ Some m) (λ m. (in_space k (change m) ≡ in_space k m) × (in_space k m ≡ true → change m ≡ m))
         (λ m e. (refl, λ is. unchanged m e (λ same. off (sym (eqb-true m.space k is) ∙ same)))) w.forest (found-each id_of w.forest h.forest.rising))
 
     same-state : (o : Option Kind) (j : ℕ) (m : Mount) → mount_at w.forest j ≡ Some m → m.space ≢ n → unwrap_or (state_at (remade o).peers j) private ≡ state_of w j

@@ -18,7 +18,8 @@ use Rattle.mt_propagate.specs.World.{WorldView, space_of}
 use Rattle.mt_propagate.specs.WellFormed.{IsWellFormed, fs_at}
 use Rattle.mt_propagate.specs.Contained.{IsContained, IsSameOutside}
 use Rattle.mt_propagate.proofs.CopyRowLaws.{root_is, space_is}
-use Rattle.mt_propagate.proofs.RowLaws.{keys-map, keys-filter, all-each, found-each, part-kept}
+use Rattle.mt_skel.proofs.MiddleLaws.{each_still}
+use Rattle.mt_propagate.proofs.RowLaws.{keys-map, keys-filter, found-each, part-kept}
 use Rattle.mt_propagate.proofs.ShownLaws.{shown-alike, groups-show, masters-show, left-mounts, state-mount}
 use Rattle.mt_propagate.proofs.ContainedLaws.{left-contained, left-state}
 use Rattle.mt_unmount.specs.Sliding.{CanGo, once_gone, slid}
@@ -86,7 +87,7 @@ module _ (w : WorldView) (h : IsWellFormed w) (goes : ℕ → Bool) (n : ℕ) (c
     same-mounts : (k : ℕ) → k ≢ n → filter (in_space k) (left_mounts w goes) ≡ filter (in_space k) w.forest
     same-mounts k off =
         part-kept (in_space k) (λ m. not (leaves w goes m)) (moved w goes) w.forest
-        (all-each (λ m. mount_at w.forest m.id ≡ Some m) (λ m. (in_space k (moved w goes m) ≡ in_space k m) × (in_space k m ≡ true → (not (leaves w goes m) ≡ true) × (moved w goes m ≡ m)))
+        (each_still (λ m. mount_at w.forest m.id ≡ Some m) (λ m. (in_space k (moved w goes m) ≡ in_space k m) × (in_space k m ≡ true → (not (leaves w goes m) ≡ true) × (moved w goes m ≡ m)))
         (λ m e. (
           refl,
           λ is.

@@ -13,4 +13,3 @@ pub mod InsideLaws
 mod HoldingLaws
 pub mod CandidateLaws
 pub mod DetachedLaws
-pub mod DetachInsideLaws
