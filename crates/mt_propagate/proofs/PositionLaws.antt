@@ -10,11 +10,6 @@ use Rattle.mt_propagate.specs.Planned.{copies_by}
 use Rattle.mt_propagate.proofs.NumberLaws.{copy_by}
 use Rattle.mt_propagate.proofs.ListedLaws.{length-pairs}
 
-  where
-    by : (b : Bool) → position_or_len p xs ≤ length xs → cond (not b) (1 + position_or_len p xs) 0 ≤ suc (length xs)
-    by true le = omega arith
-    by false le = omega (arith, le)
-
 -- there is one exactly where the index is below that
 pub index-found : {X : Type 0} (p : X → Bool) (xs : List X) → nat_lt (position_or_len p xs) (length xs) ≡ list_any p xs
 index-found p [] = refl
