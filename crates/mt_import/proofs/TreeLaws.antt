@@ -8,7 +8,7 @@ use Rattle.mt_skel.specs.Counted.{occ}
 use Rattle.mt_skel.proofs.CountLaws.{count-append, length-of-map}
 use Rattle.mt_import.specs.declared.mount.Mount.{Mount}
 use Rattle.mt_import.specs.declared.reason.Reason.{Reason}
-use Rattle.mt_import.specs.Placing.{IsPlacedOn}
+use Rattle.mt_import.specs.Placing.{IsRootMount, IsPlacedOn}
 use Rattle.mt_import.specs.Reading.{ToldMount}
 use Rattle.mt_import.specs.Tree.{is_none, has_mount, is_ring, is_waiting, stand_on_earlier, StandsThere, IsNextMount, IsMakingOrder}
 
@@ -88,8 +88,8 @@ got_still (y ∷ ms) ns (suc k) x e = got_still ms ns k x e
 stands_still : (rs : List ToldMount) (ms ns : List Mount) (k : ℕ) (x : Mount) → StandsThere rs ms k x → StandsThere rs (ms ++ ns) k x
 stands_still rs ms ns k x s = record { row = s.row; on = go s.on }
   where
-    go : ((x.above ≡ k) ⊎ ((p : Mount) × (slice_get ms x.above ≡ Some p) × IsPlacedOn p x.row.now x))
-        → (x.above ≡ k) ⊎ ((p : Mount) × (slice_get (ms ++ ns) x.above ≡ Some p) × IsPlacedOn p x.row.now x)
+    go : (((x.above ≡ k) × IsRootMount x.row.now x) ⊎ ((p : Mount) × (slice_get ms x.above ≡ Some p) × IsPlacedOn p x.row.now k x))
+        → ((x.above ≡ k) × IsRootMount x.row.now x) ⊎ ((p : Mount) × (slice_get (ms ++ ns) x.above ≡ Some p) × IsPlacedOn p x.row.now k x)
     go (inl e) = inl e
     go (inr (p, e, f)) = inr (p, got_still ms ns x.above p e, f)
 
@@ -139,25 +139,25 @@ got_of (y ∷ xs) (suc i) x inside e = got_of xs i x (omega (arith, inside)) e
 
 -- the first mount is the next one of a tree of none
 pub next_root : (rs : List ToldMount) (ms : List Mount) (row : ToldMount) (n : ℕ) (placed : Result Mount Reason) → length ms ≡ 0 → slice_get rs n ≡ Some row
-    → IfOk placed (λ m. (m.row.now ≡ row) × (m.number ≡ n) × (m.above ≡ 0)) → IfOk placed (λ m. IsNextMount rs ms n m)
-next_root rs ms row n (Err why) none there of = tt
-next_root rs ms row n (Ok m) none there (e, f, h) = record {
+    → IfOk placed (λ m. IsRootMount row m) → IfOk placed (λ m. (m.row.now ≡ row) × (m.number ≡ n) × (m.above ≡ 0)) → IfOk placed (λ m. IsNextMount rs ms n m)
+next_root rs ms row n (Err why) none there place of = tt
+next_root rs ms row n (Ok m) none there place (e, f, h) = record {
   numbered = f;
   within = omega (arith, none, h);
-  stands = record { row = ap (slice_get rs) f ∙ there ∙ ap (λ r. Some r) (sym e); on = inl (h ∙ sym none) };
+  stands = record { row = ap (slice_get rs) f ∙ there ∙ ap (λ r. Some r) (sym e); on = inl (h ∙ sym none, subst (λ r. IsRootMount r m) (sym e) place) };
 }
 
 -- and one that stands on another mount
-pub next_on : (rs : List ToldMount) (ms : List Mount) (row : ToldMount) (n above : ℕ) (parent : Mount) (placed : Result Mount Reason) → slice_get ms above ≡ Some parent
-    → slice_get rs n ≡ Some row → IfOk placed (λ m. IsPlacedOn parent row m) → IfOk placed (λ m. (m.row.now ≡ row) × (m.number ≡ n) × (m.above ≡ above))
+pub next_on : (rs : List ToldMount) (ms : List Mount) (row : ToldMount) (n here above : ℕ) (parent : Mount) (placed : Result Mount Reason) → here ≡ length ms → slice_get ms above ≡ Some parent
+    → slice_get rs n ≡ Some row → IfOk placed (λ m. IsPlacedOn parent row here m) → IfOk placed (λ m. (m.row.now ≡ row) × (m.number ≡ n) × (m.above ≡ above))
     → IfOk placed (λ m. IsNextMount rs ms n m)
-next_on rs ms row n above parent (Err why) on there place of = tt
-next_on rs ms row n above parent (Ok m) on there place (e, f, h) = record {
+next_on rs ms row n here above parent (Err why) next on there place of = tt
+next_on rs ms row n here above parent (Ok m) next on there place (e, f, h) = record {
   numbered = f;
   within = (let inside = slice_get_within ms above parent on in omega (arith, inside, h));
   stands = record {
     row = ap (slice_get rs) f ∙ there ∙ ap (λ r. Some r) (sym e);
-    on = inr (parent, ap (slice_get ms) h ∙ on, subst (λ r. IsPlacedOn parent r m) (sym e) place);
+    on = inr (parent, ap (slice_get ms) h ∙ on, subst (λ r. IsPlacedOn parent r (length ms) m) (sym e) (subst (λ k. IsPlacedOn parent row k m) next place));
   };
 }
 

@@ -5,7 +5,7 @@ use Rattle.mt_skel.specs.Counted.{occ}
 use Rattle.mt_import.specs.declared.mount.Mount.{Mount}
 use Rattle.mt_import.specs.declared.reason.Reason.{Reason}
 use Rattle.mt_import.specs.declared.reason.Reason.TheVariants.{Ring}
-use Rattle.mt_import.specs.Placing.{IsPlacedOn}
+use Rattle.mt_import.specs.Placing.{IsRootMount, IsPlacedOn}
 use Rattle.mt_import.specs.Reading.{ToldMount}
 
 -- whether the row of a number has a mount: no reason is known why it is left out
@@ -39,7 +39,7 @@ pub record TreeView : Type 0 where
 -- A mount of a number is that of a row, and is the root mount, which stands on itself, or has its place on another one.
 pub record StandsThere (rows : List ToldMount) (mounts : List Mount) (number : ℕ) (mount : Mount) : Type 0 where
   pub row : slice_get rows mount.number ≡ Some mount.row.now
-  pub on : (mount.above ≡ number) ⊎ ((parent : Mount) × (slice_get mounts mount.above ≡ Some parent) × IsPlacedOn parent mount.row.now mount)
+  pub on : ((mount.above ≡ number) × IsRootMount mount.row.now mount) ⊎ ((parent : Mount) × (slice_get mounts mount.above ≡ Some parent) × IsPlacedOn parent mount.row.now number mount)
 
 -- One that is the next of some mounts is that of the row of a number.
 pub record IsNextMount (rows : List ToldMount) (mounts : List Mount) (number : ℕ) (mount : Mount) : Type 0 where

@@ -2,7 +2,7 @@
 
 ghost use Rattle.std.specs.Prelude.{◌≡◌, IfOk};
 ghost use Rattle.mt_import.specs.Paths.{is_too_deep};
-ghost use Rattle.mt_import.specs.Placing.{why_pathless, IsPlacedOn};
+ghost use Rattle.mt_import.specs.Placing.{why_pathless, stack_on, base_on, IsRootMount, IsPlacedOn};
 
 use crate::host_mount::HostMount;
 use crate::path::{
@@ -71,13 +71,16 @@ fn why_pathless(root: &[u8], point: &[u8]) -> Why
     None
 }
 
-/// The root mount that a row tells.
+/// The root mount that a row tells, which stands at `/`.
 pub(crate) fn root_mount<'a>(alloc: Global, row: &'a HostMount, number: usize) -> Placed<'a>
-    ensures { IfOk result (λ mount. (mount.row.now ≡ row.now) × (mount.number ≡ number) × (mount.above ≡ 0)) }
+    ensures place { IfOk result (λ mount. IsRootMount row.now mount) }
+    ensures on { IfOk result (λ mount. (mount.row.now ≡ row.now) × (mount.number ≡ number) × (mount.above ≡ 0)) }
 {
-    let (root, point) = (row.root.as_slice(), row.point.as_slice());
-    let (root, point) = (below_root(root), below_root(point));
-    if let Some(why) = why_pathless(root, point) {
+    if row.point.as_slice() != b"/".as_slice() {
+        return Err(Reason::NoRootMount);
+    }
+    let root = below_root(row.root.as_slice());
+    if let Some(why) = why_pathless(root, b"") {
         return Err(why);
     }
     Ok(Mount {
@@ -95,14 +98,29 @@ pub(crate) fn root_mount<'a>(alloc: Global, row: &'a HostMount, number: usize) -
 
 /// Of a mount at these names on another one, as the next of a number in the order: the lowest of its stack, the names from what
 /// that stands on to its place, and its level.
-fn stack_on<'a>(parent: &Mount<'a>, names: &'a [u8], here: usize) -> (usize, &'a [u8], usize) {
+fn stack_on<'a>(parent: &Mount<'a>, names: &'a [u8], here: usize) -> (usize, &'a [u8], usize)
+    ensures { (result.0, result.1.now, result.2) ≡ stack_on parent.now names.now here }
+{
     if names.is_empty() {
         return (parent.lowest, parent.names, parent.level);
     }
     (here, names, parent.level.saturating_add(1))
 }
 
-/// The mount that a row tells on another one, which is the one of a number in the order, as the next one of these numbers in
+/// How many a mount of a level stands on at the root of the namespace, if they may be so many.
+fn base_on(parent: &Mount<'_>, level: usize) -> Option<usize>
+    ensures { result ≡ base_on parent.now level }
+{
+    if level > 0 {
+        Some(parent.base)
+    } else if parent.base < MOST_AT_ROOT {
+        Some(parent.base + 1)
+    } else {
+        None
+    }
+}
+
+/// The mount that a row tells on its parent, which is the one of a number in the order, as the next one of these numbers in
 /// the order and among the rows.
 pub(crate) fn mount_on<'a>(
     alloc: Global,
@@ -112,7 +130,7 @@ pub(crate) fn mount_on<'a>(
     parent: &Mount<'a>,
     above: usize,
 ) -> Allocated<Placed<'a>>
-    ensures place { IfOk result (λ placed. IfOk placed (λ mount. IsPlacedOn parent.now row.now mount)) }
+    ensures place { IfOk result (λ placed. IfOk placed (λ mount. IsPlacedOn parent.now row.now here mount)) }
     ensures on { IfOk result (λ placed. IfOk placed (λ mount. (mount.row.now ≡ row.now) × (mount.number ≡ number) × (mount.above ≡ above))) }
 {
     let (root, point) = (row.root.as_slice(), row.point.as_slice());
@@ -121,6 +139,9 @@ pub(crate) fn mount_on<'a>(
         return Ok(Err(why));
     }
     let lower = parent.row;
+    if lower.id != row.parent {
+        return Ok(Err(Reason::NoParent));
+    }
     let Some(names) = path_behind(point, below_root(lower.point.as_slice())) else {
         return Ok(Err(Reason::Elsewhere));
     };
@@ -129,9 +150,9 @@ pub(crate) fn mount_on<'a>(
         return Ok(Err(Reason::TooDeep));
     }
     let (lowest, names, level) = stack_on(parent, names, here);
-    if level == 0 && parent.base >= MOST_AT_ROOT {
+    let Some(base) = base_on(parent, level) else {
         return Ok(Err(Reason::AtRoot));
-    }
+    };
     Ok(Ok(Mount {
         row,
         number,
@@ -141,6 +162,6 @@ pub(crate) fn mount_on<'a>(
         lowest,
         names,
         level,
-        base: parent.base.saturating_add(usize::from(level == 0)),
+        base,
     }))
 }
