@@ -1,5 +1,5 @@
 -- What the calls of a desk do to what it keeps.
-use Rattle.std.proofs.Common.{◌≡◌, ℕ, ◌+◌, ◌<◌, ◌≤◌, Bool, true, false, not, eqb, List, [], ◌∷◌, ◌++◌, length, map, set, Some, None, slice_get, Ok, Err, sym, ap, ◌∙◌, subst, arith}
+use Rattle.std.proofs.Common.{◌≡◌, ℕ, ◌+◌, ◌<◌, ◌≤◌, Bool, true, false, not, eqb, List, [], ◌∷◌, ◌++◌, length, map, set, Option, Some, None, slice_get, Ok, Err, refl, sym, ap, ◌∙◌, subst, arith}
 use Rattle.std.specs.Prelude.{nat_le}
 use Rattle.std.specs.List.{filter, AllByRecursion}
 use Rattle.std.specs.Option.{option_map}
@@ -9,7 +9,6 @@ use Rattle.std.proofs.lemmas.List.{length-map}
 use Rattle.std.proofs.lemmas.Option.{slice_get-map}
 use Rattle.mt_skel.specs.declared.fault.Fault.{Fault}
 use Rattle.mt_skel.specs.Keyed.{row_at, put, without, rises}
-use Rattle.mt_mounts.proofs.SlotLaws.{mapped}
 use Rattle.mt_events.specs.Posts.{PostView}
 use Rattle.mt_events.specs.declared.opening.Scope.{Scope}
 use Rattle.mt_events.specs.declared.opening.Opening.{Opening}
@@ -54,11 +53,14 @@ new_kept {lines} {c} {journal} {slots} {order} {room} h are none =
 -- ---- A watcher's place
 
 -- what is read of an element tells that one is there
+there_of : {X Y : Type 0} (f : X → Y) (o : Option X) (y : Y) → option_map f o ≡ Some y → (x : X) × (o ≡ Some x) × (f x ≡ y)
+there_of f None y e = absurd cc
+there_of f (Some x) y e = (x, refl, (let same : f x ≡ y = cc in same))
 
 -- a watcher has a place here, of its own line
 pub place_is : {lines : List LineId} {c : ℕ} {slots : List Slot} {order : List ℕ} {p key : ℕ} {half : ReceiverView} → ArePlaces lines c slots order → IsWatcher lines key p half → IsPlace slots p half.line
 place_is {c = c} {slots} {p = p} {half = half} h w =
-    let t = mapped line_of (slice_get slots p) half.line (sym (slice_get-map line_of slots p) ∙ ap (λ (l : List LineId). slice_get l p) h.lines_are ∙ w.line) in
+    let t = there_of line_of (slice_get slots p) half.line (sym (slice_get-map line_of slots p) ∙ ap (λ (l : List LineId). slice_get l p) h.lines_are ∙ w.line) in
     record { slot = t.0; there = t.1; here = (each_get (IsLine c) slots p t.0 h.each t.1).here; line_is = t.2 }
 
 -- ---- A meeting and a close
