@@ -1,8 +1,8 @@
 //! A mount of a table: where it stands among the others, or why it cannot be made there.
 
-ghost use Rattle.std.specs.Prelude.{◌≡◌, IfOk};
+ghost use Rattle.std.specs.Prelude.{◌≡◌, Some, IfOk, IfErr};
 ghost use Rattle.mt_import.specs.Paths.{is_too_deep};
-ghost use Rattle.mt_import.specs.Placing.{why_pathless, stack_on, base_on, IsRootMount, IsPlacedOn};
+ghost use Rattle.mt_import.specs.Placing.{why_pathless, stack_on, level_on, base_on, why_no_root, why_none_on, IsRootMount, IsPlacedOn};
 
 use crate::host_mount::HostMount;
 use crate::path::{
@@ -74,6 +74,7 @@ fn why_pathless(root: &[u8], point: &[u8]) -> Why
 /// The root mount that a row tells, which stands at `/`.
 pub(crate) fn root_mount<'a>(alloc: Global, row: &'a HostMount, number: usize) -> Placed<'a>
     ensures place { IfOk result (λ mount. IsRootMount row.now mount) }
+    ensures why { IfErr result (λ why. why_no_root row.now ≡ Some why) }
     ensures on { IfOk result (λ mount. (mount.row.now ≡ row.now) × (mount.number ≡ number) × (mount.above ≡ 0)) }
 {
     if row.point.as_slice() != b"/".as_slice() {
@@ -99,7 +100,8 @@ pub(crate) fn root_mount<'a>(alloc: Global, row: &'a HostMount, number: usize) -
 /// Of a mount at these names on another one, as the next of a number in the order: the lowest of its stack, the names from what
 /// that stands on to its place, and its level.
 fn stack_on<'a>(parent: &Mount<'a>, names: &'a [u8], here: usize) -> (usize, &'a [u8], usize)
-    ensures { (result.0, result.1.now, result.2) ≡ stack_on parent.now names.now here }
+    ensures stack { (result.0, result.1.now) ≡ stack_on parent.now names.now here }
+    ensures level { result.2 ≡ level_on parent.now names.now }
 {
     if names.is_empty() {
         return (parent.lowest, parent.names, parent.level);
@@ -131,6 +133,7 @@ pub(crate) fn mount_on<'a>(
     above: usize,
 ) -> Allocated<Placed<'a>>
     ensures place { IfOk result (λ placed. IfOk placed (λ mount. IsPlacedOn parent.now row.now here mount)) }
+    ensures why { IfOk result (λ placed. IfErr placed (λ why. why_none_on parent.now row.now ≡ Some why)) }
     ensures on { IfOk result (λ placed. IfOk placed (λ mount. (mount.row.now ≡ row.now) × (mount.number ≡ number) × (mount.above ≡ above))) }
 {
     let (root, point) = (row.root.as_slice(), row.point.as_slice());
