@@ -9,7 +9,7 @@ use Rattle.mt_requests.specs.Requests.{request_of, may_want_memory, ReadsAs}
 use Rattle.mt_lines.specs.declared.stream.StreamFault.{StreamFault}
 use Rattle.mt_lines.specs.declared.stream.Cut.{Cut}
 use Rattle.mt_lines.specs.declared.line.ReadFault.{ReadFault}
-use Rattle.mt_lines.specs.declared.line.ReadFault.TheVariants.{Endless as NeverEnds, NoMemory as NoRoom}
+use Rattle.mt_lines.specs.declared.line.ReadFault.TheVariants.{Device, Interrupted, Endless as NeverEnds, NoMemory as NoRoom}
 use Rattle.std.specs.Io.KnownBytes.{Appends, Keeps}
 use Rattle.std.proofs.KnownBytes.{Appends-nil, Appends-trans}
 use Rattle.mt_lines.specs.Lines.{Item, Unended}
@@ -218,6 +218,10 @@ Going-more turns more before mid later old now new sent so_far written a b = rec
 cause_more : (by : End) (turns more last : List Turn) (text whole : List ℕ) (rest later : Option (List ℕ)) → length more + length last ≤ 1 → text ≡ whole → IsCause by more last text rest later → IsCause by (turns ++ more) last whole rest later
 cause_more (CutOff cut) turns more last text whole rest later few e c = (c.0, c.1, subst (λ x. cut.sent < length x) e c.2, c.3)
 cause_more Spent turns more last text whole rest later few e c = absurd (let all = c.1 in omega (arith, few, all))
+cause_more (Read NeverEnds) turns more last text whole rest later few e c = c
+cause_more (Read Device) turns more last text whole rest later few e c = c
+cause_more (Read Interrupted) turns more last text whole rest later few e c = c
+cause_more (Read NoRoom) turns more last text whole rest later few e c = c
 cause_more by turns more last text whole rest later few e c = c
 
 -- lines served, and then the last

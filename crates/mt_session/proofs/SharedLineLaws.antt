@@ -1,5 +1,5 @@
 -- What a session in a thread of its own has answered: the pieces of an answer, and line by line.
-use Rattle.std.proofs.Common.{subst, ◌≡◌, ◌≢◌, ℕ, ◌<◌, ◌≤◌, List, [], ◌∷◌, ◌++◌, map, take, refl, ap, sym, ◌∙◌, inl, inr, true, Result, Ok, Err, Option, Some, None, append_assoc, arith, length, ◌+◌, unwrap_or}
+use Rattle.std.proofs.Common.{subst, ◌≡◌, ◌≢◌, ℕ, ◌<◌, ◌≤◌, List, [], ◌∷◌, ◌++◌, map, take, refl, ap, sym, ◌∙◌, inl, inr, true, Result, Ok, Err, Option, Some, None, arith, length, ◌+◌, unwrap_or}
 use Rattle.std.proofs.lemmas.List.{append-nil, map-append, length-append}
 use Rattle.std.proofs.lemmas.Grind.{flat_map-append}
 use Rattle.std.specs.List.{flat_map}

@@ -1,10 +1,10 @@
-use Rattle.std.proofs.Common.{◌≡◌, ◌∙◌, [], ◌∷◌, ◌++◌, refl, arith, length-append}
+use Rattle.std.proofs.Common.{[], ◌∷◌, ◌++◌, refl, arith, length-append}
 use Rattle.mt_session.specs.Requests.{session_state}
 use Rattle.mt_session.proofs.SessionLaws.{Going-none, Going-more, Going-spent, Served-more, line_remembers, read_more, cut_more}
 use Rattle.mt_session.proofs.serving.serve_session.Goals as goal
 
-pub lines-begins : goal.lines-begins
-lines-begins g c = record {
+pub lines-init : goal.lines-init
+lines-init g c = record {
   read = λ t. omega arith;
   read_run = λ t none. none;
   failed = λ t. omega arith;

@@ -1,10 +1,10 @@
-use Rattle.std.proofs.Common.{◌≡◌, [], ◌∷◌, ◌++◌, refl, arith, length-append}
+use Rattle.std.proofs.Common.{[], ◌∷◌, ◌++◌, refl, arith, length-append}
 use Rattle.mt_session.proofs.SessionLaws.{read_more, cut_more}
 use Rattle.mt_session.proofs.SharedLineLaws.{going_none, going_more, served_ending, served_spent}
 use Rattle.mt_session.proofs.shared_serving.serve_all.Goals as goal
 
-pub lines-begins : goal.lines-begins
-lines-begins g c = record {
+pub lines-init : goal.lines-init
+lines-init g c = record {
   read = λ t. omega arith;
   read_run = λ t none. none;
   failed = λ t. omega arith;

@@ -1,4 +1,4 @@
-use Rattle.std.proofs.Common.{◌≡◌, refl}
+use Rattle.std.proofs.Common.{refl}
 use Rattle.std.proofs.KnownBytes.{Keeps-refl}
 use Rattle.mt_lines.specs.Reading.{limit_of}
 use Rattle.mt_session.proofs.PassLaws.{next_at}
