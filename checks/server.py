@@ -42,6 +42,7 @@ from servers import cases, connections, lines, losses, paths, stops
 from servers.depth import check_deep
 from servers.memory import check_wanting
 from servers.soak import check_soak
+from servers.turns import check_turns
 
 # The parts of a server alone, each a check of MOUNTD.
 PARTS = {
@@ -62,6 +63,7 @@ PARTS = {
     "gone": losses.check_gone,
     "lag": losses.check_lag,
     "deep": check_deep,
+    "turns": check_turns,
     "many": connections.check_many,
     "signals": losses.check_signals,
     "wanting": check_wanting,

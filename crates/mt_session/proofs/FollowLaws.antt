@@ -172,7 +172,7 @@ sessions_follow capacity before turns s from idle =
 
 -- ---- a whole session
 
-module _ (capacity : ℕ) (before : List Event) (bytes : List ℕ) (old new : FloorView) (sent written : List ℕ) (by : End) (from : old ≡ floor_after capacity before) (ran : Served bytes (session_at old None) (session_state new None) sent written by) where
+module _ (capacity : ℕ) (before : List Event) (bytes later : Option (List ℕ)) (old new : FloorView) (sent written : Option (List ℕ)) (by : End) (from : old ≡ floor_after capacity before) (ran : Served bytes later (session_at old None) (session_state new None) sent written by) where
   abbrev begin : SessionState
   begin = session_at old None
 
@@ -201,7 +201,7 @@ module _ (capacity : ℕ) (before : List Event) (bytes : List ℕ) (old new : Fl
       ∙ sym (run_state (empty_floor capacity) ((before ++ sends old) ++ session_events lines begin) (leaves last))
       ∙ ap (floor_after capacity) (append_assoc (before ++ sends old) (session_events lines begin) (leaves last))
 
-  pub session_followed : IsTranscript capacity before bytes old new sent written by
+  pub session_followed : IsTranscript capacity before bytes later old new sent written by
   session_followed = record {
     served = ran;
     session = sessions_follow capacity (before ++ sends old) lines begin begins_at begins_idle;

@@ -1,3 +1,4 @@
+pub mod PassLaws
 pub mod TurnLaws
 pub mod SessionLaws
 pub mod SharedLaws

@@ -1,5 +1,5 @@
 -- What a session has served, line by line.
-use Rattle.std.proofs.Common.{subst, ◌≡◌, ◌≢◌, ℕ, ◌+◌, ◌<◌, ◌≤◌, IsTrue, Bool, List, [], ◌∷◌, ◌++◌, take, refl, ap, sym, ◌∙◌, inl, inr, true, false, Result, Ok, Err, Option, Some, None, append_assoc, arith, length}
+use Rattle.std.proofs.Common.{subst, ◌≡◌, ◌≢◌, ℕ, ◌+◌, ◌<◌, ◌≤◌, Bool, List, [], ◌∷◌, ◌++◌, take, refl, ap, sym, ◌∙◌, inl, inr, true, false, Result, Ok, Err, Option, Some, None, append_assoc, arith, length, length-append}
 use Rattle.std.proofs.lemmas.List.{append-nil, map-append}
 use Rattle.std.specs.Option.{ForSome}
 use Rattle.mt_skel.specs.declared.fault.Fault.{Fault}
@@ -9,19 +9,22 @@ use Rattle.mt_requests.specs.Requests.{request_of, may_want_memory, ReadsAs}
 use Rattle.mt_lines.specs.declared.stream.StreamFault.{StreamFault}
 use Rattle.mt_lines.specs.declared.stream.Cut.{Cut}
 use Rattle.mt_lines.specs.declared.line.ReadFault.{ReadFault}
-use Rattle.mt_lines.specs.declared.line.ReadFault.TheVariants.{Endless as NeverEnds, NoMemory as NoRoom}
-use Rattle.mt_lines.specs.Lines.{Item, Unended, Endless, lines_of}
+use Rattle.mt_lines.specs.declared.line.ReadFault.TheVariants.{Device, Interrupted, Endless as NeverEnds, NoMemory as NoRoom}
+use Rattle.std.specs.Io.KnownBytes.{Appends, Keeps}
+use Rattle.std.proofs.KnownBytes.{Appends-nil, Appends-trans}
+use Rattle.mt_lines.specs.Lines.{Item, Unended}
 use Rattle.mt_lines.specs.declared.line.Line.{Line}
 use Rattle.mt_lines.specs.declared.line.Line.TheVariants.{Text as TextLine, TooLong as LongLine, Unended as BrokenLine, End as NoLine}
-use Rattle.mt_lines.specs.Reading.{IsNext}
+use Rattle.mt_lines.specs.Reading.{IsNextKnown, LosesNoLine, IsFaultCause}
 use Rattle.mt_session.specs.declared.serving.End.{End}
 use Rattle.mt_session.specs.declared.serving.End.TheVariants.{Quit, Stop, Input, Read, Cut as CutOff, Memory, Spent}
 use Rattle.mt_floor.specs.Schedule.{FloorView, settled}
 use Rattle.mt_floor.proofs.SettledLaws.{settled_idle}
 use Rattle.mt_session.specs.Answers.{refusal}
 use Rattle.mt_session.specs.Requests.{SessionState, session_state, session_at, answer_to, state_to, begins_watcher, left, IsUndone}
-use Rattle.mt_session.specs.Session.{Granted, Refused, Unshown, Asking, Whole, Overlong, Broken, item_of, items_of, has_end, Turn, request_of_line, may_fail, answer_to_turn, state_after_turn, end_of_turn, ends_by, text_of, state_after, AllGoOn, Going, Served, IsCause, sent_by, line_limit, IsReadEnd, IsReadEndRun, IsCutCause, IsCutRun}
-use Rattle.mt_session.specs.Serving.{the_turn, Answered, AnswersLine, Ran, IsSent, ends_by_line, ServedLine, ends_whole, ends_by_answer}
+use Rattle.mt_session.specs.Session.{Granted, Refused, Unshown, Asking, Whole, Overlong, Broken, item_of, items_of, has_end, Turn, request_of_line, may_fail, answer_to_turn, state_after_turn, end_of_turn, ends_by, text_of, state_after, AllGoOn, Going, Served, ServedLine, IsCause, sent_by, line_limit, PassLines, EndsInput, IsReadEnd, IsReadEndRun, IsCutCause, IsCutRun}
+use Rattle.mt_session.specs.Serving.{the_turn, Answered, AnswersLine, Ran, IsSent, ends_whole, ends_by_answer}
+use Rattle.mt_session.proofs.PassLaws.{pass_none, pass_more, pass_text, pass_long, pass_broken, pass_end, pass_endless, input_more, kept_nothing}
 
 -- a line that may want memory to be read wants it to be done
 reading_fails : (s : SessionState) (x : Result Request Fault) → may_want_memory x ≡ true → may_fail s x ≡ true
@@ -61,110 +64,120 @@ unfolding answer_to_turn state_after_turn end_of_turn
 answered_fixed old line f e = (Granted, rw e refl, rw e refl, rw e refl)
 
 -- how a line that ends a session ends it
-cause_of : (turn : Turn) (text : List ℕ) (later : List Item) (by : End) → Some by ≡ end_of_turn turn → IsCause by [] (turn ∷ []) text later
+cause_of : (turn : Turn) (text : List ℕ) (rest : Option (List ℕ)) (by : End) → Some by ≡ end_of_turn turn → IsCause by [] (turn ∷ []) text rest rest
 unfolding end_of_turn
-cause_of turn text later Quit e = (turn, refl, sym e)
-cause_of turn text later Stop e = (turn, refl, sym e)
-cause_of turn text later by e = absurd (grind arith)
+cause_of turn text rest Quit e = (turn, refl, sym e, refl)
+cause_of turn text rest Stop e = (turn, refl, sym e, refl)
+cause_of turn text rest by e = absurd (grind arith)
+
+-- and its input goes on
+input_of : (turn : Turn) (before : Option (List ℕ)) (items : List Item) (by : End) → Some by ≡ end_of_turn turn → EndsInput by before items
+unfolding end_of_turn
+input_of turn before items Quit e = tt
+input_of turn before items Stop e = tt
+input_of turn before items by e = absurd (grind arith)
 
 whole_sent : (by : End) (text : List ℕ) → ends_whole by ≡ true → sent_by by text ≡ text
 whole_sent by text h = grind arith
 
 -- at most one line was served
-abbrev ServedOne : List ℕ → SessionState → SessionState → List ℕ → List ℕ → End → Type 0
-ServedOne before old new sent written by = (ran : Ran before old new sent written by) × (length ran.turns + length ran.last ≤ 1)
+abbrev ServedOne : Option (List ℕ) → Option (List ℕ) → SessionState → SessionState → Option (List ℕ) → Option (List ℕ) → End → Type 0
+ServedOne before later old new sent written by = (ran : Ran before later old new sent written by) × (length ran.turns + length ran.last ≤ 1)
 
-served_one : (before : List ℕ) (last : List Turn) (later : List Item) (old new : SessionState) (sent written : List ℕ) (by : End) → length last ≤ 1 → lines_of line_limit before ≡ items_of last ++ later → new ≡ state_after last old
-    → written ≡ sent ++ sent_by by (text_of last old) → IsCause by [] last (text_of last old) later → ServedOne before old new sent written by
-served_one before last later old new sent written by few lines state out cause =
-    (record { turns = []; last = last; later = later; lines = lines; state = state; out = out; goes = tt; cause = cause; count = omega (arith, few) }, omega (arith, few))
+served_one : (before rest later : Option (List ℕ)) (last : List Turn) (old new : SessionState) (sent written : Option (List ℕ)) (by : End) → length last ≤ 1 → PassLines before (items_of last) rest → EndsInput by before (items_of last) → new ≡ state_after last old
+    → Appends sent written (sent_by by (text_of last old)) → IsCause by [] last (text_of last old) rest later → ServedOne before later old new sent written by
+served_one before rest later last old new sent written by few lines input state out cause =
+    (record { turns = []; last = last; rest = rest; lines = lines; input = input; state = state; out = out; goes = tt; cause = cause; count = omega (arith, few) }, omega (arith, few))
 
 -- the last answer stands alone
-served_last : (before later : List ℕ) (turn : Turn) (old new : SessionState) (sent written : List ℕ) (by : End) → lines_of line_limit before ≡ item_of turn.line ∷ lines_of line_limit later → new ≡ state_after_turn old turn → written ≡ sent ++ sent_by by (answer_to_turn old turn) → IsCause by [] (turn ∷ []) (answer_to_turn old turn) (lines_of line_limit later) → ServedOne before old new sent written by
-served_last before later turn old new sent written by lines state out cause =
+served_last : (before rest later : Option (List ℕ)) (turn : Turn) (old new : SessionState) (sent written : Option (List ℕ)) (by : End) → PassLines before (item_of turn.line ∷ []) rest → EndsInput by before (item_of turn.line ∷ []) → new ≡ state_after_turn old turn
+    → Appends sent written (sent_by by (answer_to_turn old turn)) → IsCause by [] (turn ∷ []) (answer_to_turn old turn) rest later → ServedOne before later old new sent written by
+served_last before rest later turn old new sent written by lines input state out cause =
     let text = sym (append-nil (answer_to_turn old turn)) in
-    served_one before (turn ∷ []) (lines_of line_limit later) old new sent written by (omega arith) lines state (out ∙ ap (λ x. sent ++ sent_by by x) text)
-    (subst (λ x. IsCause by [] (turn ∷ []) x (lines_of line_limit later)) text cause)
+    served_one before rest later (turn ∷ []) old new sent written by (omega arith) lines input state (subst (λ x. Appends sent written (sent_by by x)) text out)
+    (subst (λ x. IsCause by [] (turn ∷ []) x rest later) text cause)
 
 -- the last answer was cut
-served_cut : (before later : List ℕ) (line : Asking) (old new : SessionState) (sent written text : List ℕ) (end : Option End) (result : Option End) → lines_of line_limit before ≡ item_of line ∷ lines_of line_limit later → Answered old new line text end → (cut : Cut) → result ≡ Some (CutOff cut) → written ≡ sent ++ take cut.sent text → cut.sent < length text → ServedLine before later old new sent written result
-served_cut before later line old new sent written text end result lines a cut is out within =
-    let one = served_last before later (the_turn line a.0) old new sent written (CutOff cut) lines a.2 (out ∙ ap (λ x. sent ++ take cut.sent x) a.1) (the_turn line a.0, refl, subst (λ x. cut.sent < length x) a.1 within) in
+served_cut : (before rest : Option (List ℕ)) (line : Asking) (old new : SessionState) (sent written : Option (List ℕ)) (text : List ℕ) (end : Option End) (result : Option End) → PassLines before (item_of line ∷ []) rest → Answered old new line text end → (cut : Cut)
+    → result ≡ Some (CutOff cut) → Appends sent written (take cut.sent text) → cut.sent < length text → ServedLine before rest old new sent written result
+served_cut before rest line old new sent written text end result lines a cut is out within =
+    let one = served_last before rest rest (the_turn line a.0) old new sent written (CutOff cut) lines tt a.2 (subst (λ x. Appends sent written (take cut.sent x)) a.1 out) (the_turn line a.0, refl, subst (λ x. cut.sent < length x) a.1 within, refl) in
     rw is one
 
 -- a line with its line end
-after_text : (tells : Bool) (before later : List ℕ) (line : Asking) (old new : SessionState) (sent written text : List ℕ) (end : Option End) (result : Option End) → IsTrue tells → lines_of line_limit before ≡ item_of line ∷ lines_of line_limit later → has_end line ≡ true → Answered old new line text end → ForSome end (λ e. ends_whole e ≡ true) → IsSent tells sent written text end result → ServedLine before later old new sent written result
-after_text tells before later line old new sent written text (Some by) result t lines ends a h (inl s) =
+after_text : (before rest : Option (List ℕ)) (line : Asking) (old new : SessionState) (sent written : Option (List ℕ)) (text : List ℕ) (end : Option End) (result : Option End) → PassLines before (item_of line ∷ []) rest → has_end line ≡ true → Answered old new line text end
+    → ForSome end (λ e. ends_whole e ≡ true) → IsSent sent written text end result → ServedLine before rest old new sent written result
+after_text before rest line old new sent written text (Some by) result lines ends a h (inl s) =
     let whole = whole_sent by (answer_to_turn old (the_turn line a.0)) (h by refl) in
-    let one = served_last before later (the_turn line a.0) old new sent written by lines a.2 (s.1 t ∙ ap (λ x. sent ++ x) (a.1 ∙ sym whole)) (cause_of (the_turn line a.0) _ _ by a.3) in
+    let one = served_last before rest rest (the_turn line a.0) old new sent written by lines (input_of (the_turn line a.0) before (item_of line ∷ []) by a.3) a.2 (subst (λ x. Appends sent written x) (a.1 ∙ sym whole) s.1) (cause_of (the_turn line a.0) _ rest by a.3) in
     rw s.0 one
-after_text tells before later line old new sent written text None result t lines ends a h (inl s) =
+after_text before rest line old new sent written text None result lines ends a h (inl s) =
     rw s.0 (
       the_turn line a.0,
       record {
         lines = lines;
         state = a.2;
-        out = s.1 t ∙ ap (λ x. sent ++ x) (a.1 ∙ sym (append-nil (answer_to_turn old (the_turn line a.0))));
+        out = subst (λ x. Appends sent written x) (a.1 ∙ sym (append-nil (answer_to_turn old (the_turn line a.0)))) s.1;
         goes = (ends, sym a.3, tt);
       },
     )
-after_text tells before later line old new sent written text end result t lines ends a h (inr s) =
-    served_cut before later line old new sent written text end result lines a s.0 s.1 (s.2 t) s.3
-
-lines_of-nil : (limit : ℕ) → lines_of limit [] ≡ []
-unfolding lines_of
-lines_of-nil limit = refl
+after_text before rest line old new sent written text end result lines ends a h (inr s) =
+    served_cut before rest line old new sent written text end result lines a s.0 s.1 s.2 s.3
 
 -- the last line has no line end
-after_unended : (tells : Bool) (before later : List ℕ) (old : SessionState) (sent written text : List ℕ) (result : Option End) → IsTrue tells → lines_of line_limit before ≡ Unended ∷ [] → later ≡ [] → Answered old old Broken text None → IsSent tells sent written text (Some Input) result → ServedLine before later old old sent written result
-after_unended tells before later old sent written text result t lines none a (inl s) =
-    let empty : lines_of line_limit later ≡ [] = rw none (lines_of-nil line_limit) in
-    let one = served_last before later (the_turn Broken a.0) old old sent written Input (rw empty lines) a.2 (s.1 t ∙ ap (λ x. sent ++ x) a.1) (empty, inr (the_turn Broken a.0, refl, refl)) in
+after_unended : (before rest : Option (List ℕ)) (old : SessionState) (sent written : Option (List ℕ)) (text : List ℕ) (result : Option End) → PassLines before (Unended ∷ []) rest → EndsInput Input before (Unended ∷ []) → Answered old old Broken text None
+    → IsSent sent written text (Some Input) result → ServedLine before rest old old sent written result
+after_unended before rest old sent written text result lines input a (inl s) =
+    let one = served_last before rest rest (the_turn Broken a.0) old old sent written Input lines input a.2 (subst (λ x. Appends sent written x) a.1 s.1) (inr (the_turn Broken a.0, refl, refl), refl) in
     rw s.0 one
-after_unended tells before later old sent written text result t lines none a (inr s) =
-    let empty : lines_of line_limit later ≡ [] = rw none (lines_of-nil line_limit) in
-    served_cut before later Broken old old sent written text None result (rw empty lines) a s.0 s.1 (s.2 t) s.3
+after_unended before rest old sent written text result lines input a (inr s) =
+    served_cut before rest Broken old old sent written text None result lines a s.0 s.1 s.2 s.3
 
 -- nothing more was served
-served_none : (before later : List ℕ) (items : List Item) (old : SessionState) (sent : List ℕ) (by : End) → lines_of line_limit before ≡ items → sent_by by [] ≡ [] → IsCause by [] [] [] items → ServedLine before later old old sent sent (Some by)
-served_none before later items old sent by lines nothing cause = served_one before [] items old old sent sent by (omega arith) lines refl (rw nothing (sym (append-nil sent))) cause
+served_none : (before rest later : Option (List ℕ)) (old : SessionState) (sent written : Option (List ℕ)) (by : End) → PassLines before [] rest → EndsInput by before [] → Keeps sent written → sent_by by [] ≡ [] → IsCause by [] [] [] rest later → ServedLine before later old old sent written (Some by)
+served_none before rest later old sent written by lines input keeps nothing cause =
+    served_one before rest later [] old old sent written by (omega arith) lines input refl (rw nothing (kept_nothing sent written keeps)) cause
 
 -- the reader failed: with the limit of sessions it never wants memory
-pub after_fault : (limit : ℕ) (before later kept : List ℕ) (f : ReadFault) (old : SessionState) (sent : List ℕ) → limit ≡ line_limit → (f ≡ NoRoom → 8192 < limit) → IsNext limit before (Err f) kept later → ServedLine before later old old sent sent (Some (Read f))
-after_fault limit before later kept NeverEnds old sent e m n =
-    let n : IsNext line_limit before (Err NeverEnds) kept later = rw e at n in served_none before later (Endless ∷ n.0) old sent (Read NeverEnds) n.1 refl (refl, n.0, refl)
-after_fault limit before later kept NoRoom old sent e m n = absurd (let over = m refl in omega (arith, over, e))
-after_fault limit before later kept f old sent e m n = served_none before later (lines_of line_limit before) old sent (Read f) refl refl refl
+pub after_fault : (limit : ℕ) (before later : Option (List ℕ)) (kept : List ℕ) (f : ReadFault) (old : SessionState) (sent written : Option (List ℕ)) → limit ≡ line_limit → (f ≡ NoRoom → 8192 < limit) → IsNextKnown limit before (Err f) kept later → LosesNoLine (Err f) before later
+    → Keeps sent written → ServedLine before later old old sent written (Some (Read f))
+after_fault limit before later kept NeverEnds old sent written e m n whole keeps = served_none before before later old sent written (Read NeverEnds) (pass_none before) (pass_endless limit before later kept e n) keeps refl refl
+after_fault limit before later kept NoRoom old sent written e m n whole keeps = absurd (let over = m refl in omega (arith, over, e))
+after_fault limit before later kept f old sent written e m n whole keeps = served_none before before later old sent written (Read f) (pass_none before) tt keeps refl (refl, whole)
 
 -- a line that a reader served
-pub line_served : (tells : Bool) (before later bytes : List ℕ) (line : Line) (old new : SessionState) (sent written : List ℕ) (result : Option End) → IsTrue tells
-    → IsNext line_limit before (Ok line) bytes later → AnswersLine tells line bytes old new sent written result → ServedLine before later old new sent written result
-line_served tells before later bytes TextLine old new sent written result t n a = after_text tells before later (Whole bytes) old new sent written a.0 a.1 result t n refl a.2 a.3 a.4
-line_served tells before later bytes LongLine old new sent written result t n a =
-    rw a.0 (after_text tells before later Overlong old old sent written (refusal LineTooLong) None result t n refl (answered_fixed old Overlong LineTooLong refl) (λ e is. cc) a.1)
-line_served tells before later bytes BrokenLine old new sent written result t n a =
-    rw a.0 (after_unended tells before later old sent written (refusal BadLine) result t n.0 n.1 (answered_fixed old Broken BadLine refl) a.1)
-line_served tells before later bytes NoLine old new sent written result t n a = rw (a.0, a.1 t, a.2) (served_none before later [] old sent Input n.0 refl (refl, inl refl))
+pub line_served : (before later : Option (List ℕ)) (bytes : List ℕ) (line : Line) (old new : SessionState) (sent written : Option (List ℕ)) (result : Option End)
+    → IsNextKnown line_limit before (Ok line) bytes later → AnswersLine line bytes old new sent written result → ServedLine before later old new sent written result
+line_served before later bytes TextLine old new sent written result n a = after_text before later (Whole bytes) old new sent written a.0 a.1 result (pass_text before later bytes n) refl a.2 a.3 a.4
+line_served before later bytes LongLine old new sent written result n a =
+    rw a.0 (after_text before later Overlong old old sent written (refusal LineTooLong) None result (pass_long before later bytes n) refl (answered_fixed old Overlong LineTooLong refl) (λ e is. cc) a.1)
+line_served before later bytes BrokenLine old new sent written result n a =
+    let passed = pass_broken before later bytes n in
+    rw a.0 (after_unended before later old sent written (refusal BadLine) result passed.0 passed.1 (answered_fixed old Broken BadLine refl) a.1)
+line_served before later bytes NoLine old new sent written result n a =
+    let passed = pass_end before later bytes n in
+    rw (a.0, a.2) (served_none before later later old sent written Input passed.0 passed.1 a.1 refl (inl refl, refl))
 
 -- the end that it brings
-pub line_ends : (tells : Bool) (line : Line) (bytes : List ℕ) (old new : SessionState) (sent written : List ℕ) (by : End) → AnswersLine tells line bytes old new sent written (Some by) → ends_by_answer by ≡ true
-line_ends tells TextLine bytes old new sent written by a = let whole = a.3 by in let s = a.4 in grind (arith, whole, s)
-line_ends tells line bytes old new sent written by a = grind arith
+pub line_ends : (line : Line) (bytes : List ℕ) (old new : SessionState) (sent written : Option (List ℕ)) (by : End) → AnswersLine line bytes old new sent written (Some by) → ends_by_answer by ≡ true
+line_ends TextLine bytes old new sent written by a = let whole = a.3 by in let s = a.4 in grind (arith, whole, s)
+line_ends line bytes old new sent written by a = grind arith
 
 -- where nothing is due, nothing has to be sent first
 pub at_rest : (floor : FloorView) (watcher : Option ℕ) → floor.due ≡ [] → session_at floor watcher ≡ session_state floor watcher
 at_rest floor watcher idle = ap (λ (f : FloorView). session_state f watcher) (settled_idle floor idle)
 
 -- a session from what was due before it to its watcher's close
-pub session_served : (before : List ℕ) (floor rested ran new : FloorView) (none mine left_over : Option ℕ) (sent written : List ℕ) (by : End)
-    → rested ≡ settled floor → none ≡ None → Ran before (session_state rested none) (session_state ran mine) sent written by → ran.due ≡ []
-    → session_state new left_over ≡ left (session_at ran mine) → left_over ≡ None → Served before (session_at floor None) (session_state new None) sent written by
-session_served before floor rested ran new fresh mine left_over sent written by rests begins served idle leaves gone =
-    let r : Ran before (session_at floor None) (session_state ran mine) sent written by = rw (rests, begins) at served in record {
+pub session_served : (before later : Option (List ℕ)) (floor rested ran new : FloorView) (none mine left_over : Option ℕ) (sent written : Option (List ℕ)) (by : End)
+    → rested ≡ settled floor → none ≡ None → Ran before later (session_state rested none) (session_state ran mine) sent written by → ran.due ≡ []
+    → session_state new left_over ≡ left (session_at ran mine) → left_over ≡ None → Served before later (session_at floor None) (session_state new None) sent written by
+session_served before later floor rested ran new fresh mine left_over sent written by rests begins served idle leaves gone =
+    let r : Ran before later (session_at floor None) (session_state ran mine) sent written by = rw (rests, begins) at served in record {
       turns = r.turns;
       last = r.last;
-      later = r.later;
+      rest = r.rest;
       lines = r.lines;
+      input = r.input;
       state = sym (ap (session_state new) gone) ∙ leaves ∙ ap left (at_rest ran mine idle ∙ r.state);
       out = r.out;
       goes = r.goes;
@@ -185,35 +198,75 @@ AllGoOn-append : (xs ys : List Turn) → AllGoOn xs → AllGoOn ys → AllGoOn (
 AllGoOn-append [] ys h k = k
 AllGoOn-append (x ∷ xs) ys h k = (h.0, h.1, AllGoOn-append xs ys h.2 k)
 
+-- no line was served yet
+pub Going-none : (before : Option (List ℕ)) (state : SessionState) (sent : Option (List ℕ)) → Going [] before before state state sent sent
+Going-none before state sent = record { lines = pass_none before; state = refl; out = Appends-nil sent; goes = tt }
+
 -- lines served, and then more
-pub Going-more : (turns more : List Turn) (before mid later : List ℕ) (old now new : SessionState) (sent so_far written : List ℕ) → Going turns before mid old now sent so_far → Going more mid later now new so_far written → Going (turns ++ more) before later old new sent written
+items_of-append : (xs ys : List Turn) → items_of (xs ++ ys) ≡ items_of xs ++ items_of ys
+items_of-append xs ys = map-append (λ (turn : Turn). item_of turn.line) xs ys
+
+pub Going-more : (turns more : List Turn) (before mid later : Option (List ℕ)) (old now new : SessionState) (sent so_far written : Option (List ℕ)) → Going turns before mid old now sent so_far → Going more mid later now new so_far written → Going (turns ++ more) before later old new sent written
 Going-more turns more before mid later old now new sent so_far written a b = record {
-  lines = a.lines ∙ ap (λ x. items_of turns ++ x) b.lines ∙ sym (ap (λ x. x ++ lines_of line_limit later) (map-append (λ (turn : Turn). item_of turn.line) turns more) ∙ append_assoc (items_of turns) (items_of more) (lines_of line_limit later));
+  lines = subst (λ x. PassLines before x later) (sym (items_of-append turns more)) (pass_more before mid later (items_of turns) (items_of more) a.lines b.lines);
   state = b.state ∙ ap (state_after more) a.state ∙ sym (state_after-append turns more old);
-  out = b.out ∙ ap (λ x. x ++ text_of more now) a.out ∙ ap (λ w. (sent ++ text_of turns old) ++ text_of more w) a.state ∙ append_assoc sent (text_of turns old) (text_of more (state_after turns old)) ∙ ap (λ x. sent ++ x) (sym (text_of-append turns more old));
+  out = subst (λ x. Appends sent written x) (sym (text_of-append turns more old)) (Appends-trans sent so_far written (text_of turns old) (text_of more (state_after turns old)) a.out (subst (λ w. Appends so_far written (text_of more w)) a.state b.out));
   goes = AllGoOn-append turns more a.goes b.goes;
 }
 
 -- the cause of an end that a line brings is that of the whole session
-cause_more : (by : End) (turns more last : List Turn) (text whole : List ℕ) (later : List Item) → ends_by_line by ≡ true → text ≡ whole → IsCause by more last text later → IsCause by (turns ++ more) last whole later
-cause_more (CutOff cut) turns more last text whole later h e c = (c.0, c.1, subst (λ x. cut.sent < length x) e c.2)
-cause_more (Read NeverEnds) turns more last text whole later h e c = c
-cause_more Spent turns more last text whole later h e c = cc
-cause_more by turns more last text whole later h e c = c
+cause_more : (by : End) (turns more last : List Turn) (text whole : List ℕ) (rest later : Option (List ℕ)) → length more + length last ≤ 1 → text ≡ whole → IsCause by more last text rest later → IsCause by (turns ++ more) last whole rest later
+cause_more (CutOff cut) turns more last text whole rest later few e c = (c.0, c.1, subst (λ x. cut.sent < length x) e c.2, c.3)
+cause_more Spent turns more last text whole rest later few e c = absurd (let all = c.1 in omega (arith, few, all))
+cause_more (Read NeverEnds) turns more last text whole rest later few e c = c
+cause_more (Read Device) turns more last text whole rest later few e c = c
+cause_more (Read Interrupted) turns more last text whole rest later few e c = c
+cause_more (Read NoRoom) turns more last text whole rest later few e c = c
+cause_more by turns more last text whole rest later few e c = c
 
 -- lines served, and then the last
-pub Served-more : (turns : List Turn) (before mid : List ℕ) (old now new : SessionState) (sent so_far written : List ℕ) (by : End) → Going turns before mid old now sent so_far → (b : Ran mid now new so_far written by) → ends_by_line by ≡ true → length (turns ++ b.turns) + length b.last ≤ 16777216 → Ran before old new sent written by
-Served-more turns before mid old now new sent so_far written by a b ended count = record {
-  turns = turns ++ b.turns;
-  last = b.last;
-  later = b.later;
-  lines = a.lines ∙ ap (λ x. items_of turns ++ x) b.lines ∙ sym (ap (λ x. x ++ (items_of b.last ++ b.later)) (map-append (λ (turn : Turn). item_of turn.line) turns b.turns) ∙ append_assoc (items_of turns) (items_of b.turns) (items_of b.last ++ b.later));
-  state = b.state ∙ ap (λ w. state_after b.last (state_after b.turns w)) a.state ∙ ap (state_after b.last) (sym (state_after-append turns b.turns old));
-  out = b.out ∙ ap (λ x. x ++ (text_of b.turns now ++ sent_by by (text_of b.last (state_after b.turns now)))) a.out ∙ ap (λ w. (sent ++ text_of turns old) ++ (text_of b.turns w ++ sent_by by (text_of b.last (state_after b.turns w)))) a.state ∙ rw (text_of-append turns b.turns old, state_after-append turns b.turns old) (simp append_assoc);
-  goes = AllGoOn-append turns b.turns a.goes b.goes;
-  cause = cause_more by turns b.turns b.last _ _ b.later ended (ap (text_of b.last) (ap (state_after b.turns) a.state ∙ sym (state_after-append turns b.turns old))) b.cause;
-  count = count;
+pub Served-more : (turns : List Turn) (before mid later : Option (List ℕ)) (old now new : SessionState) (sent so_far written : Option (List ℕ)) (by : End) → Going turns before mid old now sent so_far → (b : Ran mid later now new so_far written by) → length b.turns + length b.last ≤ 1
+    → length turns < 16777216 → Ran before later old new sent written by
+Served-more turns before mid later old now new sent so_far written by a b few count =
+    let items = items_of b.turns ++ items_of b.last in
+    let last = text_of b.last (state_after b.turns (state_after turns old)) in
+    let same_items : items_of (turns ++ b.turns) ++ items_of b.last ≡ items_of turns ++ items =
+    ap (λ (x : List Item). x ++ items_of b.last) (items_of-append turns b.turns) ∙ append_assoc (items_of turns) (items_of b.turns) (items_of b.last) in
+    let same_state : state_after b.turns now ≡ state_after (turns ++ b.turns) old = ap (state_after b.turns) a.state ∙ sym (state_after-append turns b.turns old) in
+    let same_text : text_of turns old ++ (text_of b.turns (state_after turns old) ++ sent_by by last) ≡ text_of (turns ++ b.turns) old ++ sent_by by (text_of b.last (state_after (turns ++ b.turns) old)) =
+    sym (append_assoc (text_of turns old) (text_of b.turns (state_after turns old)) (sent_by by last)) ∙ rw (text_of-append turns b.turns old, state_after-append turns b.turns old) refl in record {
+      turns = turns ++ b.turns;
+      last = b.last;
+      rest = b.rest;
+      lines = subst (λ x. PassLines before x b.rest) (sym same_items) (pass_more before mid b.rest (items_of turns) items a.lines b.lines);
+      input = subst (λ x. EndsInput by before x) (sym same_items) (input_more by before mid (items_of turns) items a.lines b.input);
+      state = b.state ∙ ap (state_after b.last) same_state;
+      out = subst (λ x. Appends sent written x) same_text (Appends-trans sent so_far written (text_of turns old) (text_of b.turns (state_after turns old) ++ sent_by by last) a.out
+          (subst (λ w. Appends so_far written (text_of b.turns w ++ sent_by by (text_of b.last (state_after b.turns w)))) a.state b.out));
+      goes = AllGoOn-append turns b.turns a.goes b.goes;
+      cause = cause_more by turns b.turns b.last _ _ b.rest later few (ap (text_of b.last) same_state) b.cause;
+      count = simp length-append (omega (arith, few, count));
+    }
+
+-- as many lines were served as a session serves
+pub Going-spent : (turns : List Turn) (before later : Option (List ℕ)) (old now : SessionState) (sent written : Option (List ℕ)) → Going turns before later old now sent written → length turns ≡ 16777216 → Ran before later old now sent written Spent
+Going-spent turns before later old now sent written a count = record {
+  turns = turns;
+  last = [];
+  rest = later;
+  lines = subst (λ x. PassLines before x later) (sym (append-nil (items_of turns))) a.lines;
+  input = tt;
+  state = a.state;
+  out = subst (λ x. Appends sent written x) (sym (append-nil (text_of turns old))) a.out;
+  goes = a.goes;
+  cause = (refl, count, refl);
+  count = omega (arith, count);
 }
+
+-- a line brings no end by want of memory
+pub line_remembers : (by : End) (turns last : List Turn) (text : List ℕ) (rest later : Option (List ℕ)) → IsCause by turns last text rest later → by ≢ Memory
+line_remembers Memory turns last text rest later c is = c
+line_remembers by turns last text rest later c is = cc
 
 -- an end by which no answer was cut, as one that comes once an answer is out whole: no call of the writer has failed
 abbrev pub is_uncut : Option End → Bool
@@ -230,12 +283,35 @@ uncut_cause end old new h le = grind arith
 pub uncut_run : (end : Option End) (faults : List StreamFault) → is_uncut end ≡ true → faults ≡ [] → IsCutRun end faults
 uncut_run end faults h none = grind arith
 
--- the answer to a line brings no end by the reader, nor by want of memory
-pub read_answered : (by : End) (old new : ℕ) → ends_by_answer by ≡ true → old ≤ new → IsReadEnd (Some by) old new
-read_answered by old new h le = grind arith
+-- an end that is not the reader's
+abbrev pub is_by_answer : Option End → Bool
+is_by_answer (Some (Read f)) = false
+is_by_answer end = true
 
-pub run_answered : (by : End) (faults : List StreamFault) → ends_by_answer by ≡ true → faults ≡ [] → IsReadEndRun (Some by) faults
-run_answered by faults h none = grind arith
+pub by_answer_read : (end : Option End) (old new : ℕ) → is_by_answer end ≡ true → old ≤ new → IsReadEnd end old new
+by_answer_read end old new h le = grind arith
 
-pub line_answered : (by : End) → ends_by_answer by ≡ true → (ends_by_line by ≡ true) × (by ≢ Memory)
-line_answered by h = (grind arith, λ is. grind arith)
+pub by_answer_run : (end : Option End) (faults : List StreamFault) → is_by_answer end ≡ true → faults ≡ [] → IsReadEndRun end faults
+by_answer_run end faults h none = grind arith
+
+-- the answer to a line brings none
+ends_so : (line : Line) (bytes : List ℕ) (old new : SessionState) (sent written : Option (List ℕ)) (end : Option End) → AnswersLine line bytes old new sent written end → is_by_answer end ≡ true
+ends_so line bytes old new sent written None a = refl
+ends_so line bytes old new sent written (Some by) a = let h = line_ends line bytes old new sent written by a in grind arith
+
+pub answered_read : (line : Line) (bytes : List ℕ) (old new : SessionState) (sent written : Option (List ℕ)) (end : Option End) (before after : ℕ) → AnswersLine line bytes old new sent written end → before ≤ after → IsReadEnd end before after
+answered_read line bytes old new sent written end before after a le = by_answer_read end before after (ends_so line bytes old new sent written end a) le
+
+pub answered_run : (line : Line) (bytes : List ℕ) (old new : SessionState) (sent written : Option (List ℕ)) (end : Option End) (faults : List StreamFault) → AnswersLine line bytes old new sent written end → faults ≡ [] → IsReadEndRun end faults
+answered_run line bytes old new sent written end faults a none = by_answer_run end faults (ends_so line bytes old new sent written end a) none
+
+-- counts of failed calls that have risen before rise on
+fault_more : (f : ReadFault) (first old new : ℕ) → first ≤ old → IsFaultCause f old new → IsFaultCause f first new
+fault_more f first old new le h = grind (arith, le, h)
+
+pub read_more : (by : End) (first old new : ℕ) → first ≤ old → IsReadEnd (Some by) old new → IsReadEnd (Some by) first new
+read_more (Read f) first old new le h = fault_more f first old new le h
+read_more by first old new le h = omega (arith, le, h)
+
+pub cut_more : (by : End) (first old new : ℕ) → first ≤ old → IsCutCause (Some by) old new → IsCutCause (Some by) first new
+cut_more by first old new le h = grind (arith, le, h)

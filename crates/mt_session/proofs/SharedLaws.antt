@@ -1,9 +1,9 @@
 -- What a request finds at a desk whose watchers take, and what the calls of a desk answer to it.
-use Rattle.std.proofs.Common.{◌≡◌, ◌≢◌, ◌≤◌, ◌∙◌, ℕ, zero, suc, List, [], ◌∷◌, ◌++◌, length, replicate, Option, Some, None, Ok, Err, refl, sym, ap, subst, arith, inr, Result, IfOk}
+use Rattle.std.proofs.Common.{◌≡◌, ◌≢◌, ◌≤◌, ◌∙◌, ℕ, zero, suc, List, [], ◌∷◌, ◌++◌, length, replicate, Option, Some, None, Ok, Err, refl, sym, ap, subst, arith, inl, inr, ◌⊎◌, Result, IfOk}
 use Rattle.std.specs.Option.{ForSome, option_map_or}
 use Rattle.std.proofs.lemmas.List.{same_from_push}
 use Rattle.mt_skel.specs.declared.fault.Fault.{Fault}
-use Rattle.mt_skel.specs.declared.fault.Fault.TheVariants.{NoMemory}
+use Rattle.mt_skel.specs.declared.fault.Fault.TheVariants.{NoMemory, NoWatcher}
 use Rattle.mt_skel.specs.Keyed.{row_at}
 use Rattle.mt_skel.proofs.MiddleLaws.{row_mid}
 use Rattle.mt_events.specs.Posts.{PostView}
@@ -12,7 +12,7 @@ use Rattle.mt_events.specs.declared.opening.Scope.{Scope}
 use Rattle.mt_book.specs.declared.command.Command.{Command}
 use Rattle.mt_book.specs.declared.command.Reply.{Reply}
 use Rattle.mt_requests.specs.declared.request.Request.{Request}
-use Rattle.mt_requests.specs.declared.request.Request.TheVariants.{Watch}
+use Rattle.mt_requests.specs.declared.request.Request.TheVariants.{Watch, Close as AsksClose}
 use Rattle.mt_floor.specs.declared.event.Event.{Event}
 use Rattle.mt_floor.specs.declared.event.Event.TheVariants.{Apply, Open, Take, Close}
 use Rattle.mt_floor.specs.declared.event.Answer.{Answer}
@@ -25,7 +25,11 @@ use Rattle.mt_desk.proofs.ScheduleLaws.{rows_rise, opened_stays}
 use Rattle.mt_events.specs.Texts.{opening_text, posts_text}
 use Rattle.mt_session.specs.Answers.{refusal, reply_text}
 use Rattle.mt_session.specs.Requests.{replied_text, opened_text, closed_text, answer_to, SessionState}
+use Rattle.mt_session.specs.declared.serving.End.TheVariants.{Memory}
+use Rattle.mt_session.specs.declared.shared_answer.Then.{Then}
 use Rattle.mt_session.specs.SharedTurns.{floor_seen, with_taken_posts, IsBegun, IsUndoneBy, HasTaken}
+use Rattle.mt_session.specs.SharedSession.{HasLeft}
+use Rattle.mt_session.specs.SharedServing.{HasEndedAt, EndsWith, IsPiece}
 use Rattle.mt_session.proofs.TurnLaws.{apply_told, apply_refused, open_told, open_found, open_refused, close_posts}
 
 -- ---- A floor that only takes
@@ -135,3 +139,23 @@ pub lost_posts : (own own' : Option WatcherView) (w w' : WatcherView) (posts : L
 lost_posts own own' w w' posts most is is' taken within run = λ v at.
     let same : w ≡ v = let both = sym is ∙ at in cc in
     rw (← same) (posts, w', (w.half.told, omega arith, taken, rw taken at run), is', within)
+
+-- a session has ended its watcher, and so has left the desk
+pub end_left : (w : Option WatcherView) (posts : Option (List PostView)) → HasEndedAt w posts → HasLeft w
+end_left None posts h = tt
+end_left (Some w) None h = absurd h.3
+end_left (Some w) (Some posts) h = (h.0, posts, h.1, h.2, h.3.0, h.3.1)
+
+-- and is told what had been sent and not taken: the answer to a `close`
+pub close_told : (w w' : Option WatcherView) (posts : Option (List PostView)) (p : Option (List ℕ)) (n : Then) → HasEndedAt w posts → w' ≡ None → (posts ≡ None → EndsWith (refusal NoWatcher) None p n)
+    → ForSome posts (λ told. EndsWith (posts_text told) None p n ⊎ EndsWith (refusal NoMemory) (Some Memory) p n) → IsPiece w AsksClose [] p n w'
+unfolding answer_to
+close_told None w' None p n h gone none some =
+    let last = none refl in
+    rw (last.0, last.1, gone) (inl (inl record { desk = h.0; now = h.1; kept = h.2; done = (h.3.1, refl); answer = refl }, refl))
+close_told None w' (Some posts) p n h gone none some = let is = h.3.0 in cc
+close_told (Some w) w' None p n h gone none some = absurd h.3
+close_told (Some w) w' (Some posts) p n h gone none some = elim (some posts refl) [
+  | inl last ↦ rw (last.0, last.1, gone) (inl (inl record { desk = h.0; now = h.1; kept = h.2; done = (posts, h.3.0, refl, h.3.1); answer = sym (end_told h.0 h.1 w posts h.3.0) }, refl))
+  | inr last ↦ rw (last.0, last.1, gone) (inr ((h.0, h.1, posts, h.2, h.3.0, h.3.1, refl), (h.0, posts, h.1, h.2, h.3.0, h.3.1), refl))
+]

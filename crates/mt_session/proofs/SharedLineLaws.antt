@@ -1,5 +1,5 @@
 -- What a session in a thread of its own has answered: the pieces of an answer, and line by line.
-use Rattle.std.proofs.Common.{subst, ◌≡◌, ◌≢◌, ℕ, ◌<◌, ◌≤◌, IsTrue, Bool, List, [], ◌∷◌, ◌++◌, map, take, refl, ap, sym, ◌∙◌, inl, inr, true, Result, Ok, Err, Option, Some, None, append_assoc, arith, length, ◌+◌, unwrap_or}
+use Rattle.std.proofs.Common.{subst, ◌≡◌, ◌≢◌, ℕ, ◌<◌, ◌≤◌, List, [], ◌∷◌, ◌++◌, map, take, refl, ap, sym, ◌∙◌, inl, inr, true, Result, Ok, Err, Option, Some, None, arith, length, ◌+◌, unwrap_or}
 use Rattle.std.proofs.lemmas.List.{append-nil, map-append, length-append}
 use Rattle.std.proofs.lemmas.Grind.{flat_map-append}
 use Rattle.std.specs.List.{flat_map}
@@ -8,24 +8,28 @@ use Rattle.mt_skel.specs.declared.fault.Fault.TheVariants.{BadLine, TooLong as L
 use Rattle.mt_lines.specs.declared.stream.Cut.{Cut}
 use Rattle.mt_lines.specs.declared.line.ReadFault.{ReadFault}
 use Rattle.mt_lines.specs.declared.line.ReadFault.TheVariants.{Endless as NeverEnds, NoMemory as NoRoom}
-use Rattle.mt_lines.specs.Lines.{Item, Unended, Endless, lines_of}
+use Rattle.std.specs.Io.KnownBytes.{Appends, Keeps}
+use Rattle.std.proofs.KnownBytes.{Appends-nil, Appends-trans}
+use Rattle.mt_lines.specs.declared.stream.StreamFault.{StreamFault}
+use Rattle.mt_lines.specs.Lines.{Item, Unended}
 use Rattle.mt_lines.specs.declared.line.Line.{Line}
 use Rattle.mt_lines.specs.declared.line.Line.TheVariants.{Text as TextLine, TooLong as LongLine, Unended as BrokenLine, End as NoLine}
-use Rattle.mt_lines.specs.Reading.{IsNext}
+use Rattle.mt_lines.specs.Reading.{IsNextKnown, LosesNoLine}
 use Rattle.mt_desk.specs.Calls.{WatcherView}
 use Rattle.mt_requests.specs.declared.request.Request.{Request}
 use Rattle.mt_requests.specs.declared.request.Request.TheVariants.{Quit as AsksQuit, Stop as AsksStop, Follow}
-use Rattle.mt_requests.specs.Requests.{ReadsAs}
+use Rattle.mt_requests.specs.Requests.{request_of, ReadsAs}
 use Rattle.mt_session.specs.declared.serving.End.{End}
 use Rattle.mt_session.specs.declared.serving.End.TheVariants.{Input, Read, Cut as CutOff, Memory, Spent}
 use Rattle.mt_session.specs.declared.shared_answer.Then.{Then}
 use Rattle.mt_session.specs.declared.shared_answer.Then.TheVariants.{More, Over}
 use Rattle.mt_session.specs.Answers.{refusal}
-use Rattle.mt_session.specs.Session.{Asking, Whole, Overlong, Broken, item_of, has_end, request_of_line, ends_by, line_limit}
+use Rattle.mt_session.specs.Session.{Asking, Whole, Overlong, Broken, item_of, has_end, request_of_line, ends_by, line_limit, PassLines, EndsInput, IsReadEnd, IsReadEndRun}
 use Rattle.mt_session.specs.Serving.{IsSent}
-use Rattle.mt_session.specs.SharedSession.{IsTurn, IsInFront, IsAnswerSoFar, SharedTurn, AreTurns, TurnsGoOn, HasLeft, WasLeft, ServedShared, IsLost, FollowsSoFar, EndsOfInput}
-use Rattle.mt_session.specs.SharedServing.{IsKeptOrLeft, Follows, IsSoFar, AnswersWhole, IsPiece, IsCutPiece, IsOutcome, ServesAsked, ServesLine, SharedGoing, SharedEnding, ServedSharedLine, IsPortion, EndsWith}
-use Rattle.mt_session.proofs.SessionLaws.{is_uncut}
+use Rattle.mt_session.specs.SharedSession.{IsTurn, IsInFront, IsAnswerSoFar, SharedTurn, AreTurns, TurnsGoOn, HasLeft, WasLeft, ServedShared, IsLost, FollowsSoFar, EndsOfInput, EndsOfAnswer, SharedGoing, SharedEnding, ServedSharedLine}
+use Rattle.mt_session.specs.SharedServing.{IsKeptOrLeft, Follows, IsSoFar, AnswersWhole, IsPiece, IsCutPiece, IsOutcome, ServesAsked, ServesLine, IsPortion, EndsWith}
+use Rattle.mt_session.proofs.SessionLaws.{is_uncut, is_by_answer, by_answer_read, by_answer_run}
+use Rattle.mt_session.proofs.PassLaws.{pass_none, pass_more, pass_text, pass_long, pass_broken, pass_end, pass_endless, input_more, kept_nothing}
 use Rattle.mt_events.specs.Posts.{PostView, post_text}
 use Rattle.mt_events.specs.declared.texts.PrintedPosts.{PrintedPosts}
 use Rattle.mt_session.specs.declared.shared_answer.Portion.TheVariants.{Posts}
@@ -131,16 +135,16 @@ whole_out : (w w' : Option WatcherView) (asked : Result Request Fault) (out : Li
 whole_out w w' asked out end (inl (turn, is)) = record { outcome = rw is (outcome_of w w' asked out turn); watcher = turn_keeps w asked out w' turn; so_far = inl (w', turn); uncut = rw is (grind arith) }
 whole_out w w' asked out end (inr (lost, keeps, is)) = record { outcome = rw is lost; watcher = keeps; so_far = inr (inl lost); uncut = rw is refl }
 
-serves_whole : (tells : Bool) (w w' : Option WatcherView) (asked : Result Request Fault) (sent written out : List ℕ) (end : Option End)
-    → (IsTrue tells → written ≡ sent ++ out) → AnswersWhole w asked out end w' → ServesAsked tells w asked sent written end w'
-serves_whole tells w w' asked sent written out end is whole =
+serves_whole : (w w' : Option WatcherView) (asked : Result Request Fault) (sent written : Option (List ℕ)) (out : List ℕ) (end : Option End)
+    → Appends sent written out → AnswersWhole w asked out end w' → ServesAsked w asked sent written end w'
+serves_whole w w' asked sent written out end is whole =
     let o = whole_out w w' asked out end whole in record { out = out; written_is = is; outcome = o.outcome; watcher = o.watcher }
 
 -- an answer that was cut within a piece
-serves_cut : (tells : Bool) (w w' : Option WatcherView) (asked : Result Request Fault) (sent written front piece : List ℕ) (cut : Cut)
-    → (IsTrue tells → written ≡ sent ++ (front ++ take cut.sent piece)) → IsInFront w asked front → IsAnswerSoFar w asked (front ++ piece) → cut.sent < length piece → IsKeptOrLeft w w'
-    → ServesAsked tells w asked sent written (Some (CutOff cut)) w'
-serves_cut tells w w' asked sent written front piece cut is before answer fewer keeps = record {
+serves_cut : (w w' : Option WatcherView) (asked : Result Request Fault) (sent written : Option (List ℕ)) (front piece : List ℕ) (cut : Cut)
+    → Appends sent written (front ++ take cut.sent piece) → IsInFront w asked front → IsAnswerSoFar w asked (front ++ piece) → cut.sent < length piece → IsKeptOrLeft w w'
+    → ServesAsked w asked sent written (Some (CutOff cut)) w'
+serves_cut w w' asked sent written front piece cut is before answer fewer keeps = record {
   out = front ++ take cut.sent piece;
   written_is = is;
   outcome = inl record { front = front; piece = piece; front_is = before; answer = answer; fewer = fewer; out_is = refl };
@@ -148,44 +152,41 @@ serves_cut tells w w' asked sent written front piece cut is before answer fewer 
 }
 
 -- the whole answer was sent, or cut
-serves_sent : (tells : Bool) (w w' : Option WatcherView) (asked : Result Request Fault) (sent written text : List ℕ) (end result : Option End)
-    → IsSent tells sent written text end result → AnswersWhole w asked text end w' → ServesAsked tells w asked sent written result w'
-serves_sent tells w w' asked sent written text end result (inl s) whole = rw s.0 (serves_whole tells w w' asked sent written text end s.1 whole)
-serves_sent tells w w' asked sent written text end result (inr s) whole =
-    let o = whole_out w w' asked text end whole in rw s.1 (serves_cut tells w w' asked sent written [] text s.0 s.2 (inl refl) o.so_far s.3 o.watcher)
+serves_sent : (w w' : Option WatcherView) (asked : Result Request Fault) (sent written : Option (List ℕ)) (text : List ℕ) (end result : Option End)
+    → IsSent sent written text end result → AnswersWhole w asked text end w' → ServesAsked w asked sent written result w'
+serves_sent w w' asked sent written text end result (inl s) whole = rw s.0 (serves_whole w w' asked sent written text end s.1 whole)
+serves_sent w w' asked sent written text end result (inr s) whole =
+    let o = whole_out w w' asked text end whole in rw s.1 (serves_cut w w' asked sent written [] text s.0 s.2 (inl refl) o.so_far s.3 o.watcher)
 
 -- ---- Answers of pieces
 
-pub written_more : (tells : Bool) (sent so_far written out text : List ℕ) → (IsTrue tells → so_far ≡ sent ++ out) → (IsTrue tells → written ≡ so_far ++ text) → IsTrue tells → written ≡ sent ++ (out ++ text)
-written_more tells sent so_far written out text e is t = is t ∙ ap (λ (x : List ℕ). x ++ text) (e t) ∙ append_assoc sent out text
-
 -- the last piece is out whole
-pub piece_over : (tells : Bool) (w w' : Option WatcherView) (r : Request) (sent so_far written out : List ℕ) (p : Option (List ℕ)) (n : Then) (end : Option End)
-    → IsPiece w r out p n w' → n ≡ Over end → (IsTrue tells → so_far ≡ sent ++ out) → (IsTrue tells → written ≡ so_far ++ unwrap_or p []) → ServesAsked tells w (Ok r) sent written end w'
-piece_over tells w w' r sent so_far written out None n end piece is e more = absurd (rw is at piece)
-piece_over tells w w' r sent so_far written out (Some text) n end piece is e more =
-    serves_whole tells w w' (Ok r) sent written (out ++ text) end (written_more tells sent so_far written out text e more) (rw is at piece)
+pub piece_over : (w w' : Option WatcherView) (r : Request) (sent so_far written : Option (List ℕ)) (out : List ℕ) (p : Option (List ℕ)) (n : Then) (end : Option End)
+    → IsPiece w r out p n w' → n ≡ Over end → Appends sent so_far out → Appends so_far written (unwrap_or p []) → ServesAsked w (Ok r) sent written end w'
+piece_over w w' r sent so_far written out None n end piece is e more = absurd (rw is at piece)
+piece_over w w' r sent so_far written out (Some text) n end piece is e more =
+    serves_whole w w' (Ok r) sent written (out ++ text) end (Appends-trans sent so_far written out text e more) (rw is at piece)
 
 following_keeps : (w w' : Option WatcherView) (r : Request) (out : List ℕ) (told : ℕ) → Follows w r out told w' → IsKeptOrLeft w w'
 following_keeps w w' r out told f = rw (f.had, f.has) (f.posts, f.taken.0, f.taken.2)
 
 -- a piece was cut
-pub piece_cut : (tells : Bool) (w mid w' : Option WatcherView) (r : Request) (sent so_far written out : List ℕ) (told : ℕ) (p : Option (List ℕ)) (n : Then) (cut : Cut)
-    → IsSoFar w r out told mid → IsPiece w r out p n w' → IsCutPiece cut.sent p → (IsTrue tells → so_far ≡ sent ++ out) → (IsTrue tells → written ≡ so_far ++ take cut.sent (unwrap_or p []))
-    → ServesAsked tells w (Ok r) sent written (Some (CutOff cut)) w'
-piece_cut tells w mid w' r sent so_far written out told (Some text) (More next) cut s piece fewer e more =
-    serves_cut tells w w' (Ok r) sent written out text cut (written_more tells sent so_far written out (take cut.sent text) e more) (so_far_front w mid r out told s)
+pub piece_cut : (w mid w' : Option WatcherView) (r : Request) (sent so_far written : Option (List ℕ)) (out : List ℕ) (told : ℕ) (p : Option (List ℕ)) (n : Then) (cut : Cut)
+    → IsSoFar w r out told mid → IsPiece w r out p n w' → IsCutPiece cut.sent p → Appends sent so_far out → Appends so_far written (take cut.sent (unwrap_or p []))
+    → ServesAsked w (Ok r) sent written (Some (CutOff cut)) w'
+piece_cut w mid w' r sent so_far written out told (Some text) (More next) cut s piece fewer e more =
+    serves_cut w w' (Ok r) sent written out text cut (Appends-trans sent so_far written out (take cut.sent text) e more) (so_far_front w mid r out told s)
     (inr (inr (following_so_far w w' r (out ++ text) next piece))) fewer (following_keeps w w' r (out ++ text) next piece)
-piece_cut tells w mid w' r sent so_far written out told (Some text) (Over end) cut s piece fewer e more =
+piece_cut w mid w' r sent so_far written out told (Some text) (Over end) cut s piece fewer e more =
     let o = whole_out w w' (Ok r) (out ++ text) end piece in
-    serves_cut tells w w' (Ok r) sent written out text cut (written_more tells sent so_far written out (take cut.sent text) e more) (so_far_front w mid r out told s) o.so_far fewer o.watcher
-piece_cut tells w mid w' r sent so_far written out told None (More next) cut s piece none e more = record {
+    serves_cut w w' (Ok r) sent written out text cut (Appends-trans sent so_far written out (take cut.sent text) e more) (so_far_front w mid r out told s) o.so_far fewer o.watcher
+piece_cut w mid w' r sent so_far written out told None (More next) cut s piece none e more = record {
   out = out ++ [];
-  written_is = written_more tells sent so_far written out [] e (λ t. more t ∙ ap (λ (k : ℕ). so_far ++ take k []) none);
+  written_is = Appends-trans sent so_far written out [] e (subst (λ (k : ℕ). Appends so_far written (take k [])) none more);
   outcome = inr (none, following_so_far w w' r (out ++ []) next piece);
   watcher = following_keeps w w' r (out ++ []) next piece;
 }
-piece_cut tells w mid w' r sent so_far written out told None (Over end) cut s piece none e more = absurd piece
+piece_cut w mid w' r sent so_far written out told None (Over end) cut s piece none e more = absurd piece
 
 -- the last piece of an answer is never the cause that a writer ends the session
 pub piece_uncut : (w w' : Option WatcherView) (r : Request) (out : List ℕ) (p : Option (List ℕ)) (n : Then) (end : Option End) → IsPiece w r out p n w' → n ≡ Over end → is_uncut end ≡ true
@@ -195,42 +196,50 @@ piece_uncut w w' r out (Some text) n end piece is = (whole_out w w' (Ok r) (out 
 -- ---- Lines
 
 -- a line that is refused for itself, that says no request, or that could not be read for want of memory
-refused_served : (tells : Bool) (w : Option WatcherView) (f : Fault) (sent written : List ℕ) (result : Option End) → IsSent tells sent written (refusal f) None result → ServesAsked tells w (Err f) sent written result w
-refused_served tells w f sent written result s = serves_sent tells w w (Err f) sent written (refusal f) None result s (inl (inl (refl, refl), refl))
+refused_served : (w : Option WatcherView) (f : Fault) (sent written : Option (List ℕ)) (result : Option End) → IsSent sent written (refusal f) None result → ServesAsked w (Err f) sent written result w
+refused_served w f sent written result s = serves_sent w w (Err f) sent written (refusal f) None result s (inl (inl (refl, refl), refl))
 
-pub unread_served : (tells : Bool) (w : Option WatcherView) (asked : Result Request Fault) (f : Fault) (sent written : List ℕ) (result : Option End)
-    → ReadsAs asked (Err f) → IsSent tells sent written (refusal f) None result → ServesAsked tells w asked sent written result w
-unread_served tells w asked f sent written result (inl e) s = rw (← e) (refused_served tells w f sent written result s)
-unread_served tells w asked f sent written result (inr (e, m)) s =
+pub unread_served : (w : Option WatcherView) (asked : Result Request Fault) (f : Fault) (sent written : Option (List ℕ)) (result : Option End)
+    → ReadsAs asked (Err f) → IsSent sent written (refusal f) None result → ServesAsked w asked sent written result w
+unread_served w asked f sent written result (inl e) s = rw (← e) (refused_served w f sent written result s)
+unread_served w asked f sent written result (inr (e, m)) s =
     let same : f ≡ WantsMemory = cc in
     let goes : ends_by asked ≡ None = grind arith in
-    serves_sent tells w w asked sent written (refusal f) None result s (inl (inr (ap refusal same, inl (m, refl)), sym goes))
+    serves_sent w w asked sent written (refusal f) None result s (inl (inr (ap refusal same, inl (m, refl)), sym goes))
 
-pub read_is : (tells : Bool) (w w' : Option WatcherView) (asked : Result Request Fault) (r : Request) (sent written : List ℕ) (result : Option End)
-    → ReadsAs asked (Ok r) → ServesAsked tells w (Ok r) sent written result w' → ServesAsked tells w asked sent written result w'
-read_is tells w w' asked r sent written result (inl e) s = rw (← e) s
-read_is tells w w' asked r sent written result (inr e) s = cc
+pub read_is : (w w' : Option WatcherView) (asked : Result Request Fault) (r : Request) (sent written : Option (List ℕ)) (result : Option End)
+    → ReadsAs asked (Ok r) → ServesAsked w (Ok r) sent written result w' → ServesAsked w asked sent written result w'
+read_is w w' asked r sent written result (inl e) s = rw (← e) s
+read_is w w' asked r sent written result (inr e) s = cc
+
+-- an answer that ends the session leaves its input open
+answer_input : (by : End) (w : Option WatcherView) (asked : Result Request Fault) (out : List ℕ) (before : Option (List ℕ)) (items : List Item) → EndsOfAnswer by w asked out → EndsInput by before items
+answer_input Input w asked out before items h = absurd h
+answer_input (Read f) w asked out before items h = absurd h
+answer_input by w asked out before items h = tt
 
 -- a line with its line end
-line_served : (tells : Bool) (before later : List ℕ) (line : Asking) (w w' : Option WatcherView) (sent written : List ℕ) (result : Option End) → IsTrue tells
-    → lines_of line_limit before ≡ item_of line ∷ lines_of line_limit later → has_end line ≡ true → ServesAsked tells w (request_of_line line) sent written result w'
+line_served : (before later : Option (List ℕ)) (line : Asking) (w w' : Option WatcherView) (sent written : Option (List ℕ)) (result : Option End)
+    → PassLines before (item_of line ∷ []) later → has_end line ≡ true → ServesAsked w (request_of_line line) sent written result w'
     → ServedSharedLine before later w w' sent written result
-line_served tells before later line w w' sent written None t lines ends s =
+line_served before later line w w' sent written None lines ends s =
     let turn : SharedTurn = record { line = line; text = s.out } in (
       turn,
       record {
         lines = lines;
         told = (w', s.outcome.0, refl);
         goes = (ends, s.outcome.1, tt);
-        written_is = s.written_is t ∙ ap (λ (x : List ℕ). sent ++ x) (sym (append-nil s.out));
+        written_is = subst (λ (x : List ℕ). Appends sent written x) (sym (append-nil s.out)) s.written_is;
       },
     )
-line_served tells before later line w w' sent written (Some by) t lines ends s = record {
-  items = item_of line ∷ lines_of line_limit later;
+line_served before later line w w' sent written (Some by) lines ends s = record {
+  last = item_of line ∷ [];
+  rest = later;
   lines = lines;
+  input = answer_input by w (request_of_line line) s.out before (item_of line ∷ []) s.outcome;
   out = s.out;
-  written_is = s.written_is t;
-  ends = inr (line, lines_of line_limit later, refl, s.outcome);
+  written_is = s.written_is;
+  ends = inr (line, refl, refl, s.outcome);
   left = was_left w w' s.watcher;
 }
 
@@ -238,40 +247,45 @@ line_served tells before later line w w' sent written (Some by) t lines ends s =
 left_so : (w : Option WatcherView) → HasLeft w → WasLeft w
 left_so w left = was_left w w (kept_same w) left
 
-unended_served : (tells : Bool) (before later : List ℕ) (w : Option WatcherView) (sent written : List ℕ) (result : Option End) → IsTrue tells
-    → lines_of line_limit before ≡ Unended ∷ [] → IsSent tells sent written (refusal BadLine) (Some Input) result → ServedSharedLine before later w w sent written result
-unended_served tells before later w sent written result t lines (inl s) =
-    rw s.0 record { items = Unended ∷ []; lines = lines; out = refusal BadLine; written_is = s.1 t; ends = inl (inr (refl, refl)); left = left_so w }
-unended_served tells before later w sent written result t lines (inr s) =
+unended_served : (before later : Option (List ℕ)) (w : Option WatcherView) (sent written : Option (List ℕ)) (result : Option End)
+    → PassLines before (Unended ∷ []) later → EndsInput Input before (Unended ∷ []) → IsSent sent written (refusal BadLine) (Some Input) result → ServedSharedLine before later w w sent written result
+unended_served before later w sent written result lines input (inl s) =
+    rw s.0 record { last = Unended ∷ []; rest = later; lines = lines; input = input; out = refusal BadLine; written_is = s.1; ends = inl (refl, inr (refl, refl)); left = left_so w }
+unended_served before later w sent written result lines input (inr s) =
     rw s.1 record {
-      items = Unended ∷ [];
+      last = Unended ∷ [];
+      rest = later;
       lines = lines;
+      input = tt;
       out = take s.0.sent (refusal BadLine);
-      written_is = s.2 t;
-      ends = inr (Broken, [], refl, inl record { front = []; piece = refusal BadLine; front_is = inl refl; answer = inl (w, inl (refl, refl)); fewer = s.3; out_is = refl });
+      written_is = s.2;
+      ends = inr (Broken, refl, refl, inl record { front = []; piece = refusal BadLine; front_is = inl refl; answer = inl (w, inl (refl, refl)); fewer = s.3; out_is = refl });
       left = left_so w;
     }
 
 -- the input brings the end, for which nothing is written
-input_ends : (before : List ℕ) (items : List Item) (w : Option WatcherView) (sent : List ℕ) (by : End) → lines_of line_limit before ≡ items → EndsOfInput by items [] → SharedEnding before w w sent sent by
-input_ends before items w sent by lines ends = record { items = items; lines = lines; out = []; written_is = sym (append-nil sent); ends = inl ends; left = left_so w }
+input_ends : (before rest later : Option (List ℕ)) (w : Option WatcherView) (sent written : Option (List ℕ)) (by : End) → PassLines before [] rest → EndsInput by before [] → Keeps sent written → EndsOfInput by [] rest later []
+    → SharedEnding before later w w sent written by
+input_ends before rest later w sent written by lines input keeps ends =
+    record { last = []; rest = rest; lines = lines; input = input; out = []; written_is = kept_nothing sent written keeps; ends = inl ends; left = left_so w }
 
 -- the reader failed: with the limit of sessions it never wants memory
-pub fault_served : (limit : ℕ) (before later kept : List ℕ) (f : ReadFault) (w : Option WatcherView) (sent : List ℕ)
-    → limit ≡ line_limit → (f ≡ NoRoom → 8192 < limit) → IsNext limit before (Err f) kept later → ServedSharedLine before later w w sent sent (Some (Read f))
-fault_served limit before later kept NeverEnds w sent e m n =
-    let n : IsNext line_limit before (Err NeverEnds) kept later = rw e at n in input_ends before (Endless ∷ n.0) w sent (Read NeverEnds) n.1 (n.0, refl, refl)
-fault_served limit before later kept NoRoom w sent e m n = absurd (let over = m refl in omega (arith, over, e))
-fault_served limit before later kept f w sent e m n = input_ends before (lines_of line_limit before) w sent (Read f) refl refl
+pub fault_served : (limit : ℕ) (before later : Option (List ℕ)) (kept : List ℕ) (f : ReadFault) (w : Option WatcherView) (sent written : Option (List ℕ))
+    → limit ≡ line_limit → (f ≡ NoRoom → 8192 < limit) → IsNextKnown limit before (Err f) kept later → LosesNoLine (Err f) before later → Keeps sent written → ServedSharedLine before later w w sent written (Some (Read f))
+fault_served limit before later kept NeverEnds w sent written e m n whole keeps = input_ends before before later w sent written (Read NeverEnds) (pass_none before) (pass_endless limit before later kept e n) keeps (refl, refl)
+fault_served limit before later kept NoRoom w sent written e m n whole keeps = absurd (let over = m refl in omega (arith, over, e))
+fault_served limit before later kept f w sent written e m n whole keeps = input_ends before before later w sent written (Read f) (pass_none before) tt keeps (whole, refl, refl)
 
 -- a line that a reader served
-pub line_answered : (tells : Bool) (before later bytes : List ℕ) (line : Line) (w w' : Option WatcherView) (sent written : List ℕ) (result : Option End) → IsTrue tells
-    → IsNext line_limit before (Ok line) bytes later → ServesLine tells line bytes w sent written result w' → ServedSharedLine before later w w' sent written result
-line_answered tells before later bytes TextLine w w' sent written result t n a = line_served tells before later (Whole bytes) w w' sent written result t n refl a
-line_answered tells before later bytes LongLine w w' sent written result t n a =
-    rw a.0 (line_served tells before later Overlong w w sent written result t n refl (refused_served tells w LineTooLong sent written result a.1))
-line_answered tells before later bytes BrokenLine w w' sent written result t n a = rw a.0 (unended_served tells before later w sent written result t n.0 a.1)
-line_answered tells before later bytes NoLine w w' sent written result t n a = rw (a.0, a.1 t, a.2) (input_ends before [] w sent Input n.0 (inl (refl, refl)))
+pub line_answered : (before later : Option (List ℕ)) (bytes : List ℕ) (line : Line) (w w' : Option WatcherView) (sent written : Option (List ℕ)) (result : Option End)
+    → IsNextKnown line_limit before (Ok line) bytes later → ServesLine line bytes w sent written result w' → ServedSharedLine before later w w' sent written result
+line_answered before later bytes TextLine w w' sent written result n a = line_served before later (Whole bytes) w w' sent written result (pass_text before later bytes n) refl a
+line_answered before later bytes LongLine w w' sent written result n a =
+    rw a.0 (line_served before later Overlong w w sent written result (pass_long before later bytes n) refl (refused_served w LineTooLong sent written result a.1))
+line_answered before later bytes BrokenLine w w' sent written result n a =
+    let passed = pass_broken before later bytes n in rw a.0 (unended_served before later w sent written result passed.0 passed.1 a.1)
+line_answered before later bytes NoLine w w' sent written result n a =
+    let passed = pass_end before later bytes n in rw (a.0, a.2) (input_ends before later later w sent written Input passed.0 passed.1 a.1 (refl, inl (refl, refl)))
 
 -- lines one after another
 AreTurns-append : (xs ys : List SharedTurn) (w mid w' : Option WatcherView) → AreTurns w xs mid → AreTurns mid ys w' → AreTurns w (xs ++ ys) w'
@@ -282,53 +296,86 @@ TurnsGoOn-append : (xs ys : List SharedTurn) → TurnsGoOn xs → TurnsGoOn ys �
 TurnsGoOn-append [] ys h k = k
 TurnsGoOn-append (x ∷ xs) ys h k = (h.0, h.1, TurnsGoOn-append xs ys h.2 k)
 
-pub going_more : (turns more : List SharedTurn) (before mid later : List ℕ) (w now w' : Option WatcherView) (sent so_far written : List ℕ)
+pub going_none : (before : Option (List ℕ)) (w : Option WatcherView) (sent : Option (List ℕ)) → SharedGoing [] before before w w sent sent
+going_none before w sent = record { lines = pass_none before; told = refl; goes = tt; written_is = Appends-nil sent }
+
+pub going_more : (turns more : List SharedTurn) (before mid later : Option (List ℕ)) (w now w' : Option WatcherView) (sent so_far written : Option (List ℕ))
     → SharedGoing turns before mid w now sent so_far → SharedGoing more mid later now w' so_far written → SharedGoing (turns ++ more) before later w w' sent written
 going_more turns more before mid later w now w' sent so_far written a b =
     let item : SharedTurn → Item = λ (t : SharedTurn). item_of t.line in
     let text : SharedTurn → List ℕ = λ (t : SharedTurn). t.text in
     record {
-      lines = a.lines ∙ ap (λ (x : List Item). map item turns ++ x) b.lines ∙ sym (ap (λ (x : List Item). x ++ lines_of line_limit later) (map-append item turns more) ∙ append_assoc (map item turns) (map item more) (lines_of line_limit later));
+      lines = subst (λ (x : List Item). PassLines before x later) (sym (map-append item turns more)) (pass_more before mid later (map item turns) (map item more) a.lines b.lines);
       told = AreTurns-append turns more w now w' a.told b.told;
       goes = TurnsGoOn-append turns more a.goes b.goes;
-      written_is = b.written_is ∙ ap (λ (x : List ℕ). x ++ flat_map text more) a.written_is ∙ append_assoc sent (flat_map text turns) (flat_map text more) ∙ ap (λ (x : List ℕ). sent ++ x) (sym (flat_map-append text turns more));
+      written_is = subst (λ (x : List ℕ). Appends sent written x) (sym (flat_map-append text turns more)) (Appends-trans sent so_far written (flat_map text turns) (flat_map text more) a.written_is b.written_is);
     }
 
 -- the session ends with the next line
-pub served_ending : (turns : List SharedTurn) (before mid : List ℕ) (w now then : Option WatcherView) (sent so_far written : List ℕ) (by : End)
-    → w ≡ None → SharedGoing turns before mid w now sent so_far → SharedEnding mid now then so_far written by → length turns < 16777216 → HasLeft then → ServedShared before sent written by
-served_ending turns before mid w now then sent so_far written by none a b count left =
+pub served_ending : (turns : List SharedTurn) (before mid later : Option (List ℕ)) (w now then : Option WatcherView) (sent so_far written : Option (List ℕ)) (by : End)
+    → w ≡ None → SharedGoing turns before mid w now sent so_far → SharedEnding mid later now then so_far written by → length turns < 16777216 → HasLeft then → ServedShared before later sent written by
+served_ending turns before mid later w now then sent so_far written by none a b count left =
     let item : SharedTurn → Item = λ (t : SharedTurn). item_of t.line in
     let text : SharedTurn → List ℕ = λ (t : SharedTurn). t.text in
     record {
       turns = turns;
       watcher = now;
-      items = b.items;
+      last = b.last;
+      rest = b.rest;
       out = b.out;
-      lines = a.lines ∙ ap (λ (x : List Item). map item turns ++ x) b.lines;
+      lines = pass_more before mid b.rest (map item turns) b.last a.lines b.lines;
+      input = input_more by before mid (map item turns) b.last a.lines b.input;
       told = rw none at a.told;
       goes = a.goes;
-      written_is = b.written_is ∙ ap (λ (x : List ℕ). x ++ b.out) a.written_is ∙ append_assoc sent (flat_map text turns) b.out;
+      written_is = Appends-trans sent so_far written (flat_map text turns) b.out a.written_is b.written_is;
       ends = inl (count, b.ends);
       count = omega (arith, count);
       left = b.left left;
     }
 
 -- as many lines were served as a session serves
-pub served_spent : (turns : List SharedTurn) (before later : List ℕ) (w now : Option WatcherView) (sent written : List ℕ)
-    → w ≡ None → SharedGoing turns before later w now sent written → length turns ≡ 16777216 → HasLeft now → ServedShared before sent written Spent
+pub served_spent : (turns : List SharedTurn) (before later : Option (List ℕ)) (w now : Option WatcherView) (sent written : Option (List ℕ))
+    → w ≡ None → SharedGoing turns before later w now sent written → length turns ≡ 16777216 → HasLeft now → ServedShared before later sent written Spent
 served_spent turns before later w now sent written none a count left =
+    let item : SharedTurn → Item = λ (t : SharedTurn). item_of t.line in
     let text : SharedTurn → List ℕ = λ (t : SharedTurn). t.text in
     record {
       turns = turns;
       watcher = now;
-      items = lines_of line_limit later;
+      last = [];
+      rest = later;
       out = [];
-      lines = a.lines;
+      lines = subst (λ (x : List Item). PassLines before x later) (sym (append-nil (map item turns))) a.lines;
+      input = tt;
       told = rw none at a.told;
       goes = a.goes;
-      written_is = a.written_is ∙ ap (λ (x : List ℕ). sent ++ x) (sym (append-nil (flat_map text turns)));
-      ends = inr (count, refl);
+      written_is = subst (λ (x : List ℕ). Appends sent written x) (sym (append-nil (flat_map text turns))) a.written_is;
+      ends = inr (count, refl, refl, refl);
       count = omega (arith, count);
       left = left_so now left;
     }
+
+-- ---- What brings no end by the reader
+
+serves_read : (w w' : Option WatcherView) (asked : Result Request Fault) (sent written : Option (List ℕ)) (result : Option End) → ServesAsked w asked sent written result w' → is_by_answer result ≡ true
+serves_read w w' asked sent written None s = refl
+serves_read w w' asked sent written (Some by) s = ends_answer by w asked s.out s.outcome where
+  ends_answer : (by : End) (w : Option WatcherView) (asked : Result Request Fault) (out : List ℕ) → EndsOfAnswer by w asked out → is_by_answer (Some by) ≡ true
+  ends_answer (Read f) w asked out h = absurd h
+  ends_answer by w asked out h = refl
+
+sent_read : (sent written : Option (List ℕ)) (text : List ℕ) (wanted result : Option End) → is_by_answer wanted ≡ true → IsSent sent written text wanted result → is_by_answer result ≡ true
+sent_read sent written text wanted result h (inl s) = rw s.0 h
+sent_read sent written text wanted result h (inr s) = rw s.1 refl
+
+answered_by : (line : Line) (bytes : List ℕ) (w w' : Option WatcherView) (sent written : Option (List ℕ)) (result : Option End) → ServesLine line bytes w sent written result w' → is_by_answer result ≡ true
+answered_by TextLine bytes w w' sent written result a = serves_read w w' (request_of bytes) sent written result a
+answered_by LongLine bytes w w' sent written result a = sent_read sent written (refusal LineTooLong) None result refl a.1
+answered_by BrokenLine bytes w w' sent written result a = sent_read sent written (refusal BadLine) (Some Input) result refl a.1
+answered_by NoLine bytes w w' sent written result a = rw a.2 refl
+
+pub answered_read : (line : Line) (bytes : List ℕ) (w w' : Option WatcherView) (sent written : Option (List ℕ)) (result : Option End) (before after : ℕ) → ServesLine line bytes w sent written result w' → before ≤ after → IsReadEnd result before after
+answered_read line bytes w w' sent written result before after a le = by_answer_read result before after (answered_by line bytes w w' sent written result a) le
+
+pub answered_run : (line : Line) (bytes : List ℕ) (w w' : Option WatcherView) (sent written : Option (List ℕ)) (result : Option End) (faults : List StreamFault) → ServesLine line bytes w sent written result w' → faults ≡ [] → IsReadEndRun result faults
+answered_run line bytes w w' sent written result faults a none = by_answer_run result faults (answered_by line bytes w w' sent written result a) none

@@ -238,7 +238,7 @@ follows_in_order w l =
 
 -- what a session's watcher has taken behind each of its lines is in order, and gives the tables
 pub shared_sessions_follow : SharedSessionsFollow
-shared_sessions_follow before sent written by s front back is =
+shared_sessions_follow before later sent written by s front back is =
     let t = turns_split front back None s.watcher (subst (λ (l : List SharedTurn). AreTurns None l s.watcher) is s.told) in
     let left = turns_left back t.0 s.watcher t.2 s.left in
     (t.0, t.1, t.2, λ w own. follows_in_order w (subst WasLeft own left))

@@ -3,7 +3,7 @@
 --
 -- The posts that a session tells of a watcher by `take`, `follow` and `close` are a prefix of those posted for the namespaces it follows since its opening,
 -- each once and in order; and applied to the opening that `watch` told, they give each namespace's table as of its last told number.
-use Rattle.std.specs.Prelude.{◌≡◌, ◌⊎◌, ℕ, cond, ◌==◌, List, [], ◌∷◌, ◌++◌, length, replicate, Some, None, slice_get, Result, Ok, Err, if◌then◌else◌}
+use Rattle.std.specs.Prelude.{◌≡◌, ◌⊎◌, ℕ, cond, ◌==◌, List, [], ◌∷◌, ◌++◌, length, replicate, Some, None, slice_get, Option, Result, Ok, Err, if◌then◌else◌}
 use Rattle.mt_skel.specs.declared.fault.Fault.{Fault}
 use Rattle.mt_events.specs.Posts.{PostView}
 use Rattle.mt_events.specs.declared.opening.Opening.{Opening}
@@ -128,14 +128,14 @@ pub record IsSession (capacity : ℕ) (before : List Event) (turns : List Turn) 
       → HasHeard capacity (before ++ session_events turns state) key (answer_to_turn (state_after front state) turn) (session_told key behind (state_after_turn (state_after front state) turn))
 
 -- a session was served on a floor that these events had led to: what was due was sent, then its lines were served, and then its watcher was closed
-pub record IsTranscript (capacity : ℕ) (before : List Event) (bytes : List ℕ) (old new : FloorView) (sent written : List ℕ) (by : End) : Type 0 where
-  pub served : Served bytes (session_at old None) (session_state new None) sent written by
+pub record IsTranscript (capacity : ℕ) (before : List Event) (bytes later : Option (List ℕ)) (old new : FloorView) (sent written : Option (List ℕ)) (by : End) : Type 0 where
+  pub served : Served bytes later (session_at old None) (session_state new None) sent written by
   pub session : IsSession capacity (before ++ sends old) (served.turns ++ served.last) (session_at old None)
   pub floor : new ≡ floor_after capacity ((before ++ sends old) ++ (session_events (served.turns ++ served.last) (session_at old None) ++ leaves (state_after (served.turns ++ served.last) (session_at old None))))
 
 -- a session was served: so it is, whatever events had led to the floor from one with nothing done
-abbrev pub TranscriptHolds : List ℕ → FloorView → FloorView → List ℕ → List ℕ → End → Type 0
-TranscriptHolds bytes old new sent written by = (capacity : ℕ) (before : List Event) → old ≡ floor_after capacity before → IsTranscript capacity before bytes old new sent written by
+abbrev pub TranscriptHolds : Option (List ℕ) → Option (List ℕ) → FloorView → FloorView → Option (List ℕ) → Option (List ℕ) → End → Type 0
+TranscriptHolds bytes later old new sent written by = (capacity : ℕ) (before : List Event) → old ≡ floor_after capacity before → IsTranscript capacity before bytes later old new sent written by
 
 -- so it is of any lines, from a floor on which nothing is due
 abbrev pub SessionsFollow : Type 0

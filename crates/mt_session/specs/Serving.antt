@@ -1,8 +1,9 @@
 -- One line of a session, as its steps see it. No public clause cites this module.
 -- A word with no source is this project's rule.
-use Rattle.std.specs.Prelude.{◌≡◌, ℕ, ◌+◌, ◌<◌, ◌≤◌, List, [], ◌∷◌, ◌++◌, length, take, Bool, true, false, IsTrue, Option, None, Some, ◌⊎◌}
+use Rattle.std.specs.Prelude.{◌≡◌, ℕ, ◌<◌, List, length, take, Bool, true, false, Option, None, Some, ◌⊎◌}
 use Rattle.std.specs.Option.{ForSome}
 use Rattle.mt_skel.specs.declared.fault.Fault.TheVariants.{BadLine, TooLong as LineTooLong}
+use Rattle.std.specs.Io.KnownBytes.{Appends, Keeps}
 use Rattle.mt_lines.specs.declared.stream.Cut.{Cut}
 use Rattle.mt_lines.specs.declared.line.Line.{Line}
 use Rattle.mt_lines.specs.declared.line.Line.TheVariants.{Text, TooLong, Unended, End as NoLine}
@@ -12,10 +13,10 @@ use Rattle.mt_floor.specs.declared.watch.Phase.{Phase}
 use Rattle.mt_floor.specs.declared.event.Answer.{Answer}
 use Rattle.mt_floor.specs.declared.event.Answer.TheVariants.{Replied, Opened, Met}
 use Rattle.mt_session.specs.declared.serving.End.{End}
-use Rattle.mt_session.specs.declared.serving.End.TheVariants.{Quit, Stop, Input, Cut as CutOff, Memory, Spent}
+use Rattle.mt_session.specs.declared.serving.End.TheVariants.{Quit, Stop, Input, Cut as CutOff}
 use Rattle.mt_session.specs.Requests.{SessionState}
 use Rattle.mt_session.specs.Answers.{refusal}
-use Rattle.mt_session.specs.Session.{Growth, Asking, Whole, Turn, answer_to_turn, state_after_turn, end_of_turn, Going, ServedThen}
+use Rattle.mt_session.specs.Session.{Growth, Asking, Whole, Turn, answer_to_turn, state_after_turn, end_of_turn, ServedThen}
 
 -- an end that a line brings once its answer is out whole
 abbrev pub ends_whole : End → Bool
@@ -32,12 +33,6 @@ ends_by_answer Input = true
 ends_by_answer (CutOff cut) = true
 ends_by_answer _ = false
 
--- an end that a line brings, or the want of one
-abbrev pub ends_by_line : End → Bool
-ends_by_line Memory = false
-ends_by_line Spent = false
-ends_by_line _ = true
-
 abbrev pub the_turn : Asking → Growth → Turn
 the_turn line growth = record { line = line; growth = growth }
 
@@ -47,28 +42,22 @@ Answered old new line text end =
     (growth : Growth) × (text ≡ answer_to_turn old (the_turn line growth)) × (new ≡ state_after_turn old (the_turn line growth)) × (end ≡ end_of_turn (the_turn line growth))
 
 -- a session's lines, with its watcher as they left it
-abbrev pub Ran : List ℕ → SessionState → SessionState → List ℕ → List ℕ → End → Type 0
-Ran before old new sent written by = ServedThen (λ state. state) before old new sent written by
+abbrev pub Ran : Option (List ℕ) → Option (List ℕ) → SessionState → SessionState → Option (List ℕ) → Option (List ℕ) → End → Type 0
+Ran before later old new sent written by = ServedThen (λ state. state) before later old new sent written by
 
--- the text went out whole, and the session ends as it would, or it was cut; a writer shows what went out if it tells its bytes
-abbrev pub IsSent : Bool → List ℕ → List ℕ → List ℕ → Option End → Option End → Type 0
-IsSent tells sent written text wanted result =
-    ((result ≡ wanted) × (IsTrue tells → written ≡ sent ++ text))
-    ⊎ ((cut : Cut) × (result ≡ Some (CutOff cut)) × (IsTrue tells → written ≡ sent ++ take cut.sent text) × (cut.sent < length text))
+-- the text went out whole, and the session ends as it would, or it was cut
+abbrev pub IsSent : Option (List ℕ) → Option (List ℕ) → List ℕ → Option End → Option End → Type 0
+IsSent sent written text wanted result =
+    ((result ≡ wanted) × Appends sent written text)
+    ⊎ ((cut : Cut) × (result ≡ Some (CutOff cut)) × Appends sent written (take cut.sent text) × (cut.sent < length text))
 
 -- what a reader said of a line was answered, and so the session ends with it, if it does
-abbrev pub AnswersLine : Bool → Line → List ℕ → SessionState → SessionState → List ℕ → List ℕ → Option End → Type 0
-AnswersLine tells Text bytes old new sent written result =
-    (text : List ℕ) × (end : Option End) × Answered old new (Whole bytes) text end × ForSome end (λ e. ends_whole e ≡ true) × IsSent tells sent written text end result
-AnswersLine tells TooLong bytes old new sent written result = (new ≡ old) × IsSent tells sent written (refusal LineTooLong) None result
-AnswersLine tells Unended bytes old new sent written result = (new ≡ old) × IsSent tells sent written (refusal BadLine) (Some Input) result
-AnswersLine tells NoLine bytes old new sent written result = (new ≡ old) × (IsTrue tells → written ≡ sent) × (result ≡ Some Input)
-
--- a line was served: the session goes on, or has ended with it
-abbrev pub ServedLine : List ℕ → List ℕ → SessionState → SessionState → List ℕ → List ℕ → Option End → Type 0
-ServedLine before later old new sent written None = (turn : Turn) × Going (turn ∷ []) before later old new sent written
-ServedLine before later old new sent written (Some by) =
-    (ran : Ran before old new sent written by) × (length ran.turns + length ran.last ≤ 1)
+abbrev pub AnswersLine : Line → List ℕ → SessionState → SessionState → Option (List ℕ) → Option (List ℕ) → Option End → Type 0
+AnswersLine Text bytes old new sent written result =
+    (text : List ℕ) × (end : Option End) × Answered old new (Whole bytes) text end × ForSome end (λ e. ends_whole e ≡ true) × IsSent sent written text end result
+AnswersLine TooLong bytes old new sent written result = (new ≡ old) × IsSent sent written (refusal LineTooLong) None result
+AnswersLine Unended bytes old new sent written result = (new ≡ old) × IsSent sent written (refusal BadLine) (Some Input) result
+AnswersLine NoLine bytes old new sent written result = (new ≡ old) × Keeps sent written × (result ≡ Some Input)
 
 -- what an answer of the floor holds
 abbrev pub reply_in : Answer → Option Reply

@@ -1,6 +1,6 @@
 -- What a plain session writes and does: the fold of its lines over a floor and its watcher.
 -- A word with no source is this project's rule.
-use Rattle.std.specs.Prelude.{◌≡◌, ℕ, ◌+◌, ◌<◌, ◌≤◌, List, [], ◌∷◌, ◌++◌, take, map, length, Result, Ok, Err, Bool, true, false, if◌then◌else◌, Option, Some, None, ◌⊎◌}
+use Rattle.std.specs.Prelude.{◌≡◌, ℕ, ◌+◌, ◌<◌, ◌≤◌, List, [], ◌∷◌, ◌++◌, take, map, length, Result, Ok, Err, Bool, true, false, if◌then◌else◌, Option, Some, None, ◌⊎◌, ⊤}
 use Rattle.mt_skel.specs.declared.fault.Fault.{Fault}
 use Rattle.mt_skel.specs.declared.fault.Fault.TheVariants.{BadLine, TooLong as LineTooLong, NoMemory as WantsMemory}
 use Rattle.mt_requests.specs.declared.request.Request.{Request}
@@ -10,7 +10,8 @@ use Rattle.mt_lines.specs.declared.line.ReadFault.TheVariants.{Device, Interrupt
 use Rattle.mt_session.specs.declared.serving.End.{End}
 use Rattle.mt_session.specs.declared.serving.End.TheVariants.{Quit, Stop, Input, Read, Cut as CutOff, Memory, Spent}
 use Rattle.mt_requests.specs.Requests.{request_of}
-use Rattle.mt_lines.specs.Lines.{Item, Text, TooLong, Unended, Endless, lines_of}
+use Rattle.std.specs.Io.KnownBytes.{Appends, Consumes}
+use Rattle.mt_lines.specs.Lines.{Item, Text, TooLong, Unended, Endless, Unbroken, lines_of}
 use Rattle.mt_lines.specs.Stream.{HasFailed, IsInterrupted}
 use Rattle.mt_lines.specs.Reading.{IsFaultCause, IsFaultRun}
 use Rattle.mt_session.specs.Answers.{refusal}
@@ -125,11 +126,27 @@ line_limit = 8192
 abbrev pub most_lines : ℕ
 most_lines = 16777216
 
+-- some bytes begin with these lines, and what is left after them; known bytes stay known
+abbrev pub PassLines : Option (List ℕ) → List Item → Option (List ℕ) → Type 0
+PassLines None items later = ⊤
+PassLines (Some before) items None = ⊥
+PassLines (Some before) items (Some later) = lines_of line_limit before ≡ items ++ lines_of line_limit later
+
+-- where the input ended, these are all its lines, and where a line of it goes on far past the limit, those in front of that
+abbrev pub EndsInput : End → Option (List ℕ) → List Item → Type 0
+EndsInput Input (Some before) items = lines_of line_limit before ≡ items
+EndsInput (Read NeverEnds) (Some before) items = (more : List Item) × (lines_of line_limit before ≡ items ++ Endless ∷ more)
+EndsInput by before items = ⊤
+
+-- no whole line was read and not answered: what the reader took has no line end
+abbrev pub IsPartRead : Option (List ℕ) → Option (List ℕ) → Type 0
+IsPartRead rest left = (part : List ℕ) × Unbroken part × Consumes rest left part
+
 -- the session has served these lines and goes on
-pub record Going (turns : List Turn) (before later : List ℕ) (old new : SessionState) (sent written : List ℕ) : Type 0 where
-  pub lines : lines_of line_limit before ≡ items_of turns ++ lines_of line_limit later
+pub record Going (turns : List Turn) (before later : Option (List ℕ)) (old new : SessionState) (sent written : Option (List ℕ)) : Type 0 where
+  pub lines : PassLines before (items_of turns) later
   pub state : new ≡ state_after turns old
-  pub out : written ≡ sent ++ text_of turns old
+  pub out : Appends sent written (text_of turns old)
   pub goes : AllGoOn turns
 
 -- how much of the last answer went out
@@ -137,36 +154,43 @@ abbrev pub sent_by : End → List ℕ → List ℕ
 sent_by (CutOff cut) text = take cut.sent text
 sent_by _ text = text
 
--- why the session ended, by the lines served whole, the last line and its answer's text, and the lines not
--- read: a cut within the last answer, and no want of memory; a line of this limit never wants any
-abbrev pub IsCause : End → List Turn → List Turn → List ℕ → List Item → Type 0
-IsCause Quit turns last text later = (turn : Turn) × (last ≡ turn ∷ []) × (end_of_turn turn ≡ Some Quit)
-IsCause Stop turns last text later = (turn : Turn) × (last ≡ turn ∷ []) × (end_of_turn turn ≡ Some Stop)
-IsCause Input turns last text later = (later ≡ []) × ((last ≡ []) ⊎ ((turn : Turn) × (last ≡ turn ∷ []) × (turn.line ≡ Broken)))
-IsCause (Read NeverEnds) turns last text later = (last ≡ []) × (more : List Item) × (later ≡ Endless ∷ more)
-IsCause (Read Device) turns last text later = last ≡ []
-IsCause (Read Interrupted) turns last text later = last ≡ []
-IsCause (Read NoRoom) turns last text later = ⊥
-IsCause (CutOff cut) turns last text later = (turn : Turn) × (last ≡ turn ∷ []) × (cut.sent < length text)
-IsCause Memory turns last text later = ⊥
-IsCause Spent turns last text later = (last ≡ []) × (length turns ≡ most_lines)
+-- Why the session ended, by the lines served whole, the last line and its answer's text, what was left after these, and what the reader has left: a cut within
+-- the last answer, and no want of memory, which a line of this limit never meets. Nothing was read beyond the last line, but at a fault a part of one.
+abbrev pub IsCause : End → List Turn → List Turn → List ℕ → Option (List ℕ) → Option (List ℕ) → Type 0
+IsCause Quit turns last text rest left = (turn : Turn) × (last ≡ turn ∷ []) × (end_of_turn turn ≡ Some Quit) × (left ≡ rest)
+IsCause Stop turns last text rest left = (turn : Turn) × (last ≡ turn ∷ []) × (end_of_turn turn ≡ Some Stop) × (left ≡ rest)
+IsCause Input turns last text rest left = ((last ≡ []) ⊎ ((turn : Turn) × (last ≡ turn ∷ []) × (turn.line ≡ Broken))) × (left ≡ rest)
+IsCause (Read NeverEnds) turns last text rest left = last ≡ []
+IsCause (Read Device) turns last text rest left = (last ≡ []) × IsPartRead rest left
+IsCause (Read Interrupted) turns last text rest left = (last ≡ []) × IsPartRead rest left
+IsCause (Read NoRoom) turns last text rest left = ⊥
+IsCause (CutOff cut) turns last text rest left = (turn : Turn) × (last ≡ turn ∷ []) × (cut.sent < length text) × (left ≡ rest)
+IsCause Memory turns last text rest left = ⊥
+IsCause Spent turns last text rest left = (last ≡ []) × (length turns ≡ most_lines) × (left ≡ rest)
 
--- the lines of a session: those served whole, the line that ended it, if one did, and those not read; what was written is their
--- text, of the last as much as the end says; and so the session finishes
-pub record ServedThen (finish : SessionState → SessionState) (before : List ℕ) (old new : SessionState) (sent written : List ℕ) (by : End) : Type 0 where
+-- The lines of a session: those served whole, the line that ended it, if one did, and what was left after them; what was written is their text, of the last as
+-- much as the end says; and so the session finishes. Bytes that are not known leave the lines and their answers open, and no more.
+pub record ServedThen (finish : SessionState → SessionState) (before left : Option (List ℕ)) (old new : SessionState) (sent written : Option (List ℕ)) (by : End) : Type 0 where
   pub turns : List Turn
   pub last : List Turn
-  pub later : List Item
-  pub lines : lines_of line_limit before ≡ items_of turns ++ (items_of last ++ later)
+  pub rest : Option (List ℕ)
+  pub lines : PassLines before (items_of turns ++ items_of last) rest
+  pub input : EndsInput by before (items_of turns ++ items_of last)
   pub state : new ≡ finish (state_after last (state_after turns old))
-  pub out : written ≡ sent ++ (text_of turns old ++ sent_by by (text_of last (state_after turns old)))
+  pub out : Appends sent written (text_of turns old ++ sent_by by (text_of last (state_after turns old)))
   pub goes : AllGoOn turns
-  pub cause : IsCause by turns last (text_of last (state_after turns old)) later
+  pub cause : IsCause by turns last (text_of last (state_after turns old)) rest left
   pub count : length turns + length last ≤ most_lines
 
 -- a whole session: its lines are served, and then its watcher is closed
-abbrev pub Served : List ℕ → SessionState → SessionState → List ℕ → List ℕ → End → Type 0
-Served before old new sent written by = ServedThen left before old new sent written by
+abbrev pub Served : Option (List ℕ) → Option (List ℕ) → SessionState → SessionState → Option (List ℕ) → Option (List ℕ) → End → Type 0
+Served before later old new sent written by = ServedThen left before later old new sent written by
+
+-- one line left the reader, and its whole answer was sent: the session goes on, or has ended with it
+abbrev pub ServedLine : Option (List ℕ) → Option (List ℕ) → SessionState → SessionState → Option (List ℕ) → Option (List ℕ) → Option End → Type 0
+ServedLine before later old new sent written None = (turn : Turn) × Going (turn ∷ []) before later old new sent written
+ServedLine before later old new sent written (Some by) =
+    (ran : ServedThen (λ state. state) before later old new sent written by) × (length ran.turns + length ran.last ≤ 1)
 
 -- how far the reader's count of failed calls rose until a session ended so, or went on
 abbrev pub IsReadEnd : Option End → ℕ → ℕ → Type 0

@@ -29,8 +29,8 @@ pub record FollowsInOrder (w : WatcherView) : Type 0 where
   pub run : IsRun w.half.opening w.half.taken
   pub tables : TellTables desk.capacity history.events w.half.opening w.half.taken
 
--- so it is behind each line of a session that has a watcher then
+-- so it is after each line of a session that has a watcher then
 abbrev pub SharedSessionsFollow : Type 0
 SharedSessionsFollow =
-    (before sent written : List ℕ) (by : End) (s : ServedShared before sent written by) (front back : List SharedTurn) → s.turns ≡ front ++ back
+    (before later sent written : Option (List ℕ)) (by : End) (s : ServedShared before later sent written by) (front back : List SharedTurn) → s.turns ≡ front ++ back
     → (own : Option WatcherView) × AreTurns None front own × AreTurns own back s.watcher × ForSome own FollowsInOrder

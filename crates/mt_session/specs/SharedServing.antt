@@ -1,10 +1,10 @@
 -- One line of a session in a thread of its own, as its steps see it. No public clause cites this module.
 -- A word with no source is this project's rule.
-use Rattle.std.specs.Prelude.{⊤, ◌≡◌, ◌≢◌, ◌⊎◌, ℕ, ◌+◌, ◌<◌, ◌≤◌, Bool, IsTrue, List, [], ◌∷◌, ◌++◌, map, length, unwrap_or, Option, Some, None, Result, Ok, Err}
+use Rattle.std.specs.Prelude.{⊤, ◌≡◌, ◌≢◌, ◌⊎◌, ℕ, ◌+◌, ◌<◌, ◌≤◌, List, [], ◌++◌, length, unwrap_or, Option, Some, None, Result, Ok, Err}
 use Rattle.std.specs.List.{flat_map}
 use Rattle.mt_skel.specs.declared.fault.Fault.{Fault}
 use Rattle.mt_skel.specs.declared.fault.Fault.TheVariants.{BadLine, TooLong as LineTooLong, NoWatcher, NoMemory as WantsMemory}
-use Rattle.mt_lines.specs.Lines.{Item, lines_of}
+use Rattle.std.specs.Io.KnownBytes.{Appends, Keeps}
 use Rattle.mt_lines.specs.declared.line.Line.{Line}
 use Rattle.mt_lines.specs.declared.line.Line.TheVariants.{Text, TooLong, Unended, End as NoLine}
 use Rattle.mt_events.specs.Posts.{PostView, post_text}
@@ -25,9 +25,9 @@ use Rattle.mt_session.specs.declared.shared_answer.Then.TheVariants.{More, Over}
 use Rattle.mt_requests.specs.Requests.{request_of}
 use Rattle.mt_session.specs.Answers.{refusal}
 use Rattle.mt_session.specs.Serving.{IsSent}
-use Rattle.mt_session.specs.Session.{item_of, ends_by, line_limit}
-use Rattle.mt_session.specs.SharedTurns.{HasTaken, GoesOn, IsUndoneBy}
-use Rattle.mt_session.specs.SharedSession.{SharedTurn, IsSpent, IsTurn, IsLost, EndsOfAnswer, EndsByNext, AreTurns, TurnsGoOn, HasLeft, WasLeft}
+use Rattle.mt_session.specs.Session.{ends_by}
+use Rattle.mt_session.specs.SharedTurns.{HasTaken, GoesOn, IsUndoneBy, HasEnded}
+use Rattle.mt_session.specs.SharedSession.{IsSpent, IsTurn, IsLost, EndsOfAnswer, HasLeft}
 
 -- there was no memory to do a request at some desk
 abbrev pub IsUndoneAt : Option WatcherView → Request → Option WatcherView → Type 0
@@ -39,6 +39,10 @@ HasMet None met w' = (met ≡ None) × (w' ≡ None)
 HasMet (Some w) met w' =
     (desk : DeskView) × (now : DeskView) × (m : Meeting) × (after : WatcherView) × IsDesk desk × IsMet desk w m now after × (met ≡ Some m) × (w' ≡ Some after)
     × IsScheduledBy (Meets w m after) now
+
+-- a session has ended its watcher at some desk, if it has one, and these posts were sent to it and not taken
+abbrev pub HasEndedAt : Option WatcherView → Option (List PostView) → Type 0
+HasEndedAt w posts = (desk : DeskView) × (now : DeskView) × IsDesk desk × HasEnded desk w posts now
 
 -- what becomes of a session's watcher, if it has one: it goes on, or the session leaves it
 abbrev pub IsKeptOrLeft : Option WatcherView → Option WatcherView → Type 0
@@ -119,37 +123,16 @@ abbrev pub IsOutcome : Option End → Option WatcherView → Result Request Faul
 IsOutcome None w asked out w' = IsTurn w asked out w' × (ends_by asked ≡ None)
 IsOutcome (Some by) w asked out w' = EndsOfAnswer by w asked out
 
--- what was asked is answered behind what was sent, which a writer shows if it tells its bytes, or the session ends by it
-pub record ServesAsked (tells : Bool) (w : Option WatcherView) (asked : Result Request Fault) (sent written : List ℕ) (result : Option End) (w' : Option WatcherView) : Type 0 where
+-- what was asked is answered after what was sent, or the session ends by it
+pub record ServesAsked (w : Option WatcherView) (asked : Result Request Fault) (sent written : Option (List ℕ)) (result : Option End) (w' : Option WatcherView) : Type 0 where
   pub out : List ℕ
-  pub written_is : IsTrue tells → written ≡ sent ++ out
+  pub written_is : Appends sent written out
   pub outcome : IsOutcome result w asked out w'
   pub watcher : IsKeptOrLeft w w'
 
 -- what a reader said of a line is answered, or the session ends by it
-abbrev pub ServesLine : Bool → Line → List ℕ → Option WatcherView → List ℕ → List ℕ → Option End → Option WatcherView → Type 0
-ServesLine tells Text bytes w sent written result w' = ServesAsked tells w (request_of bytes) sent written result w'
-ServesLine tells TooLong bytes w sent written result w' = (w' ≡ w) × IsSent tells sent written (refusal LineTooLong) None result
-ServesLine tells Unended bytes w sent written result w' = (w' ≡ w) × IsSent tells sent written (refusal BadLine) (Some Input) result
-ServesLine tells NoLine bytes w sent written result w' = (w' ≡ w) × (IsTrue tells → written ≡ sent) × (result ≡ Some Input)
-
--- the session has served these lines and goes on
-pub record SharedGoing (turns : List SharedTurn) (before later : List ℕ) (old new : Option WatcherView) (sent written : List ℕ) : Type 0 where
-  pub lines : lines_of line_limit before ≡ map (λ (t : SharedTurn). item_of t.line) turns ++ lines_of line_limit later
-  pub told : AreTurns old turns new
-  pub goes : TurnsGoOn turns
-  pub written_is : written ≡ sent ++ flat_map (λ (t : SharedTurn). t.text) turns
-
--- the session ends with the next line, and has left its watcher once it leaves what it has then
-pub record SharedEnding (before : List ℕ) (w w' : Option WatcherView) (sent written : List ℕ) (by : End) : Type 0 where
-  pub items : List Item
-  pub lines : lines_of line_limit before ≡ items
-  pub out : List ℕ
-  pub written_is : written ≡ sent ++ out
-  pub ends : EndsByNext by w items out
-  pub left : HasLeft w' → WasLeft w
-
--- a line was served: the session goes on, or has ended with it
-abbrev pub ServedSharedLine : List ℕ → List ℕ → Option WatcherView → Option WatcherView → List ℕ → List ℕ → Option End → Type 0
-ServedSharedLine before later old new sent written None = (turn : SharedTurn) × SharedGoing (turn ∷ []) before later old new sent written
-ServedSharedLine before later old new sent written (Some by) = SharedEnding before old new sent written by
+abbrev pub ServesLine : Line → List ℕ → Option WatcherView → Option (List ℕ) → Option (List ℕ) → Option End → Option WatcherView → Type 0
+ServesLine Text bytes w sent written result w' = ServesAsked w (request_of bytes) sent written result w'
+ServesLine TooLong bytes w sent written result w' = (w' ≡ w) × IsSent sent written (refusal LineTooLong) None result
+ServesLine Unended bytes w sent written result w' = (w' ≡ w) × IsSent sent written (refusal BadLine) (Some Input) result
+ServesLine NoLine bytes w sent written result w' = (w' ≡ w) × Keeps sent written × (result ≡ Some Input)

@@ -6,7 +6,7 @@ use Rattle.std.specs.List.{flat_map}
 use Rattle.mt_skel.specs.declared.fault.Fault.{Fault}
 use Rattle.mt_skel.specs.declared.fault.Fault.TheVariants.{BadLine, NoWatcher, NoMemory as WantsMemory}
 use Rattle.mt_lines.specs.declared.line.ReadFault.TheVariants.{Device, Interrupted, Endless as NeverEnds}
-use Rattle.mt_lines.specs.Lines.{Item, Unended, Endless, lines_of}
+use Rattle.mt_lines.specs.Lines.{Item, Unended}
 use Rattle.mt_events.specs.Posts.{PostView, post_text}
 use Rattle.mt_floor.specs.declared.watch.Phase.{Phase}
 use Rattle.mt_floor.specs.declared.watch.Phase.TheVariants.{Open as IsOpen}
@@ -22,7 +22,8 @@ use Rattle.mt_session.specs.declared.serving.End.TheVariants.{Quit, Stop, Input,
 use Rattle.mt_events.specs.Texts.{count_text, posts_text, followed_text}
 use Rattle.mt_session.specs.Answers.{refusal}
 use Rattle.mt_session.specs.Requests.{answer_to, by_phase}
-use Rattle.mt_session.specs.Session.{Asking, item_of, has_end, request_of_line, ends_by, line_limit, most_lines}
+use Rattle.mt_session.specs.Session.{Asking, item_of, has_end, request_of_line, ends_by, most_lines, PassLines, EndsInput, IsPartRead}
+use Rattle.std.specs.Io.KnownBytes.{Appends}
 use Rattle.mt_session.specs.SharedTurns.{found_state, IsDoneBy, IsUndoneBy, HasTaken, GoesOn}
 
 -- a request is answered as it would be at some desk, whatever the others have done
@@ -178,29 +179,29 @@ EndsOfAnswer (CutOff cut) w asked out = IsCutShort cut.sent w asked out
 EndsOfAnswer Memory w asked out = IsLost w asked out
 EndsOfAnswer by w asked out = ⊥
 
--- an end that the input brings behind its lines, and what is written for it
-abbrev pub EndsOfInput : End → List Item → List ℕ → Type 0
-EndsOfInput Input items out = ((items ≡ []) × (out ≡ [])) ⊎ ((items ≡ Unended ∷ []) × (out ≡ refusal BadLine))
-EndsOfInput (Read NeverEnds) items out = (more : List Item) × (items ≡ Endless ∷ more) × (out ≡ [])
-EndsOfInput (Read Device) items out = out ≡ []
-EndsOfInput (Read Interrupted) items out = out ≡ []
-EndsOfInput by items out = ⊥
+-- an end that the input brings after the lines, by the last of them, what was left after it, and what the reader has left; and what is written for it
+abbrev pub EndsOfInput : End → List Item → Option (List ℕ) → Option (List ℕ) → List ℕ → Type 0
+EndsOfInput Input last rest left out = (left ≡ rest) × (((last ≡ []) × (out ≡ [])) ⊎ ((last ≡ Unended ∷ []) × (out ≡ refusal BadLine)))
+EndsOfInput (Read NeverEnds) last rest left out = (last ≡ []) × (out ≡ [])
+EndsOfInput (Read Device) last rest left out = IsPartRead rest left × (last ≡ []) × (out ≡ [])
+EndsOfInput (Read Interrupted) last rest left out = IsPartRead rest left × (last ≡ []) × (out ≡ [])
+EndsOfInput by last rest left out = ⊥
 
--- an end that comes behind as many lines as a session serves
-abbrev pub EndsOfCount : End → List SharedTurn → List ℕ → Type 0
-EndsOfCount Spent turns out = (length turns ≡ most_lines) × (out ≡ [])
-EndsOfCount by turns out = ⊥
+-- an end that comes once as many lines were served as a session serves
+abbrev pub EndsOfCount : End → List SharedTurn → List Item → Option (List ℕ) → Option (List ℕ) → List ℕ → Type 0
+EndsOfCount Spent turns last rest left out = (length turns ≡ most_lines) × (last ≡ []) × (left ≡ rest) × (out ≡ [])
+EndsOfCount by turns last rest left out = ⊥
 
--- an end by the next line that was not served, or by the input in its place
-abbrev pub EndsByNext : End → Option WatcherView → List Item → List ℕ → Type 0
-EndsByNext by w items out =
-    EndsOfInput by items out
-    ⊎ ((line : Asking) × (later : List Item) × (items ≡ item_of line ∷ later) × EndsOfAnswer by w (request_of_line line) out)
+-- an end by the next line, or by the input in its place
+abbrev pub EndsByNext : End → Option WatcherView → List Item → Option (List ℕ) → Option (List ℕ) → List ℕ → Type 0
+EndsByNext by w last rest left out =
+    EndsOfInput by last rest left out
+    ⊎ ((line : Asking) × (last ≡ item_of line ∷ []) × (left ≡ rest) × EndsOfAnswer by w (request_of_line line) out)
 
--- How a session ends behind the lines that it served: by the watcher that it has then, the lines that it had not served, and what it wrote still. A line that
--- ends it is one of those that it serves.
-abbrev pub EndsSo : End → List SharedTurn → Option WatcherView → List Item → List ℕ → Type 0
-EndsSo by turns w items out = ((length turns < most_lines) × EndsByNext by w items out) ⊎ EndsOfCount by turns out
+-- How a session ends after the lines that it served: by the watcher that it has then, the line that ends it, if one does, what is left after that, and what it
+-- wrote still. A line that ends it is one of those that it serves.
+abbrev pub EndsSo : End → List SharedTurn → Option WatcherView → List Item → Option (List ℕ) → Option (List ℕ) → List ℕ → Type 0
+EndsSo by turns w last rest left out = ((length turns < most_lines) × EndsByNext by w last rest left out) ⊎ EndsOfCount by turns last rest left out
 
 -- a session has left some desk, whose row of its watcher is gone then, if it had one; all that this has taken, and what was left, are in order by a schedule
 abbrev pub HasLeft : Option WatcherView → Type 0
@@ -212,16 +213,42 @@ abbrev pub WasLeft : Option WatcherView → Type 0
 WasLeft None = ⊤
 WasLeft (Some w) = (last : WatcherView) × GoesOn w last × HasLeft (Some last)
 
--- A session in a thread of its own: its lines in order, one answer each, then its end, and then its watcher is closed.
-pub record ServedShared (before sent written : List ℕ) (by : End) : Type 0 where
+-- A session in a thread of its own: its lines in order, one answer each, then its end, and then its watcher is closed. Nothing was read beyond its last line, but
+-- at a fault a part of one. Bytes that are not known leave the lines and their answers open, and no more.
+pub record ServedShared (before later sent written : Option (List ℕ)) (by : End) : Type 0 where
   pub turns : List SharedTurn
   pub watcher : Option WatcherView
-  pub items : List Item
+  pub last : List Item
+  pub rest : Option (List ℕ)
   pub out : List ℕ
-  pub lines : lines_of line_limit before ≡ map (λ (t : SharedTurn). item_of t.line) turns ++ items
+  pub lines : PassLines before (map (λ (t : SharedTurn). item_of t.line) turns ++ last) rest
+  pub input : EndsInput by before (map (λ (t : SharedTurn). item_of t.line) turns ++ last)
   pub told : AreTurns None turns watcher
   pub goes : TurnsGoOn turns
-  pub written_is : written ≡ sent ++ (flat_map (λ (t : SharedTurn). t.text) turns ++ out)
-  pub ends : EndsSo by turns watcher items out
+  pub written_is : Appends sent written (flat_map (λ (t : SharedTurn). t.text) turns ++ out)
+  pub ends : EndsSo by turns watcher last rest later out
   pub count : length turns ≤ most_lines
   pub left : WasLeft watcher
+
+-- the session has served these lines and goes on
+pub record SharedGoing (turns : List SharedTurn) (before later : Option (List ℕ)) (old new : Option WatcherView) (sent written : Option (List ℕ)) : Type 0 where
+  pub lines : PassLines before (map (λ (t : SharedTurn). item_of t.line) turns) later
+  pub told : AreTurns old turns new
+  pub goes : TurnsGoOn turns
+  pub written_is : Appends sent written (flat_map (λ (t : SharedTurn). t.text) turns)
+
+-- the session ends with the next line, or in its place, and has left its watcher once it leaves what it has then
+pub record SharedEnding (before later : Option (List ℕ)) (w w' : Option WatcherView) (sent written : Option (List ℕ)) (by : End) : Type 0 where
+  pub last : List Item
+  pub rest : Option (List ℕ)
+  pub out : List ℕ
+  pub lines : PassLines before last rest
+  pub input : EndsInput by before last
+  pub written_is : Appends sent written out
+  pub ends : EndsByNext by w last rest later out
+  pub left : HasLeft w' → WasLeft w
+
+-- one line left the reader, and its whole answer was sent: the session goes on, or has ended with it
+abbrev pub ServedSharedLine : Option (List ℕ) → Option (List ℕ) → Option WatcherView → Option WatcherView → Option (List ℕ) → Option (List ℕ) → Option End → Type 0
+ServedSharedLine before later old new sent written None = (turn : SharedTurn) × SharedGoing (turn ∷ []) before later old new sent written
+ServedSharedLine before later old new sent written (Some by) = SharedEnding before later old new sent written by

@@ -68,6 +68,13 @@ IsUndoneBy d None (Watch scope) now w' =
 IsUndoneBy d (Some w) Close now w' = (posts : List PostView) × IsClosed d w posts now × (w' ≡ None) × IsScheduledBy (Closes w posts) now
 IsUndoneBy d w r now w' = ⊥
 
+-- A session's watcher is closed, if it has one, and these posts were sent to it and not taken; all that it has taken, and these, are in order by a schedule of
+-- the desk.
+abbrev pub HasEnded : DeskView → Option WatcherView → Option (List PostView) → DeskView → Type 0
+HasEnded d None posts now = (posts ≡ None) × (now ≡ d)
+HasEnded d (Some w) None now = ⊥
+HasEnded d (Some w) (Some posts) now = IsClosed d w posts now × IsScheduledBy (Closes w posts) now
+
 -- a watcher has taken posts, and may have met the desk; all that it has taken now is a run from its opening
 abbrev pub HasTaken : WatcherView → List PostView → WatcherView → Type 0
 HasTaken w posts w' =

@@ -1,5 +1,6 @@
-//! Rest for a session that follows posts, until there may be more.
+//! Where sessions wait: for their turn at the desk, and at the bell until there may be more posts.
 
+use crate::turns::Turns;
 use std::sync::{Condvar, CondvarTimeouts, Mutex, Wait};
 use std::time::{Clock, Duration};
 
@@ -12,6 +13,7 @@ const MOST_REST: u64 = 100;
 pub struct Bell {
     rung: Mutex<u64>,
     changed: Condvar,
+    turns: Turns,
 }
 
 impl Bell {
@@ -20,7 +22,13 @@ impl Bell {
         Bell {
             rung: Mutex::new(0),
             changed: Condvar::new(),
+            turns: Turns::new(),
         }
+    }
+
+    /// The turns at the desk whose sessions rest here.
+    pub fn turns(&self) -> &Turns {
+        &self.turns
     }
 
     /// Wakes all that rest.

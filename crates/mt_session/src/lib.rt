@@ -3,8 +3,8 @@
 //! A session reads lines ([`line`]), makes requests of them ([`request`]), does these, and sends the text of the
 //! answers ([`text`], [`stream`]). A plain session does them on a floor of its own ([`session`]); [`serving`] is all
 //! that it does from its first line to its end. A session in a thread of its own does them at a desk that others share
-//! ([`shared_session`]), answers by [`shared_answer`], and is served by [`shared_serving`]; [`bell`] and [`gate`] are
-//! where it rests and where a test can hold it. [`laws`] has what is true of every list of lines.
+//! ([`shared_session`]), answers by [`shared_answer`], and is served by [`shared_serving`]; [`bell`] and [`turns`] are
+//! where it waits, and [`gate`] where a test can hold it. [`laws`] has what is true of every list of lines.
 #![tactic(auto)]
 
 pub mod bell;
@@ -18,6 +18,7 @@ mod shared_follow;
 pub mod shared_serving;
 pub mod shared_session;
 pub mod text;
+pub mod turns;
 
 pub use mt_floor::{event, floor, watch};
 pub use mt_lines::{line, memory, stream};

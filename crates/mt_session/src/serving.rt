@@ -3,8 +3,8 @@ ghost use Rattle.std.specs.Prelude.{◌≡◌, ◌≢◌, ◌+◌, ◌<◌, true
 ghost use Rattle.std.specs.Option.{ForSome};
 ghost use Rattle.mt_session.specs.Answers.{refusal};
 ghost use Rattle.mt_session.specs.Requests.{session_state, session_at};
-ghost use Rattle.mt_lines.specs.Reading.{bytes_left, failed_calls, last_faults, limit_of, fault_of};
-ghost use Rattle.mt_session.specs.Session.{Whole, ends_by, Served, line_limit, IsReadEnd, IsReadEndRun, IsCutCause, IsCutRun};
+ghost use Rattle.mt_lines.specs.Reading.{known_left, failed_calls, last_faults, limit_of, fault_of};
+ghost use Rattle.mt_session.specs.Session.{Whole, ends_by, Served, ServedLine, line_limit, IsReadEnd, IsReadEndRun, IsCutCause, IsCutRun};
 ghost use Rattle.mt_session.specs.Headline.{TranscriptHolds};
 ghost use Rattle.mt_session.specs.Serving.{Answered, AnswersLine, IsSent, Ran, ends_whole};
 
@@ -99,7 +99,7 @@ fn answer_text(alloc: Global, session: &mut Session, floor: &mut Floor, line: &[
 /// Sends an answer: how the session ends by it, if it does.
 pub(crate) fn answer_with<W: Output>(writer: &mut W, text: &Text, end: Option<End>) -> Option<End>
     requires { ForSome end (λ e. ends_whole e ≡ true) }
-    ensures sent { IsSent W.tells (W.written writer.old) (W.written writer.new) text.now end result }
+    ensures sent { IsSent (W.contents writer.old) (W.contents writer.new) text.now end result }
     ensures cut { IsTrue W.counts → IsCutCause result (W.failed writer.old) (W.failed writer.new) }
     ensures cut_run { IsTrue W.counts → W.faults writer.old ≡ [] → IsCutRun result (W.faults writer.new) }
 {
@@ -119,7 +119,7 @@ fn serve_line<W: Output>(
     bytes: &[u8],
 ) -> Option<End>
     requires idle { floor.old.due ≡ [] }
-    ensures answered { AnswersLine W.tells line bytes.now (session_state floor.old session.old) (session_state floor.new session.new) (W.written writer.old) (W.written writer.new) result }
+    ensures answered { AnswersLine line bytes.now (session_state floor.old session.old) (session_state floor.new session.new) (W.contents writer.old) (W.contents writer.new) result }
     ensures idle { floor.new.due ≡ [] }
     ensures cut { IsTrue W.counts → IsCutCause result (W.failed writer.old) (W.failed writer.new) }
     ensures cut_run { IsTrue W.counts → W.faults writer.old ≡ [] → IsCutRun result (W.faults writer.new) }
@@ -135,6 +135,37 @@ fn serve_line<W: Output>(
     }
 }
 
+/// Serves one line: how the session ends by it, or by what came in its place, if it does.
+///
+/// One line leaves the reader, and its whole answer goes to the writer, before the next one is read (`served`). At the end
+/// of the input, and at a fault of the reader, nothing is written; of a fault the reader has lost no whole line. Where the
+/// session goes on, the reader has met no fault. [`serve_plain`] is the loop of this call.
+pub fn serve_next<R: Input + Drop, W: Output>(
+    alloc: Global,
+    lines: &mut LineReader<R>,
+    writer: &mut W,
+    session: &mut Session,
+    floor: &mut Floor,
+) -> Option<End>
+    requires idle { floor.old.due ≡ [] }
+    requires fresh { fault_of lines.old ≡ None }
+    requires limit { limit_of lines.old ≡ line_limit }
+    ensures served { ServedLine (known_left lines.old) (known_left lines.new) (session_state floor.old session.old) (session_state floor.new session.new) (W.contents writer.old) (W.contents writer.new) result }
+    ensures idle { floor.new.due ≡ [] }
+    ensures fresh { result ≡ None → fault_of lines.new ≡ None }
+    ensures limit { limit_of lines.new ≡ line_limit }
+    ensures read { IsTrue R.counts → IsReadEnd result (failed_calls lines.old) (failed_calls lines.new) }
+    ensures read_run { IsTrue R.counts → last_faults lines.old ≡ [] → IsReadEndRun result (last_faults lines.new) }
+    ensures cut { IsTrue W.counts → IsCutCause result (W.failed writer.old) (W.failed writer.new) }
+    ensures cut_run { IsTrue W.counts → W.faults writer.old ≡ [] → IsCutRun result (W.faults writer.new) }
+{
+    let line = match lines.next() {
+        Ok(line) => line,
+        Err(fault) => return Some(End::Read(fault)),
+    };
+    serve_line(alloc, session, floor, writer, line, lines.line())
+}
+
 /// Serves lines until the session ends: how it does.
 fn serve_session<R: Input + Drop, W: Output>(
     alloc: Global,
@@ -147,7 +178,7 @@ fn serve_session<R: Input + Drop, W: Output>(
     requires fresh { fault_of lines.old ≡ None }
     requires limit { limit_of lines.old ≡ line_limit }
     ensures idle { floor.new.due ≡ [] }
-    ensures ran { IsTrue R.tells → IsTrue W.tells → Ran (bytes_left lines.old) (session_state floor.old session.old) (session_state floor.new session.new) (W.written writer.old) (W.written writer.new) result }
+    ensures ran { Ran (known_left lines.old) (known_left lines.new) (session_state floor.old session.old) (session_state floor.new session.new) (W.contents writer.old) (W.contents writer.new) result }
     ensures memory { result ≢ End.Memory }
     ensures read { IsTrue R.counts → IsReadEnd (Some result) (failed_calls lines.old) (failed_calls lines.new) }
     ensures read_run { IsTrue R.counts → last_faults lines.old ≡ [] → IsReadEndRun (Some result) (last_faults lines.new) }
@@ -155,11 +186,7 @@ fn serve_session<R: Input + Drop, W: Output>(
     ensures cut_run { IsTrue W.counts → W.faults writer.old ≡ [] → IsCutRun (Some result) (W.faults writer.new) }
 {
     'lines: for _count in 0..MOST_LINES {
-        let line = match lines.next() {
-            Ok(line) => line,
-            Err(fault) => return End::Read(fault),
-        };
-        if let Some(end) = serve_line(alloc, session, floor, writer, line, lines.line()) {
+        if let Some(end) = serve_next(alloc, lines, writer, session, floor) {
             return end;
         }
     }
@@ -170,10 +197,13 @@ fn serve_session<R: Input + Drop, W: Output>(
 ///
 /// The reader has met no fault, and its lines are of at most [`LINE_LIMIT`] bytes. It is lent, so that
 /// its caller knows of its last calls: where it has ended the session, its last call failed, and none
-/// came behind that. A session serves 16,777,216 lines at most. What is written is the text of the
-/// lines that were read, however they were cut; at a fault of the writer all earlier answers are out
-/// whole, and of the last as many bytes as the end says, fewer than it has; nothing is written behind
-/// it.
+/// came after that. A session serves 16,777,216 lines at most. What is written is the text of the
+/// lines that were read, however they were cut, each answered before the next is read ([`serve_next`]); at a fault
+/// of the reader all lines that it had read whole are answered; at a fault of the writer all earlier answers are out
+/// whole, and of the last as many bytes as the end says, fewer than it has; nothing is written after it.
+///
+/// This is said of the bytes that are known of a stream: of one in memory, and of a stream of the standard library
+/// over one ([`mt_lines::stream::Reading`]). Of a system's stream nobody knows them.
 ///
 /// The lines are a schedule of the floor. So the posts that they tell of a watcher, by `take`, `follow` and `close`, are
 /// a prefix of those posted for the namespaces it follows since its opening, each once and in order; and applied to the
@@ -186,8 +216,8 @@ pub fn serve_plain<R: Input + Drop, W: Output>(
 ) -> End
     requires fresh { fault_of lines.old ≡ None }
     requires limit { limit_of lines.old ≡ line_limit }
-    ensures served { IsTrue R.tells → IsTrue W.tells → Served (bytes_left lines.old) (session_at floor.old None) (session_state floor.new None) (W.written writer.old) (W.written writer.new) result }
-    ensures headline { IsTrue R.tells → IsTrue W.tells → TranscriptHolds (bytes_left lines.old) floor.old floor.new (W.written writer.old) (W.written writer.new) result }
+    ensures served { Served (known_left lines.old) (known_left lines.new) (session_at floor.old None) (session_state floor.new None) (W.contents writer.old) (W.contents writer.new) result }
+    ensures headline { TranscriptHolds (known_left lines.old) (known_left lines.new) floor.old floor.new (W.contents writer.old) (W.contents writer.new) result }
     ensures idle { floor.new.due ≡ [] }
     ensures memory { result ≢ End.Memory }
 

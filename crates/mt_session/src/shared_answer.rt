@@ -1,25 +1,26 @@
 //! How a session in a thread of its own answers a request. An answer is pieces, one after another, and no stream is known here.
 ghost use Rattle.std.specs.Prelude.{◌≡◌, ◌≢◌, ◌++◌, ◌<◌, ◌⊎◌, [], Option, true, IfOk, OnErr, IsOkUnless, None, Some};
 ghost use Rattle.std.specs.Option.{ForSome};
-ghost use Rattle.mt_skel.specs.declared.fault.Fault.TheVariants.{NoMemory};
+ghost use Rattle.mt_skel.specs.declared.fault.Fault.TheVariants.{NoMemory, NoWatcher};
 ghost use Rattle.mt_events.specs.Following.{IsRun};
-ghost use Rattle.mt_events.specs.Texts.{count_text};
+ghost use Rattle.mt_events.specs.Texts.{count_text, posts_text};
 ghost use Rattle.mt_desk.specs.Calls.{WatcherView};
-ghost use Rattle.mt_requests.specs.declared.request.Request.TheVariants.{Take};
+ghost use Rattle.mt_requests.specs.declared.request.Request.TheVariants.{Take, Close};
 ghost use Rattle.mt_session.specs.declared.serving.End.TheVariants.{Memory};
 ghost use Rattle.mt_session.specs.Answers.{refusal};
 ghost use Rattle.mt_session.specs.SharedTurns.{is_under_lock};
 ghost use Rattle.mt_session.specs.SharedSession.{IsAnsweredAt, HasLeft};
-ghost use Rattle.mt_session.specs.SharedServing.{IsUndoneAt, HasMet, IsPortion, EndsWith, IsPiece};
+ghost use Rattle.mt_session.specs.SharedServing.{IsUndoneAt, HasMet, HasEndedAt, IsPortion, EndsWith, IsPiece};
 
 use crate::bell::Bell;
 use crate::gate::Gate;
 use crate::serving::{End, end_of};
 use crate::session::phase_text;
-use crate::shared_session::SharedSession;
+use crate::shared_session::{SharedSession, told};
 use crate::text::Text;
 use mt_desk::desk::Desk;
 use mt_desk::lines::Naming;
+use mt_events::shared::SharedPosts;
 use mt_events::texts::PrintedPosts;
 use mt_floor::watch::{Meeting, Phase};
 use mt_requests::request::Request;
@@ -109,12 +110,15 @@ fn do_locked<J: Naming, G: Gate, R: Wait>(
     ensures memory { IsOkUnless result Fault.NoMemory }
     ensures undone { OnErr result (IsUndoneAt session.old request.now session.new) }
 {
+    shared.bell.turns().begin(rt);
     let mut desk = shared.desk.lock(rt);
-    let text = session.locked(rt, &mut *desk, request)?;
-    if matches!(request, Request::Run(_)) {
+    let answer = session.locked(rt, &mut *desk, request);
+    if answer.is_ok() && matches!(request, Request::Run(_)) {
         shared.gate.in_lock(rt, shared.number);
     }
-    Ok(text)
+    drop(desk);
+    shared.bell.turns().end(rt);
+    answer
 }
 
 /// Meets the desk while it is held.
@@ -125,11 +129,32 @@ fn meet<J: Naming, G: Gate, R: Wait>(
 ) -> Option<Meeting>
     ensures { HasMet session.old result session.new }
 {
+    shared.bell.turns().begin(rt);
     let mut desk = shared.desk.lock(rt);
-    session.meet(&mut *desk)
+    let met = session.meet(&mut *desk);
+    drop(desk);
+    shared.bell.turns().end(rt);
+    met
 }
 
-/// Closes the session's watcher, if it has one, while the desk is held.
+/// Ends the session's watcher, if it has one, while the desk is held, and hands out what was sent to it and not taken.
+fn end_watcher<J: Naming, G: Gate, R: Wait>(
+    rt: &R,
+    shared: &Shared<'_, J, G>,
+    session: &mut SharedSession<J>,
+) -> Option<SharedPosts>
+    ensures none { session.new ≡ None }
+    ensures ended { HasEndedAt session.old result }
+{
+    shared.bell.turns().begin(rt);
+    let mut desk = shared.desk.lock(rt);
+    let posts = session.end(rt, &mut *desk);
+    drop(desk);
+    shared.bell.turns().end(rt);
+    posts
+}
+
+/// Closes the session's watcher, if it has one. The desk is held until it is closed, and not while posts are let go.
 pub fn leave<J: Naming, G: Gate, R: Wait>(
     rt: &R,
     shared: &Shared<'_, J, G>,
@@ -138,8 +163,22 @@ pub fn leave<J: Naming, G: Gate, R: Wait>(
     ensures none { session.new ≡ None }
     ensures left { HasLeft session.old }
 {
-    let mut desk = shared.desk.lock(rt);
-    session.leave(rt, &mut *desk);
+    let _posts = end_watcher(rt, shared, session);
+}
+
+/// Closes the session's watcher: the answer to a `close`, a single piece. The desk is held until the watcher is closed, and
+/// not while its posts are printed.
+pub(crate) fn answer_close<J: Naming, G: Gate, R: Wait>(
+    rt: &R,
+    shared: &Shared<'_, J, G>,
+    session: &mut SharedSession<J>,
+) -> Piece
+    ensures { IsPiece session.old Close [] result.text result.then session.new }
+{
+    let ended = end_watcher(rt, shared, session);
+    let piece = told_end(shared.alloc, ended);
+    shared.gate.before_answer(rt, shared.number);
+    piece
 }
 
 /// Whether a request may give other sessions something to take, or end what they follow.
@@ -147,26 +186,29 @@ fn wakes(request: &Request) -> bool {
     matches!(request, Request::Run(_) | Request::Stop)
 }
 
-/// What is answered where there was no memory to do a request. A `close` has lost posts by it.
-fn undone(request: &Request) -> Piece
-    ensures close { request.now ≡ Request.Close → EndsWith (refusal NoMemory) (Some Memory) result.text result.then }
-    ensures others { request.now ≢ Request.Close → EndsWith (refusal NoMemory) None result.text result.then }
+/// What is told of a watcher that has ended: what was sent to it and not taken.
+fn told_end(alloc: Global, ended: Option<SharedPosts>) -> Piece
+    ensures none { ended ≡ None → EndsWith (refusal NoWatcher) None result.text result.then }
+    ensures some { ForSome ended (λ posts. EndsWith (posts_text posts) None result.text result.then ⊎ EndsWith (refusal NoMemory) (Some Memory) result.text result.then) }
 {
-    if matches!(request, Request::Close) {
-        Piece::refusal(Fault::NoMemory)
-    } else {
-        Piece::last(Text::refusal(Fault::NoMemory), None)
+    let Some(posts) = ended else {
+        return Piece::last(Text::refusal(Fault::NoWatcher), None);
+    };
+    match told(alloc, posts.as_slice()) {
+        Ok(text) => Piece::last(text, None),
+        Err(_) => Piece::refusal(Fault::NoMemory),
     }
 }
 
-/// Does a request while the desk is held: its answer, a single piece.
+/// Does a request other than `close` while the desk is held: its answer, a single piece.
 pub(crate) fn answer_locked<J: Naming, G: Gate, R: Wait>(
     rt: &R,
     shared: &Shared<'_, J, G>,
     session: &mut SharedSession<J>,
     request: &Request,
 ) -> Piece
-    requires { is_under_lock request.now ≡ true }
+    requires lock { is_under_lock request.now ≡ true }
+    requires other { request.now ≢ Request.Close }
     ensures { IsPiece session.old request.now [] result.text result.then session.new }
 {
     let answer = do_locked(rt, shared, session, request);
@@ -179,7 +221,7 @@ pub(crate) fn answer_locked<J: Naming, G: Gate, R: Wait>(
     shared.gate.before_answer(rt, shared.number);
     match answer {
         Ok(text) => Piece::last(text, end_of(request)),
-        Err(_) => undone(request),
+        Err(_) => Piece::last(Text::refusal(Fault::NoMemory), None),
     }
 }
 

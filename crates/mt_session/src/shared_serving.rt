@@ -1,17 +1,18 @@
 //! A session in a thread of its own: lines in, answers out, at a desk that others share.
 ghost use Rattle.std.specs.Prelude.{◌≡◌, ◌++◌, ◌<◌, ◌≤◌, ◌⊎◌, ℕ, List, [], take, unwrap_or, Option, IsTrue, IfErr, OnOk, OnErr, Ok, None, Some};
 ghost use Rattle.mt_desk.specs.Calls.{WatcherView};
-ghost use Rattle.mt_lines.specs.Reading.{bytes_left, failed_calls, last_faults, limit_of, fault_of};
+ghost use Rattle.std.specs.Io.KnownBytes.{Appends};
+ghost use Rattle.mt_lines.specs.Reading.{known_left, failed_calls, last_faults, limit_of, fault_of};
 ghost use Rattle.mt_lines.specs.Stream.{HasFailed, IsInterrupted};
 ghost use Rattle.mt_requests.specs.Requests.{request_of, HasRightCount};
 ghost use Rattle.mt_session.specs.Session.{line_limit, IsReadEnd, IsReadEndRun, IsCutCause, IsCutRun};
-ghost use Rattle.mt_session.specs.SharedSession.{ServedShared, HasLeft};
+ghost use Rattle.mt_session.specs.SharedSession.{ServedShared, ServedSharedLine, HasLeft};
 ghost use Rattle.mt_session.specs.SharedServing.{IsSoFar, IsPiece, IsWithin, IsCutPiece, ServesAsked, ServesLine};
 
 use crate::bell::Bell;
 use crate::gate::Gate;
 use crate::serving::{End, MOST_LINES, answer_with};
-use crate::shared_answer::{Piece, Shared, Then, answer_locked, answer_take, leave};
+use crate::shared_answer::{Piece, Shared, Then, answer_close, answer_locked, answer_take, leave};
 use crate::shared_follow::follow;
 use crate::shared_session::SharedSession;
 use crate::text::Text;
@@ -45,13 +46,16 @@ fn next_piece<J: Naming, G: Gate, R: Wait + Clock>(
         shared.gate.before_answer(rt, shared.number);
         return piece;
     }
+    if matches!(request, Request::Close) {
+        return answer_close(rt, shared, session);
+    }
     answer_locked(rt, shared, session, request)
 }
 
 /// Sends a piece of an answer, or finds out whether the client is still there where it has no text.
 fn send_piece<O: Output>(writer: &mut O, text: &Option<Text>) -> Result<(), Cut>
-    ensures whole { OnOk result (IsTrue O.tells → O.written writer.new ≡ O.written writer.old ++ unwrap_or text.now []) }
-    ensures cut { IfErr result (λ cut. IsTrue O.tells → O.written writer.new ≡ O.written writer.old ++ take cut.sent (unwrap_or text.now [])) }
+    ensures whole { OnOk result (Appends (O.contents writer.old) (O.contents writer.new) (unwrap_or text.now [])) }
+    ensures cut { IfErr result (λ cut. Appends (O.contents writer.old) (O.contents writer.new) (take cut.sent (unwrap_or text.now []))) }
     ensures within { IfErr result (λ cut. IsCutPiece cut.sent text.now) }
     ensures cause { OnErr result (IsTrue O.counts → O.failed writer.old < O.failed writer.new) }
     ensures counted { IsTrue O.counts → O.failed writer.old ≤ O.failed writer.new }
@@ -73,7 +77,7 @@ fn serve_request<J: Naming, O: Output, G: Gate, R: Wait + Clock>(
     request: &Request,
 ) -> Option<End>
     requires { HasRightCount request.now }
-    ensures served { ServesAsked O.tells session.old (Ok request.now) (O.written writer.old) (O.written writer.new) result session.new }
+    ensures served { ServesAsked session.old (Ok request.now) (O.contents writer.old) (O.contents writer.new) result session.new }
     ensures cut { IsTrue O.counts → IsCutCause result (O.failed writer.old) (O.failed writer.new) }
     ensures cut_run { IsTrue O.counts → O.faults writer.old ≡ [] → IsCutRun result (O.faults writer.new) }
 {
@@ -102,7 +106,7 @@ fn serve_text<J: Naming, O: Output, G: Gate, R: Wait + Clock>(
     line: &[u8],
     writer: &mut O,
 ) -> Option<End>
-    ensures served { ServesAsked O.tells session.old (request_of line.now) (O.written writer.old) (O.written writer.new) result session.new }
+    ensures served { ServesAsked session.old (request_of line.now) (O.contents writer.old) (O.contents writer.new) result session.new }
     ensures cut { IsTrue O.counts → IsCutCause result (O.failed writer.old) (O.failed writer.new) }
     ensures cut_run { IsTrue O.counts → O.faults writer.old ≡ [] → IsCutRun result (O.faults writer.new) }
 {
@@ -121,7 +125,7 @@ fn serve_line<J: Naming, O: Output, G: Gate, R: Wait + Clock>(
     line: Line,
     bytes: &[u8],
 ) -> Option<End>
-    ensures served { ServesLine O.tells line bytes.now session.old (O.written writer.old) (O.written writer.new) result session.new }
+    ensures served { ServesLine line bytes.now session.old (O.contents writer.old) (O.contents writer.new) result session.new }
     ensures cut { IsTrue O.counts → IsCutCause result (O.failed writer.old) (O.failed writer.new) }
     ensures cut_run { IsTrue O.counts → O.faults writer.old ≡ [] → IsCutRun result (O.faults writer.new) }
 {
@@ -131,6 +135,35 @@ fn serve_line<J: Naming, O: Output, G: Gate, R: Wait + Clock>(
         Line::Unended => { answer_with(writer, &Text::refusal(Fault::BadLine), Some(End::Input)) }
         Line::End => Some(End::Input),
     }
+}
+
+/// Serves one line: how the session ends by it, or by what came in its place, if it does.
+///
+/// One line leaves the reader, and its whole answer goes to the writer, before the next one is read (`served`). At the end
+/// of the input, and at a fault of the reader, nothing is written; of a fault the reader has lost no whole line. Where the
+/// session goes on, the reader has met no fault. [`serve_shared`] is the loop of this call.
+pub fn serve_next<J: Naming, I: Input + Drop, O: Output, G: Gate, R: Wait + Clock>(
+    rt: &R,
+    shared: &Shared<'_, J, G>,
+    session: &mut SharedSession<J>,
+    lines: &mut LineReader<I>,
+    writer: &mut O,
+) -> Option<End>
+    requires fresh { fault_of lines.old ≡ None }
+    requires limit { limit_of lines.old ≡ line_limit }
+    ensures served { ServedSharedLine (known_left lines.old) (known_left lines.new) session.old session.new (O.contents writer.old) (O.contents writer.new) result }
+    ensures fresh { result ≡ None → fault_of lines.new ≡ None }
+    ensures limit { limit_of lines.new ≡ line_limit }
+    ensures read { IsTrue I.counts → IsReadEnd result (failed_calls lines.old) (failed_calls lines.new) }
+    ensures read_run { IsTrue I.counts → last_faults lines.old ≡ [] → IsReadEndRun result (last_faults lines.new) }
+    ensures cut { IsTrue O.counts → IsCutCause result (O.failed writer.old) (O.failed writer.new) }
+    ensures cut_run { IsTrue O.counts → O.faults writer.old ≡ [] → IsCutRun result (O.faults writer.new) }
+{
+    let line = match lines.next() {
+        Ok(line) => line,
+        Err(fault) => return Some(End::Read(fault)),
+    };
+    serve_line(rt, shared, session, writer, line, lines.line())
 }
 
 /// Serves lines until the session ends: how it does. What is said of it holds once its watcher is closed.
@@ -144,18 +177,14 @@ fn serve_all<J: Naming, I: Input + Drop, O: Output, G: Gate, R: Wait + Clock>(
     requires none { session.old ≡ None }
     requires fresh { fault_of lines.old ≡ None }
     requires limit { limit_of lines.old ≡ line_limit }
-    ensures served { IsTrue I.tells → IsTrue O.tells → HasLeft session.new → ServedShared (bytes_left lines.old) (O.written writer.old) (O.written writer.new) result }
+    ensures served { HasLeft session.new → ServedShared (known_left lines.old) (known_left lines.new) (O.contents writer.old) (O.contents writer.new) result }
     ensures read { IsTrue I.counts → IsReadEnd (Some result) (failed_calls lines.old) (failed_calls lines.new) }
     ensures read_run { IsTrue I.counts → last_faults lines.old ≡ [] → IsReadEndRun (Some result) (last_faults lines.new) }
     ensures cut { IsTrue O.counts → IsCutCause (Some result) (O.failed writer.old) (O.failed writer.new) }
     ensures cut_run { IsTrue O.counts → O.faults writer.old ≡ [] → IsCutRun (Some result) (O.faults writer.new) }
 {
     'lines: for _count in 0..MOST_LINES {
-        let line = match lines.next() {
-            Ok(line) => line,
-            Err(fault) => return End::Read(fault),
-        };
-        if let Some(end) = serve_line(rt, shared, session, writer, line, lines.line()) {
+        if let Some(end) = serve_next(rt, shared, session, lines, writer) {
             return end;
         }
     }
@@ -166,9 +195,12 @@ fn serve_all<J: Naming, I: Input + Drop, O: Output, G: Gate, R: Wait + Clock>(
 /// and then closes its watcher.
 ///
 /// The reader has met no fault, and its lines are of at most `LINE_LIMIT` bytes (serving.rt). It is lent, so that its
-/// caller knows of its last calls: where it has ended the session, its last call failed, and none came behind that.
+/// caller knows of its last calls: where it has ended the session, its last call failed, and none came after that. Each line
+/// is answered before the next one is read ([`serve_next`]), and all of them that the reader had read whole at a fault.
+/// This is said of the bytes that are known of a stream: of one in memory, and of a stream over one.
 ///
-/// The desk is held while a request is done, and not while the session reads, writes or rests. `take` and `follow` take
+/// The desk is held while a request is done, and not while the session reads, writes, rests, or prints the posts that it
+/// takes or a `close` hands out; sessions have it in the order in which they asked for it. `take` and `follow` take
 /// posts without it, and hold it to meet it where they find none. `follow` rests at the bell where none wait, and ends
 /// once it has as many as were asked for, where its watcher lags or a stop has ended it, and where the client has gone.
 /// A command and a stop ring the bell. Where posts were taken and there is no memory to tell them, the session says so
@@ -196,7 +228,7 @@ where
     R: Wait + Clock,
     requires fresh { fault_of lines.old ≡ None }
     requires limit { limit_of lines.old ≡ line_limit }
-    ensures served { IsTrue I.tells → IsTrue O.tells → ServedShared (bytes_left lines.old) (O.written writer.old) (O.written writer.new) result }
+    ensures served { ServedShared (known_left lines.old) (known_left lines.new) (O.contents writer.old) (O.contents writer.new) result }
 
     // A fault of the reader ends it only where the reader's last call failed, and 1,000 interruptions
     // only where so many calls were interrupted in succession. At every other end the reader's last

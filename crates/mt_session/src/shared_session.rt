@@ -9,7 +9,7 @@ ghost use Rattle.mt_desk.specs.Desk.{IsDesk, floor_of_desk};
 ghost use Rattle.mt_desk.specs.Headline.{Meet, Close, IsScheduledBy};
 ghost use Rattle.mt_events.specs.Texts.{posts_text};
 ghost use Rattle.mt_session.specs.Requests.{answer_to, replied_text, opened_text, closed_text};
-ghost use Rattle.mt_session.specs.SharedTurns.{floor_seen, found_state, is_under_lock, with_taken_posts, IsCommanded, IsBegun, IsDoneBy, IsUndoneBy, HasTaken, KeepsWatcher, HasPopped};
+ghost use Rattle.mt_session.specs.SharedTurns.{floor_seen, found_state, is_under_lock, with_taken_posts, IsCommanded, IsBegun, IsDoneBy, IsUndoneBy, HasTaken, KeepsWatcher, HasPopped, HasEnded};
 
 use crate::queries::{find, show, told_refusal};
 use crate::text::Text;
@@ -82,8 +82,8 @@ fn closed<J: Naming, R: Wait>(rt: &R, desk: &mut Desk<J>, watcher: Watcher<J>) -
     }
 }
 
-/// Posts behind how many lines they are. Refused as `NoMemory` alone.
-fn told(alloc: Global, posts: &[Arc<Post>]) -> Result<Text, Fault>
+/// Posts after how many lines they are. Refused as `NoMemory` alone.
+pub(crate) fn told(alloc: Global, posts: &[Arc<Post>]) -> Result<Text, Fault>
     ensures text { IfOk result (λ text. text ≡ posts_text (map (λ p. arc_value p) posts.now)) }
     ensures memory { IsOkUnless result Fault.NoMemory }
 {
@@ -277,18 +277,19 @@ impl<J: Naming> SharedSession<J> {
         }
     }
 
-    /// Closes the session's watcher, if it has one. Takes no memory. It may wait, as each call on a queue may.
-    pub fn leave<R: Wait>(&mut self, rt: &R, desk: &mut Desk<J>)
+    /// Ends the session's watcher, if it has one, and hands out what was sent to it and not taken. Takes no memory. It may
+    /// wait, as each call on a queue may.
+    pub fn end<R: Wait>(&mut self, rt: &R, desk: &mut Desk<J>) -> Option<SharedPosts>
         ensures none { self.new ≡ None }
-        ensures closed { ForSome self.old (λ (w : WatcherView). (posts : List PostView) × IsClosed desk.old w posts desk.new × IsScheduledBy (Close w posts) desk.new) }
-        ensures unwatched { self.old ≡ None → desk.new ≡ desk.old }
+        ensures ended { HasEnded desk.old self.old result desk.new }
 
         // What is always true of a desk.
         ensures kept { IsDesk desk.old }
     {
         let _book = desk.book();
-        if let Some(watcher) = self.watcher.take() {
-            let _ = closed(rt, desk, watcher);
+        match self.watcher.take() {
+            Some(watcher) => Some(closed(rt, desk, watcher)),
+            None => None,
         }
     }
 }

@@ -1,5 +1,5 @@
 use Rattle.std.proofs.Common.{◌≡◌, IsTrue, List, [], None, length, ◌≤◌}
-use Rattle.mt_lines.specs.Reading.{bytes_left, failed_calls, last_faults, limit_of, fault_of}
+use Rattle.mt_lines.specs.Reading.{known_left, failed_calls, last_faults, limit_of, fault_of}
 use Rattle.mt_session.specs.Requests.{session_state}
 use Rattle.mt_session.specs.Session.{Turn, Going, line_limit}
 use Rattle.mt_session.proofs.serving.serve_session.Given as goal
@@ -14,5 +14,5 @@ invariant-lines g l = record {
   idle : l.floor.due ≡ [];
   fresh : fault_of l.lines ≡ None;
   limit : limit_of l.lines ≡ line_limit;
-  going : IsTrue g.R.Input.tells → IsTrue g.W.Output.tells → (turns : List Turn) × (length turns ≡ l._count) × Going turns (bytes_left l.initial.lines) (bytes_left l.lines) (session_state l.initial.floor l.initial.session) (session_state l.floor l.session) (g.W.Output.written l.initial.writer) (g.W.Output.written l.writer);
+  going : (turns : List Turn) × (length turns ≡ l._count) × Going turns (known_left l.initial.lines) (known_left l.lines) (session_state l.initial.floor l.initial.session) (session_state l.floor l.session) (g.W.Output.contents l.initial.writer) (g.W.Output.contents l.writer);
 }

@@ -1,44 +1,50 @@
-use Rattle.std.proofs.Common.{◌≡◌, ℕ, List, [], ◌∷◌, ◌++◌, ◌∙◌, None, Some, Ok, arith, length-append, refl, subst}
-use Rattle.mt_lines.specs.declared.line.Line.{Line}
-use Rattle.mt_lines.specs.Reading.{IsNext, limit_of}
-use Rattle.mt_session.specs.Session.{line_limit}
-use Rattle.mt_session.proofs.SharedLineLaws.{going_more, fault_served, line_answered, served_ending, served_spent}
+use Rattle.std.proofs.Common.{[], ◌∷◌, ◌++◌, refl, arith, length-append}
+use Rattle.mt_session.proofs.SessionLaws.{read_more, cut_more}
+use Rattle.mt_session.proofs.SharedLineLaws.{going_none, going_more, served_ending, served_spent}
 use Rattle.mt_session.proofs.shared_serving.serve_all.Goals as goal
 
--- the reader has the limit of sessions
-next_at : (limit : ℕ) (before later bytes : List ℕ) (line : Line) → limit ≡ line_limit → IsNext limit before (Ok line) bytes later → IsNext line_limit before (Ok line) bytes later
-next_at limit before later bytes line e n = subst (λ x. IsNext x before (Ok line) bytes later) e n
-
-pub lines-preserved : goal.lines-preserved
-lines-preserved g c = record {
-  read = λ t. omega (arith, c.lines.invariant.read t, c.in-Ok.ensures.cause (rw c.lines.invariant.fresh refl) t);
-  read_run = λ t none. c.in-Ok.ensures.faults (rw c.lines.invariant.fresh refl) t (c.lines.invariant.read_run t none);
-  failed = λ t. omega (arith, c.lines.invariant.failed t, c.in_default.ensures.cut t);
-  cut_run = λ t none. c.in_default.ensures.cut_run t (c.lines.invariant.cut_run t none);
-  fresh = c.in-Ok.ensures.fault;
-  limit = c.in-Ok.ensures.same ∙ c.lines.invariant.limit;
-  going = λ t u.
-      let i = c.lines.invariant.going t u in
-      let n = line_answered g.O.Output.tells _ _ _ c.in-Ok.line c.lines.session c.serve_line.new.session _ _ None u
-      (next_at (limit_of c.lines.lines) _ _ _ c.in-Ok.line c.lines.invariant.limit (c.in-Ok.ensures.next (rw c.lines.invariant.fresh refl) t)) (rw c.line.ensures at c.in_default.ensures.served) in
-      (i.0 ++ n.0 ∷ [], simp length-append (omega (arith, i.1)), going_more i.0 (n.0 ∷ []) _ _ _ c.args.session.now c.lines.session c.serve_line.new.session _ _ _ i.2 n.1);
+pub lines-init : goal.lines-init
+lines-init g c = record {
+  read = λ t. omega arith;
+  read_run = λ t none. none;
+  failed = λ t. omega arith;
+  cut_run = λ t none. none;
+  fresh = c.requires.fresh;
+  limit = c.requires.limit;
+  going = ([], refl, going_none _ _ _);
 }
 
-pub returns-in-Err-clause-served : goal.returns-in-Err-clause-served
-returns-in-Err-clause-served g c t u left =
-    let i = c.lines.invariant.going t u in
-    let n = fault_served _ _ _ _ c.in-Err.fault c.lines.session (g.O.Output.written c.lines.writer) c.lines.invariant.limit
-    (λ e. c.in-Err.ensures.memory (rw c.lines.invariant.fresh refl) (rw e refl)) (c.in-Err.ensures.next (rw c.lines.invariant.fresh refl) t) in
-    served_ending i.0 _ _ c.args.session.now c.lines.session c.lines.session _ _ _ _ c.requires.none i.2 n (omega (arith, i.1, c.lines-test.true)) left
+pub lines-preserved : goal.lines-preserved
+lines-preserved g c =
+    let i = c.lines.invariant.going in
+    let n = c.in_default.ensures.served in record {
+      read = λ t. omega (arith, c.lines.invariant.read t, c.in_default.ensures.read t);
+      read_run = λ t none. c.in_default.ensures.read_run t (c.lines.invariant.read_run t none);
+      failed = λ t. omega (arith, c.lines.invariant.failed t, c.in_default.ensures.cut t);
+      cut_run = λ t none. c.in_default.ensures.cut_run t (c.lines.invariant.cut_run t none);
+      fresh = c.in_default.ensures.fresh refl;
+      limit = c.in_default.ensures.limit;
+      going = (i.0 ++ n.0 ∷ [], simp length-append (omega (arith, i.1)), going_more i.0 (n.0 ∷ []) _ _ _ c.args.session.now _ _ _ _ _ i.2 n.1);
+    }
 
 pub returns-in-Some-clause-served : goal.returns-in-Some-clause-served
-returns-in-Some-clause-served g c t u left =
-    let i = c.lines.invariant.going t u in
-    let n = line_answered g.O.Output.tells _ _ _ c.in-Ok.line c.lines.session c.serve_line.new.session _ _ (Some c.in-Some.end) u
-    (next_at (limit_of c.lines.lines) _ _ _ c.in-Ok.line c.lines.invariant.limit (c.in-Ok.ensures.next (rw c.lines.invariant.fresh refl) t)) (rw c.line.ensures at c.in-Some.ensures.served) in
-    served_ending i.0 _ _ c.args.session.now c.lines.session c.serve_line.new.session _ _ _ c.in-Some.end c.requires.none i.2 n (omega (arith, i.1, c.lines-test.true)) left
+returns-in-Some-clause-served g c left =
+    let i = c.lines.invariant.going in
+    served_ending i.0 _ _ _ c.args.session.now _ _ _ _ _ c.in-Some.end c.requires.none i.2 c.in-Some.ensures.served (omega (arith, i.1, c.lines-test.true)) left
+
+pub returns-in-Some-clause-read : goal.returns-in-Some-clause-read
+returns-in-Some-clause-read g c t = read_more c.in-Some.end _ _ _ (c.lines.invariant.read t) (c.in-Some.ensures.read t)
+
+pub returns-in-Some-clause-read_run : goal.returns-in-Some-clause-read_run
+returns-in-Some-clause-read_run g c t none = c.in-Some.ensures.read_run t (c.lines.invariant.read_run t none)
+
+pub returns-in-Some-clause-cut : goal.returns-in-Some-clause-cut
+returns-in-Some-clause-cut g c t = cut_more c.in-Some.end _ _ _ (c.lines.invariant.failed t) (c.in-Some.ensures.cut t)
+
+pub returns-in-Some-clause-cut_run : goal.returns-in-Some-clause-cut_run
+returns-in-Some-clause-cut_run g c t none = c.in-Some.ensures.cut_run t (c.lines.invariant.cut_run t none)
 
 pub returns-clause-served : goal.returns-clause-served
-returns-clause-served g c t u left =
-    let i = c.lines.invariant.going t u in
-    served_spent i.0 _ _ c.args.session.now c.lines.session _ _ c.requires.none i.2 (omega (arith, i.1, c.lines.auto._count-end, c.lines-test.false)) left
+returns-clause-served g c left =
+    let i = c.lines.invariant.going in
+    served_spent i.0 _ _ c.args.session.now _ _ _ c.requires.none i.2 (omega (arith, i.1, c.lines.auto._count-end, c.lines-test.false)) left

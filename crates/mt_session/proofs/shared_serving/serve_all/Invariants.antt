@@ -1,8 +1,7 @@
 use Rattle.std.proofs.Common.{◌≡◌, IsTrue, List, [], None, length, ◌≤◌}
-use Rattle.mt_lines.specs.Reading.{bytes_left, failed_calls, last_faults, limit_of, fault_of}
+use Rattle.mt_lines.specs.Reading.{known_left, failed_calls, last_faults, limit_of, fault_of}
 use Rattle.mt_session.specs.Session.{line_limit}
-use Rattle.mt_session.specs.SharedSession.{SharedTurn}
-use Rattle.mt_session.specs.SharedServing.{SharedGoing}
+use Rattle.mt_session.specs.SharedSession.{SharedTurn, SharedGoing}
 use Rattle.mt_session.proofs.shared_serving.serve_all.Given as goal
 
 -- so many lines were served, and the session goes on
@@ -14,5 +13,5 @@ invariant-lines g l = record {
   cut_run : IsTrue g.O.Output.counts → g.O.Output.faults l.initial.writer ≡ [] → g.O.Output.faults l.writer ≡ [];
   fresh : fault_of l.lines ≡ None;
   limit : limit_of l.lines ≡ line_limit;
-  going : IsTrue g.I.Input.tells → IsTrue g.O.Output.tells → (turns : List SharedTurn) × (length turns ≡ l._count) × SharedGoing turns (bytes_left l.initial.lines) (bytes_left l.lines) l.initial.session l.session (g.O.Output.written l.initial.writer) (g.O.Output.written l.writer);
+  going : (turns : List SharedTurn) × (length turns ≡ l._count) × SharedGoing turns (known_left l.initial.lines) (known_left l.lines) l.initial.session l.session (g.O.Output.contents l.initial.writer) (g.O.Output.contents l.writer);
 }

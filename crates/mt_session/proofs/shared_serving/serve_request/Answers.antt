@@ -1,20 +1,21 @@
 use Rattle.std.proofs.Common.{[], ◌++◌, arith, unwrap_or}
+use Rattle.std.proofs.KnownBytes.{Appends-trans}
 use Rattle.mt_session.proofs.SessionLaws.{uncut_cause, uncut_run}
-use Rattle.mt_session.proofs.SharedLineLaws.{piece_more, written_more, piece_over, piece_cut, piece_uncut}
+use Rattle.mt_session.proofs.SharedLineLaws.{piece_more, piece_over, piece_cut, piece_uncut}
 use Rattle.mt_session.proofs.shared_serving.serve_request.Goals as goal
 
 pub returns-in-Err-clause-served : goal.returns-in-Err-clause-served
 returns-in-Err-clause-served g c =
     let i = c.pieces.invariant.so_far in
     let p = c.next_piece-piece in
-    piece_cut g.O.Output.tells c.args.session.now c.pieces.session p.new.session c.args.request.now _ _ _ i.0 c.pieces.told p.result.text p.result.then c.in-Err.cut
+    piece_cut c.args.session.now c.pieces.session p.new.session c.args.request.now _ _ _ i.0 c.pieces.told p.result.text p.result.then c.in-Err.cut
     i.1 (p.ensures c.args.session.now i.0 i.1) c.in-Err.ensures.within i.2 c.in-Err.ensures.cut
 
 pub returns-in-Over-clause-served : goal.returns-in-Over-clause-served
 returns-in-Over-clause-served g c =
     let i = c.pieces.invariant.so_far in
     let p = c.next_piece-piece in
-    piece_over g.O.Output.tells c.args.session.now p.new.session c.args.request.now _ _ _ i.0 p.result.text p.result.then c.in-Over.end
+    piece_over c.args.session.now p.new.session c.args.request.now _ _ _ i.0 p.result.text p.result.then c.in-Over.end
     (p.ensures c.args.session.now i.0 i.1) c.in-Over.is i.2 c.in_default.ensures.whole
 
 pub returns-in-Over-clause-cut : goal.returns-in-Over-clause-cut
@@ -41,6 +42,6 @@ pieces-preserved g c =
       so_far = (
         i.0 ++ unwrap_or p.result.text [],
         piece_more c.args.session.now p.new.session c.args.request.now i.0 c.in-More.count p.result.text p.result.then c.in-More.is (p.ensures c.args.session.now i.0 i.1),
-        written_more g.O.Output.tells _ _ _ i.0 (unwrap_or p.result.text []) i.2 c.in_default.ensures.whole,
+        Appends-trans _ _ _ i.0 (unwrap_or p.result.text []) i.2 c.in_default.ensures.whole,
       );
     }
