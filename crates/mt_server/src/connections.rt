@@ -14,7 +14,7 @@ const MOST_LOOKS: u32 = 100;
 /// How long one look waits, in milliseconds.
 const LOOK: u64 = 100;
 
-/// How long one read of a session waits, in seconds.
+/// How long one read or write of a session waits, in seconds.
 pub(crate) const PATIENCE: u64 = 1;
 
 /// A connection that has a session.
@@ -64,9 +64,9 @@ impl Connections {
     }
 
     /// Counts a connection as one that has a session, and answers the session's number. Sessions
-    /// count from 1. Each read of the stream waits for a second at most from then on. Refused as
-    /// `TooMany` where as many have one as may, and as `NoMemory` where the system refuses that, or
-    /// has no second descriptor for the stream.
+    /// count from 1. Each read and each write of the stream waits for a second at most from then on.
+    /// Refused as `TooMany` where as many have one as may, and as `NoMemory` where the system refuses
+    /// that, or has no second descriptor for the stream.
     pub(crate) fn enter<Runtime: Wait>(
         &self,
         rt: &Runtime,
@@ -144,10 +144,13 @@ impl Connections {
     }
 }
 
-/// Makes each read of a stream wait for a second at most, and answers the stream a second time.
-/// Refused as the system refuses either: a session whose reads have no bound would hold up a stop.
+/// Makes each read and each write of a stream wait for a second at most, and answers the stream a second time.
+/// Refused as the system refuses any of it: a session whose reads have no bound would hold up a stop, and one whose
+/// writes have none would never end for a client that does not read.
 fn prepare(stream: &UnixStream) -> io::Result<UnixStream> {
-    stream.set_read_timeout(Some(Duration::from_secs(PATIENCE)))?;
+    let patience = Some(Duration::from_secs(PATIENCE));
+    stream.set_read_timeout(patience)?;
+    stream.set_write_timeout(patience)?;
     stream.try_clone()
 }
 
