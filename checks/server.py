@@ -38,7 +38,7 @@ from clients.starts import check_starts
 from clients.worlds import check_worlds
 from harness.protocol import Broken
 from harness.runs import check, failures
-from servers import blocked, cases, connections, lines, losses, paths, stops
+from servers import blocked, bounds, cases, connections, lines, losses, paths, stops
 from servers.depth import check_deep
 from servers.memory import check_wanting
 from servers.soak import check_soak
@@ -63,6 +63,7 @@ PARTS = {
     "gone": losses.check_gone,
     "lag": losses.check_lag,
     "deep": check_deep,
+    "bounded": bounds.check_bounded,
     "many": connections.check_many,
     "signals": losses.check_signals,
     "wanting": check_wanting,
