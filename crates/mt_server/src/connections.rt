@@ -1,4 +1,6 @@
 //! The connections that have a session, and whether the server stops: a [`Register`] of their streams under a lock.
+ghost use Rattle.std.specs.Prelude.{◌≡◌, ◌⊎◌, IfErr};
+
 use crate::register::Register;
 use mt_skel::fault::Fault;
 use std::alloc::{AllocError, Global};
@@ -42,7 +44,9 @@ impl Connections {
         &self,
         rt: &Runtime,
         stream: &UnixStream,
-    ) -> Result<u64, Fault> {
+    ) -> Result<u64, Fault>
+        ensures fault { IfErr result (λ fault. (fault ≡ Fault.TooMany) ⊎ (fault ≡ Fault.NoMemory)) }
+    {
         let mut register = self.register.lock(rt);
         if !register.lets_in() {
             return Err(Fault::TooMany);

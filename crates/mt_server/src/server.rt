@@ -182,10 +182,11 @@ where
 /// Accepts the connections of a door as [`run_server`] does those of a listener, and answers the
 /// door as it has left it. The listener of the premises is where the door's connections come from.
 ///
-/// Whether the desk is stopped is looked for behind each accept, so that it is never answered
-/// before the door was asked; who has stopped it, and whether that session's answer went out, is not asked.
-/// That it was stopped is no clause: the threads of the sessions share the desk under a lock, and a
-/// value under a lock has no name outside.
+/// It goes one round after another ([`accept_one`]). Whether the desk is stopped is looked for behind each accept, so
+/// that it is never answered before the door was asked; who has stopped it, and whether that session's answer went out,
+/// is not asked. That it was stopped is no clause: the threads of the sessions share the desk under a lock, and a value
+/// under a lock has no name outside. A round is over only where its lookout said so, and what this one says is what it
+/// has read of the desk under that lock.
 pub fn serve_door<'a, D, Name, Moments, Runtime>(
     rt: &Runtime,
     alloc: Global,
@@ -227,7 +228,8 @@ where
 /// which there is no thread or no descriptor, or of which the system bounds no read, reads
 /// `no NoMemory` and its end. Sessions are numbered from 1. When a session ends, its connection is
 /// counted no longer before its client reads the end. One that has sent nothing for `premises.idle` seconds while
-/// it follows nothing, if that is not 0, ends as at the end of its input.
+/// it follows nothing, if that is not 0, ends as at the end of its input, and so does one whose client has taken nothing
+/// for so long of what it is sent, which is cut then.
 ///
 /// At a stop, and at a fault, the desk is stopped and no more connections are accepted. The other
 /// sessions go on: each ends once it has been idle for a second, so that a watcher can take what was

@@ -20,7 +20,7 @@ pub invariant_of-self : goal.invariant_of-self
 invariant_of-self g c =
     let f = one_found c.args.number c.in-Some.place (register_view c.self.inside) c.as_slice.result.now c.place_of.result c.remove.result c.self.invariant.register c.as_slice.ensures.value c.place_of.ensures.place c.in-Some.is c.remove.ensures.value in
     record {
-      register = subst (λ (es : List (Entry g.row.T.Denot)). IsRegister record (register_view c.self.inside) { entries = es }) (sym (c.remove.ensures.items ∙ f.1)) (is_left c.args.number (register_view c.self.inside) c.self.invariant.register);
+      register = subst (λ (es : List (Entry g.row.T.Denot)). IsRegister record (register_view c.self.inside) { entries = es }) (sym (◌∙◌ {A = List (Entry g.row.T.Denot)} c.remove.ensures.items f.1)) (is_left c.args.number (register_view c.self.inside) c.self.invariant.register);
       room = omega (arith, c.self.invariant.room, c.remove.ensures.capacity);
     }
 
@@ -32,4 +32,4 @@ returns-clause-kept g c =
 pub returns-clause-left : goal.returns-clause-left
 returns-clause-left g c =
     let f = one_found c.args.number c.in-Some.place (register_view c.self.inside) c.as_slice.result.now c.place_of.result c.remove.result c.self.invariant.register c.as_slice.ensures.value c.place_of.ensures.place c.in-Some.is c.remove.ensures.value in
-    ap (λ (es : List (Entry g.row.T.Denot)). record (register_view c.self.inside) { entries = es }) (c.remove.ensures.items ∙ f.1) ∙ ap (without_session c.args.number) c.self.view_is
+    ap (λ (es : List (Entry g.row.T.Denot)). record (register_view c.self.inside) { entries = es }) (◌∙◌ {A = List (Entry g.row.T.Denot)} c.remove.ensures.items f.1) ∙ ap (without_session c.args.number) c.self.view_is
