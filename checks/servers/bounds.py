@@ -14,7 +14,7 @@ UNITS = os.path.join(os.path.dirname(__file__), "..", "..", "docs", "systemd", "
 # The bytes of the address space here, and how many posts of all mounts of the chain surely have no room there.
 SPACE, MOST_POSTS = 512 << 20, 20
 
-# How much more memory the server may have behind the end of the watcher than before it, in KiB.
+# How much more memory the server may have after the end of the watcher than before it, in KiB.
 MOST_KEPT = 100 << 10
 
 # How long that may take, in seconds.
@@ -53,16 +53,16 @@ def check_bounded(program):
             check("a bound of the address space", 2 < accepted < MOST_POSTS, str(accepted))
             check("another is served there", other.ask(b"find 1 /m")[0].startswith(b"ok "))
         turned, found = until_accepted(client, accepted)
-        check("a command behind the end of the watcher", turned, repr(found))
+        check("a command after the end of the watcher", turned, repr(found))
         check("nothing is lost that was accepted", found == b"ok %d %d" % (CHAIN + 1, 2 * CHAIN + accepted + 1), repr(found))
         kept = server.status("VmRSS") - before
         check("the memory of freed posts goes back to the system", kept < MOST_KEPT, f"{kept} KiB more")
-        print(f"{accepted} posts of {CHAIN} deep mounts within {SPACE >> 20} MiB; {kept} KiB more behind them", flush=True)
+        print(f"{accepted} posts of {CHAIN} deep mounts within {SPACE >> 20} MiB; {kept} KiB more after them", flush=True)
         check_stopped_by("a bound of the address space", server, client)
 
 
 def line(count):
-    """A line that changes all mounts, behind so many of them."""
+    """A line that changes all mounts, after so many of them."""
     return b"setattr 1 / rec " + (b"clr=ro" if count % 2 else b"set=ro")
 
 
@@ -77,7 +77,7 @@ def fill(client):
 
 
 def until_accepted(client, accepted):
-    """Whether a change is accepted again, in time; and the first line of the table behind it."""
+    """Whether a change is accepted again, in time; and the first line of the table after it."""
     end = time.monotonic() + WAIT
     while time.monotonic() < end:
         if client.ask(line(accepted)) == [b"ok"]:

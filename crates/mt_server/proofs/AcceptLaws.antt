@@ -1,4 +1,4 @@
--- Rounds of a server, one behind another.
+-- Rounds of a server, one after another.
 use Rattle.std.proofs.Common.{◌≡◌, ℕ, ◌+◌, ◌<◌, ◌≤◌, ◌++◌, ◌↔◌, Bool, List, ◌∷◌, replicate, false, arith, suc, ap, ◌∙◌}
 use Rattle.mt_server.specs.Accepting.{is_over, most_failures}
 use Rattle.mt_server.specs.declared.accepting.Round.{Round}

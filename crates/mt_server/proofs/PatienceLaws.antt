@@ -1,4 +1,4 @@
--- Reads that answer no bytes, and one behind them; writes that take none, and one behind them.
+-- Reads that answer no bytes, and one after them; writes that take none, and one after them.
 use Rattle.std.proofs.Common.{ℕ, List, ◌++◌, take, Option, Some, None, sym, ap, ◌∙◌}
 use Rattle.std.specs.Io.KnownBytes.{Consumes, Appends, Keeps}
 

@@ -24,7 +24,7 @@ module _ {T : Type 0} where
   numbered_last n x [] e b = grind (arith, nat_tests)
   numbered_last n x (y ∷ ys) e b = grind (arith, nat_tests, numbered_last n x ys e)
 
-  -- the session of a number, with those before it and those behind it
+  -- the session of a number, with those before it and those after it
   record IsAt (q i : ℕ) (rs : List (Entry T)) (row : Entry T) : Type 0 where
     front : List (Entry T)
     back : List (Entry T)

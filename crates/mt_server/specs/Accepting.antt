@@ -20,9 +20,9 @@ is_over (Arrived stream) = false
 is_over Missed = false
 is_over GivesUp = false
 
--- how many have failed one after another behind this round, if before it so many had; a server that is over does not count
-abbrev pub failures_behind : Round → ℕ → ℕ
-failures_behind Over failed = failed
-failures_behind (Arrived stream) failed = 0
-failures_behind Missed failed = failed + 1
-failures_behind GivesUp failed = failed + 1
+-- how many have failed one after another with this round, if before it so many had; a server that is over does not count
+abbrev pub failures_with : Round → ℕ → ℕ
+failures_with Over failed = failed
+failures_with (Arrived stream) failed = 0
+failures_with Missed failed = failed + 1
+failures_with GivesUp failed = failed + 1

@@ -1,7 +1,7 @@
 -- What a session reads of its stream and writes to it.
 -- A word with no source is this project's rule.
 use Rattle.std.specs.Prelude.{ℕ, List, take, Option, Result, MatchResult}
-use Rattle.std.specs.Io.KnownBytes.{Consumes, Appends, Keeps}
+use Rattle.std.specs.Io.KnownBytes.{Consumes, Keeps}
 use Rattle.mt_server.specs.declared.patient.Patient.{Patient}
 use Rattle.mt_server.specs.declared.patient_writer.PatientWriter.{PatientWriter}
 
@@ -17,7 +17,3 @@ ReadsPatiently old new r buffer = MatchResult r (λ n. Consumes old new (take n 
 -- the writer that a patient one writes to
 abbrev pub patient_writer_inner : {Runtime W : Type 0} → PatientWriter Runtime W → W
 patient_writer_inner p = p.inner
-
--- as many of the bytes as are answered went out, from the first one on, and no others; none where a fault is answered
-abbrev pub WritesPatiently : {E : Type 0} → Option (List ℕ) → Option (List ℕ) → Result ℕ E → List ℕ → Type 0
-WritesPatiently old new r bytes = MatchResult r (λ n. Appends old new (take n bytes)) (λ _. Keeps old new)

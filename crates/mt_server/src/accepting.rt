@@ -1,6 +1,6 @@
 //! One round of a server: a connection is accepted, or it is over.
 ghost use Rattle.std.specs.Prelude.{◌≡◌, ◌↔◌, ◌+◌, ◌<◌, ◌≤◌, ℕ, Bool, List, ◌∷◌, IsTrue, false};
-ghost use Rattle.mt_server.specs.Accepting.{failures_after, failures_behind, is_over, most_failures};
+ghost use Rattle.mt_server.specs.Accepting.{failures_after, failures_with, is_over, most_failures};
 
 use std::io;
 use std::os::unix::net::UnixStream;
@@ -64,7 +64,7 @@ where
     requires { failures.old < most_failures }
     ensures asked { IsTrue D.counts → D.asked door.new ≡ D.asked door.old + 1 }
     ensures looked { IsTrue L.notes → L.looks lookout.new ≡ is_over result ∷ L.looks lookout.old }
-    ensures failures { failures.new ≡ failures_behind result failures.old }
+    ensures failures { failures.new ≡ failures_with result failures.old }
     ensures counted { IsTrue D.counts → D.failures door.old ≡ failures.old → is_over result ≡ false → failures.new ≡ D.failures door.new }
     ensures bound { IsTrue D.counts → D.failures door.new ≤ D.failures door.old + 1 }
     ensures gives_up { (result ≡ Round.GivesUp) ↔ (failures.new ≡ most_failures) }

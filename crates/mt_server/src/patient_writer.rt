@@ -5,7 +5,7 @@ use std::io::{ErrorKind, Write};
 use std::sync::Wait;
 
 /// The stream of a connection that has a session, as an `Output`: it waits for a client that does not read, and so many
-/// seconds at most where that is said. It tells no bytes and counts no failures.
+/// seconds at most where that is said. It counts no failures. What it has taken is known where it is known of the stream.
 #[derive(Drop)]
 pub(crate) struct PatientWriter<'a, Runtime: Wait, W> {
     rt: &'a Runtime,
@@ -31,7 +31,8 @@ impl<'a, Runtime: Wait, W> PatientWriter<'a, Runtime, W> {
 
 impl<'a, Runtime: Wait, W: Write + Drop> PatientWriter<'a, Runtime, W> {
     ghost use Rattle.std.specs.Prelude.{◌≤◌, length, IfOk};
-    ghost use Rattle.mt_server.specs.Patience.{patient_writer_inner, WritesPatiently};
+    ghost use Rattle.std.specs.Io.KnownBytes.{WriteAppends};
+    ghost use Rattle.mt_server.specs.Patience.{patient_writer_inner};
 
     /// Writes until some bytes are taken. Where a write has waited in vain it writes again, unless as many seconds have
     /// passed as a session may be idle: then it is `Failed`. Each write that takes a byte begins anew with that time. An
@@ -41,7 +42,7 @@ impl<'a, Runtime: Wait, W: Write + Drop> PatientWriter<'a, Runtime, W> {
     #[tactic(auto, using(crate::proofs::PatienceLaws::kept_and_written, crate::proofs::PatienceLaws::kept_twice))]
     fn wait(&mut self, bytes: &[u8]) -> Result<usize, StreamFault>
         ensures bound { IfOk result (λ n. n ≤ length bytes.now) }
-        ensures bytes { WritesPatiently (W.contents (patient_writer_inner self.old)) (W.contents (patient_writer_inner self.new)) result bytes.now }
+        ensures known { WriteAppends (W.contents (patient_writer_inner self.old)) (W.contents (patient_writer_inner self.new)) result bytes.now }
     {
         let mut waited = 0u64;
         'writes: for _write in self.rt.forever() {
@@ -65,12 +66,15 @@ impl<'a, Runtime: Wait, W: Write + Drop> PatientWriter<'a, Runtime, W> {
 
 impl<'a, Runtime: Wait, W: Write + Drop> Output for PatientWriter<'a, Runtime, W> {
     ghost use Rattle.std.specs.Prelude.{[], false};
+    ghost use Rattle.mt_server.specs.Patience.{patient_writer_inner};
 
     ghost tells = { false };
 
     ghost counts = { false };
 
     ghost written = { λ w. [] };
+
+    ghost contents = { λ w. W.contents (patient_writer_inner w) };
 
     ghost failed = { λ w. 0 };
 

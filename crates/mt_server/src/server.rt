@@ -142,7 +142,7 @@ impl<'s, Name: Naming, Moments: Gate, Runtime: Wait> Lookout
 }
 
 /// Goes one round after another ([`accept_one`]) and gives each connection that has arrived a session, or turns it away.
-/// True once a round is over; false once one gives up, behind 1,000 failed accepts in succession.
+/// True once a round is over; false once one gives up, after 1,000 failed accepts in succession.
 fn accept_all<'s, E, D, L, Name, Moments, Runtime>(
     scope: &Scope<'s, E>,
     rt: &'s Runtime,
@@ -182,7 +182,7 @@ where
 /// Accepts the connections of a door as [`run_server`] does those of a listener, and answers the
 /// door as it has left it. The listener of the premises is where the door's connections come from.
 ///
-/// It goes one round after another ([`accept_one`]). Whether the desk is stopped is looked for behind each accept, so
+/// It goes one round after another ([`accept_one`]). Whether the desk is stopped is looked for after each accept, so
 /// that it is never answered before the door was asked; who has stopped it, and whether that session's answer went out,
 /// is not asked. That it was stopped is no clause: the threads of the sessions share the desk under a lock, and a value
 /// under a lock has no name outside. A round is over only where its lookout said so, and what this one says is what it
