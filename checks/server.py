@@ -38,7 +38,7 @@ from clients.starts import check_starts
 from clients.worlds import check_worlds
 from harness.protocol import Broken
 from harness.runs import check, failures
-from servers import cases, connections, lines, losses, paths, stops
+from servers import blocked, bounds, cases, connections, lines, losses, paths, stops
 from servers.depth import check_deep
 from servers.memory import check_wanting
 from servers.soak import check_soak
@@ -52,6 +52,7 @@ PARTS = {
     "accept": connections.check_accept,
     "descriptors": connections.check_descriptors,
     "idle": connections.check_idle,
+    "blocked": blocked.check_blocked,
     "limit": connections.check_limit,
     "one session": connections.check_one_session,
     "journal": lines.check_journal,
@@ -64,6 +65,7 @@ PARTS = {
     "lag": losses.check_lag,
     "deep": check_deep,
     "turns": check_turns,
+    "bounded": bounds.check_bounded,
     "many": connections.check_many,
     "signals": losses.check_signals,
     "wanting": check_wanting,

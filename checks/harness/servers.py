@@ -177,12 +177,15 @@ def user_of_none():
 class Server:
     """A server in a folder of its own, or at a path of another, which ends with the block."""
 
-    def __init__(self, program, *arguments, environment=None, held=(), path=None, descriptors=None):
+    def __init__(self, program, *arguments, environment=None, held=(), path=None, descriptors=None, space=None):
         self.folder = tempfile.mkdtemp()
         self.path = path or os.path.join(self.folder, "socket")
         words, pipe = [program, self.path, *arguments], subprocess.PIPE
         if descriptors:
             words = ["prlimit", f"--nofile={descriptors}:{descriptors}", *words]
+        # The bytes of its address space.
+        if space:
+            words = ["prlimit", f"--as={space}:{space}", *words]
         # The descriptors of `held` are the server's too.
         self.process = subprocess.Popen(
             words, stdin=subprocess.DEVNULL, stdout=pipe, stderr=pipe, env=environment, pass_fds=held

@@ -72,7 +72,7 @@ fn parser<'a>(alloc: Global) -> Result<Command<'a>, Error> {
         .long("idle")
         .value_name("SECONDS")
         .help(
-            "After how many seconds a session ends that sends nothing and follows nothing; 0: never",
+            "After how many seconds a session ends that sends nothing and follows nothing, or reads nothing; 0: never",
         )
         .value_parser(value_parser!(u16).range(0..=65535))
         .default_value("0");

@@ -1,1 +1,3 @@
+pub mod AcceptLaws
 pub mod PatienceLaws
+pub mod RegisterLaws

@@ -1,2 +1,4 @@
 pub mod Accepting
 pub mod Patience
+pub mod Register
+pub mod Seen

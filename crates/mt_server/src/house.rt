@@ -2,10 +2,10 @@
 use crate::connections::Connections;
 use crate::parting::{part, turn_away};
 use crate::patient::Patient;
+use crate::patient_writer::PatientWriter;
 use mt_desk::desk::Desk;
 use mt_desk::lines::Naming;
 use mt_lines::line::LineReader;
-use mt_lines::stream::Writing;
 use mt_session::bell::Bell;
 use mt_session::gate::Gate;
 use mt_session::serving::LINE_LIMIT;
@@ -37,7 +37,8 @@ pub struct Premises<'a, Name: Naming, Moments> {
     pub bell: &'a Bell,
     /// The most sessions at once.
     pub sessions: usize,
-    /// After how many seconds a session ends that sends nothing and follows nothing; 0 if never.
+    /// After how many seconds a session ends that sends nothing and follows nothing, or that takes nothing of what is
+    /// sent to it; 0 if never.
     pub idle: u64,
     /// What is called at certain moments of each session.
     pub gate: &'a Moments,
@@ -128,7 +129,7 @@ impl<'a, Name: Naming, Moments: Gate> House<'a, Name, Moments> {
         let Ok(mut lines) = LineReader::new(alloc, reader, LINE_LIMIT) else {
             return;
         };
-        let mut writer = Writing::new(stream);
+        let mut writer = PatientWriter::new(rt, stream, self.premises.idle);
         let _end = serve_shared(
             rt,
             alloc,

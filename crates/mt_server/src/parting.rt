@@ -40,7 +40,8 @@ pub(crate) fn part(stream: &UnixStream) {
     drain(stream, MOST_READS);
 }
 
-/// Tells a client why it has no session. It does not wait.
+/// Tells a client why it has no session. It does not wait: nothing was sent on the connection before, so that the system
+/// has room for a line.
 fn refuse(stream: &UnixStream, fault: Fault) {
     let _ = send(&mut Writing::new(stream), Text::refusal(fault).bytes());
     let _ = stream.shutdown(Shutdown::Write);

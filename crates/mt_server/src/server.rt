@@ -1,7 +1,9 @@
-//! The loop that accepts connections, and a thread for each session.
-ghost use Rattle.std.specs.Prelude.{◌≡◌, ◌+◌, ◌<◌, ◌≤◌, ℕ, Bool, IsTrue, IsOk, Err, true, false};
-ghost use Rattle.mt_server.specs.Accepting.{failures_after, most_failures};
+//! A server on a listener: a thread for each session.
+ghost use Rattle.std.specs.Prelude.{◌≡◌, ◌<◌, ◌≤◌, ℕ, ◌∷◌, ◌++◌, replicate, IsTrue, IsOk, Err, true, false};
+ghost use Rattle.mt_server.specs.Accepting.{most_failures};
 
+pub use crate::accepting::Door;
+use crate::accepting::{Lookout, Round, accept_one};
 use crate::house::House;
 pub use crate::house::Premises;
 use crate::parting::turn_away_now;
@@ -18,9 +20,6 @@ use std::time::{Clock, Duration};
 use std::{io, thread};
 use thiserror::Error;
 
-/// How many failed accepts in succession end a server.
-const MOST_FAILURES: u32 = 1_000;
-
 /// How long a server rests after a failed accept, in milliseconds.
 const REST: u64 = 10;
 
@@ -33,23 +32,6 @@ pub enum ServerFault {
     /// There was no memory for the server's own.
     #[error("out of memory")]
     NoMemory,
-}
-
-/// Where connections come from.
-///
-/// An implementation says of its type whether it `counts` its accepts. Where it does, `asked` is how
-/// many there were, and `failures` how many failed since the last one that did not.
-pub trait Door {
-    ghost counts: { Bool };
-
-    ghost asked: { Self → ℕ };
-
-    ghost failures: { Self → ℕ };
-
-    /// Waits for the next connection.
-    fn accept(&mut self) -> io::Result<UnixStream>
-        ensures asked { IsTrue counts → asked self.new ≡ asked self.old + 1 }
-        ensures counted { IsTrue counts → failures self.new ≡ failures_after (failures self.old) result };
 }
 
 /// A listener as a `Door`, which counts nothing.
@@ -103,12 +85,14 @@ where
     }
 }
 
-/// Gives a connection a session in a thread of its own, or turns it away.
+/// Gives a connection a session in a thread of its own, or turns it away; at once where the system has no descriptor
+/// to keep in reserve.
 fn receive<'s, E, Name, Moments, Runtime>(
     scope: &Scope<'s, E>,
     rt: &'s Runtime,
     alloc: Global,
     house: &'s House<'s, Name, Moments>,
+    spare: &mut Spare<'s>,
     stream: UnixStream,
 )
 where
@@ -116,6 +100,9 @@ where
     Moments: Gate + Sync,
     Runtime: Wait + Clock + Net<Listener = TcpListener, Stream = TcpStream> + Sync,
 {
+    let Some(stream) = spare.admit(stream) else {
+        return;
+    };
     let number = match house.connections.enter(rt, &stream) {
         Ok(number) => number,
         Err(fault) => return refuse(scope, rt, house, stream, fault),
@@ -131,44 +118,60 @@ where
     }
 }
 
-/// Accepts connections until the desk is stopped: then true; false after 1,000 failed
-/// accepts in succession.
-fn accept_all<'s, E, D, Name, Moments, Runtime>(
+/// The desk of a house as a `Lookout`. It notes nothing: the threads of the sessions share the desk under a lock, and a
+/// value under a lock has no name outside.
+#[derive(Drop)]
+struct Watchman<'s, Name: Naming, Moments, Runtime> {
+    rt: &'s Runtime,
+    house: &'s House<'s, Name, Moments>,
+}
+
+impl<'s, Name: Naming, Moments: Gate, Runtime: Wait> Lookout
+    for Watchman<'s, Name, Moments, Runtime> {
+    ghost use Rattle.std.specs.Prelude.{[], false};
+
+    ghost notes = { false };
+
+    ghost looks = { λ w. [] };
+
+    /// Whether the desk is stopped.
+    fn is_over(&mut self) -> bool {
+        let house = self.house;
+        house.is_over(self.rt)
+    }
+}
+
+/// Goes one round after another ([`accept_one`]) and gives each connection that has arrived a session, or turns it away.
+/// True once a round is over; false once one gives up, after 1,000 failed accepts in succession.
+fn accept_all<'s, E, D, L, Name, Moments, Runtime>(
     scope: &Scope<'s, E>,
     rt: &'s Runtime,
     alloc: Global,
     door: &mut D,
+    lookout: &mut L,
     house: &'s House<'s, Name, Moments>,
 ) -> bool
 where
     D: Door,
+    L: Lookout,
     Name: Naming + Send + Sync,
     Moments: Gate + Sync,
     Runtime: Wait + Clock + Net<Listener = TcpListener, Stream = TcpStream> + Sync,
     ensures gives_up { IsTrue D.counts → D.failures door.old ≡ 0 → result ≡ false → D.failures door.new ≡ most_failures }
     ensures goes_on { IsTrue D.counts → D.failures door.old ≡ 0 → result ≡ true → D.failures door.new ≤ most_failures }
     ensures asked { IsTrue D.counts → D.asked door.old < D.asked door.new }
+    // Each look but the last one has said no, and the last one what is answered.
+    ensures looked { IsTrue L.notes → (n : ℕ) × (L.looks lookout.new ≡ result ∷ replicate n false ++ L.looks lookout.old) }
 {
     let mut failures = 0u32;
     let mut spare = Spare::new(house.listener());
     'accepting: for _accept in rt.forever() {
-        let arrived = door.accept();
-        if house.is_over(rt) {
-            return true;
-        }
-        match arrived {
-            Ok(stream) => {
-                failures = 0;
-                if let Some(stream) = spare.admit(stream) {
-                    receive(scope, rt, alloc, house, stream);
-                }
-            }
-            Err(_) => {
-                failures += 1;
+        match accept_one(door, lookout, &mut failures) {
+            Round::Over => return true,
+            Round::GivesUp => return false,
+            Round::Arrived(stream) => receive(scope, rt, alloc, house, &mut spare, stream),
+            Round::Missed => {
                 spare.give_up();
-                if failures == MOST_FAILURES {
-                    return false;
-                }
                 thread::sleep(rt, Duration::from_millis(REST));
             }
         }
@@ -179,10 +182,11 @@ where
 /// Accepts the connections of a door as [`run_server`] does those of a listener, and answers the
 /// door as it has left it. The listener of the premises is where the door's connections come from.
 ///
-/// Whether the desk is stopped is looked for behind each accept, so that it is never answered
-/// before the door was asked; who has stopped it, and whether that session's answer went out, is not asked.
-/// That it was stopped is no clause: the threads of the sessions share the desk under a lock, and a
-/// value under a lock has no name outside.
+/// It goes one round after another ([`accept_one`]). Whether the desk is stopped is looked for after each accept, so
+/// that it is never answered before the door was asked; who has stopped it, and whether that session's answer went out,
+/// is not asked. That it was stopped is no clause: the threads of the sessions share the desk under a lock, and a value
+/// under a lock has no name outside. A round is over only where its lookout said so, and what this one says is what it
+/// has read of the desk under that lock.
 pub fn serve_door<'a, D, Name, Moments, Runtime>(
     rt: &Runtime,
     alloc: Global,
@@ -205,7 +209,8 @@ where
     let house = &house;
     let (stopped, door) = thread::scope(thread::scope_env(), rt, move |scope| {
         let mut door = door;
-        let stopped = accept_all(scope, rt, alloc, &mut door, house);
+        let mut watchman = Watchman { rt, house };
+        let stopped = accept_all(scope, rt, alloc, &mut door, &mut watchman, house);
         house.end_all(rt);
         (stopped, door)
     });
@@ -223,7 +228,8 @@ where
 /// which there is no thread or no descriptor, or of which the system bounds no read, reads
 /// `no NoMemory` and its end. Sessions are numbered from 1. When a session ends, its connection is
 /// counted no longer before its client reads the end. One that has sent nothing for `premises.idle` seconds while
-/// it follows nothing, if that is not 0, ends as at the end of its input.
+/// it follows nothing, if that is not 0, ends as at the end of its input, and so does one whose client has taken nothing
+/// for so long of what it is sent, which is cut then.
 ///
 /// At a stop, and at a fault, the desk is stopped and no more connections are accepted. The other
 /// sessions go on: each ends once it has been idle for a second, so that a watcher can take what was
