@@ -41,7 +41,7 @@ RESTARTS = 100
 BESIDE = 0.3
 
 # How long a start waits for a lock, in seconds, and how long it may take for that.
-PATIENCE, MOST_PATIENCE = 15, 25
+PATIENCE, MOST_PATIENCE = 15, 60
 
 
 def check_end(name, path, server):

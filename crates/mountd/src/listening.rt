@@ -127,7 +127,7 @@ fn take_lock<'a, R: Files<File = File> + Net + Clock>(
     Err(taken(rt, path))
 }
 
-/// Removes a stale socket: a connection to it is refused, and once more at the second look, behind which the path still
+/// Removes a stale socket: a connection to it is refused, and once more at the second look, after which the path still
 /// names the same one. Anything else at the path stays.
 fn remove_stale<R: Files + Net + Clock>(rt: &R, path: &str) {
     let stale = socket_at(rt, path);
