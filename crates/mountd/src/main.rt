@@ -129,9 +129,10 @@ fn serve_standard(rt: &HostRuntime, queue: usize) -> ExitCode {
     let mut writer = Writing::new(io::writer(rt));
     let mut floor = Floor::new(rt.alloc(), queue.clamp(1, MOST_POSTS));
     let end = serve_plain(rt.alloc(), &mut lines, &mut writer, &mut floor);
-    match complaint(end) {
-        None => ExitCode::SUCCESS,
-        Some(why) => PROGRAM.fail(rt, why),
+    match (complaint(end), writer.end()) {
+        (None, Ok(())) => ExitCode::SUCCESS,
+        (None, Err(_)) => PROGRAM.fail(rt, WRITE_FAULT),
+        (Some(why), _) => PROGRAM.fail(rt, why),
     }
 }
 

@@ -103,7 +103,11 @@ impl<'a, Name: Naming, Moments: Gate> House<'a, Name, Moments> {
 
     /// Whether the desk is stopped, so that nobody is let in any more.
     pub(crate) fn is_over<Runtime: Wait>(&self, rt: &Runtime) -> bool {
-        self.premises.desk.lock(rt).is_stopped()
+        let turns = self.premises.bell.turns();
+        turns.begin(rt);
+        let is_stopped = self.premises.desk.lock(rt).is_stopped();
+        turns.end(rt);
+        is_stopped
     }
 
     /// Where connections come from.
@@ -181,12 +185,20 @@ impl<'a, Name: Naming, Moments: Gate> House<'a, Name, Moments> {
         self.connections.end_parting(rt);
     }
 
+    /// Stops the desk, in a turn of its own.
+    fn stop<Runtime: Wait>(&self, rt: &Runtime) {
+        let turns = self.premises.bell.turns();
+        turns.begin(rt);
+        self.premises.desk.lock(rt).stop();
+        turns.end(rt);
+    }
+
     /// Ends all sessions. The desk is stopped, so that those that follow are told so; each goes on to
     /// be served until it has been idle for a second; those that are left after ten seconds are cut
     /// off.
     pub(crate) fn end_all<Runtime: Wait + Clock>(&self, rt: &Runtime) {
         self.connections.stop(rt);
-        self.premises.desk.lock(rt).stop();
+        self.stop(rt);
         self.premises.bell.ring(rt);
         self.connections.wait(rt);
         self.connections.cut_off(rt);
