@@ -1,5 +1,5 @@
 //! A session in a thread of its own: lines in, answers out, at a desk that others share.
-ghost use Rattle.std.specs.Prelude.{◌≡◌, ◌++◌, ◌<◌, ◌≤◌, ◌⊎◌, ℕ, List, [], take, unwrap_or, Option, IsTrue, IfErr, OnOk, OnErr, Ok, None, Some};
+ghost use Rattle.std.specs.Prelude.{◌≡◌, ◌<◌, ◌≤◌, ◌⊎◌, ℕ, List, [], take, unwrap_or, Option, IsTrue, IfErr, OnOk, OnErr, Ok, None, Some};
 ghost use Rattle.mt_desk.specs.Calls.{WatcherView};
 ghost use Rattle.std.specs.Io.KnownBytes.{Appends};
 ghost use Rattle.mt_lines.specs.Reading.{known_left, failed_calls, last_faults, limit_of, fault_of};
@@ -142,7 +142,7 @@ fn serve_line<J: Naming, O: Output, G: Gate, R: Wait + Clock>(
 /// One line leaves the reader, and its whole answer goes to the writer, before the next one is read (`served`). At the end
 /// of the input, and at a fault of the reader, nothing is written; of a fault the reader has lost no whole line. Where the
 /// session goes on, the reader has met no fault. [`serve_shared`] is the loop of this call.
-pub fn serve_next<J: Naming, I: Input + Drop, O: Output, G: Gate, R: Wait + Clock>(
+pub fn serve_shared_next<J: Naming, I: Input + Drop, O: Output, G: Gate, R: Wait + Clock>(
     rt: &R,
     shared: &Shared<'_, J, G>,
     session: &mut SharedSession<J>,
@@ -184,7 +184,7 @@ fn serve_all<J: Naming, I: Input + Drop, O: Output, G: Gate, R: Wait + Clock>(
     ensures cut_run { IsTrue O.counts → O.faults writer.old ≡ [] → IsCutRun (Some result) (O.faults writer.new) }
 {
     'lines: for _count in 0..MOST_LINES {
-        if let Some(end) = serve_next(rt, shared, session, lines, writer) {
+        if let Some(end) = serve_shared_next(rt, shared, session, lines, writer) {
             return end;
         }
     }
@@ -196,7 +196,7 @@ fn serve_all<J: Naming, I: Input + Drop, O: Output, G: Gate, R: Wait + Clock>(
 ///
 /// The reader has met no fault, and its lines are of at most `LINE_LIMIT` bytes (serving.rt). It is lent, so that its
 /// caller knows of its last calls: where it has ended the session, its last call failed, and none came after that. Each line
-/// is answered before the next one is read ([`serve_next`]), and all of them that the reader had read whole at a fault.
+/// is answered before the next one is read ([`serve_shared_next`]), and all of them that the reader had read whole at a fault.
 /// This is said of the bytes that are known of a stream: of one in memory, and of a stream over one.
 ///
 /// The desk is held while a request is done, and not while the session reads, writes, rests, or prints the posts that it

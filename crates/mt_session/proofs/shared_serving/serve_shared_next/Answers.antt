@@ -3,7 +3,7 @@ use Rattle.std.proofs.KnownBytes.{Keeps-refl}
 use Rattle.mt_lines.specs.Reading.{limit_of}
 use Rattle.mt_session.proofs.PassLaws.{next_at}
 use Rattle.mt_session.proofs.SharedLineLaws.{fault_served, line_answered, answered_read, answered_run}
-use Rattle.mt_session.proofs.shared_serving.serve_next.Goals as goal
+use Rattle.mt_session.proofs.shared_serving.serve_shared_next.Goals as goal
 
 pub returns-in-Err-clause-served : goal.returns-in-Err-clause-served
 returns-in-Err-clause-served g c =
