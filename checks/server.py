@@ -41,6 +41,7 @@ from harness.runs import check, failures
 from servers import blocked, bounds, cases, connections, lines, losses, paths, stops
 from servers.depth import check_deep
 from servers.memory import check_wanting
+from servers.owners import check_owners
 from servers.soak import check_soak
 from servers.turns import check_turns
 
@@ -49,6 +50,7 @@ PARTS = {
     "paths": paths.check_paths,
     "stale": paths.check_stale,
     "made": paths.check_made,
+    "owners": check_owners,
     "accept": connections.check_accept,
     "descriptors": connections.check_descriptors,
     "idle": connections.check_idle,

@@ -34,6 +34,9 @@ COMMANDS = 10, 30, 60
 ANY_TABLES = 500
 ANY_WHOLE = 137
 
+# In how many of them each row that is left out is tried alone beside those that are made.
+ALONE_TABLES = 150
+
 # Where a table has mounts that are left out: one stands on the root of a root mount that has a peer, and no path leads there.
 COVERED = ["case rbind-into-itself"]
 
@@ -128,27 +131,52 @@ def check_tables(program, mountctl):
     print(f"{len(whole)} tables imported, {len(partly)} with mounts left out")
 
 
+def comments_on(mountctl, lines):
+    """What the script of a table tells of the mounts that are left out."""
+    return {line for line in imported(mountctl, b"".join(line + b"\n" for line in lines))[1].split(b"\n") if b" is left out: " in line}
+
+
+def comment_on(line, why):
+    return b"# table 1: mount %s is left out: %s: %s" % (line.split(b" ")[0], why, line)
+
+
 def check_partly(program, mountctl):
     """Tables of which mounts are left out: which, and why; the others are made."""
     for number, table in enumerate(mountinfos.PARTLY):
         lines = [line if isinstance(line, bytes) else line[0] for line in table]
-        wanted = {b"# table 1: mount %s is left out: %s: %s" % (line[0].split(b" ")[0], line[1], line[0]) for line in table if isinstance(line, tuple)}
-        found = {line for line in imported(mountctl, b"".join(line + b"\n" for line in lines))[1].split(b"\n") if b" is left out: " in line}
+        wanted, found = {comment_on(*line) for line in table if isinstance(line, tuple)}, comments_on(mountctl, lines)
         check(f"what is left out of table {number}", found == wanted, shown(b"\n".join(found)))
         check_table(program, mountctl, f"import of table {number}, of which mounts are left out", lines)
+    for count, size, fields in mountinfos.AT_ROOTS:
+        name, (lines, why) = f"import of {count} mounts at the root, of {size} bytes each,{shown(fields)}", mountinfos.at_root(count, size, fields)
+        wanted, found = {comment_on(lines[-2], why)} if why else set(), comments_on(mountctl, lines)
+        check(f"{name}: what is left out", found == wanted, shown(b"\n".join(found)))
+        check_table(program, mountctl, name, lines)
     for groups in mountinfos.MOST_ABOVE + 1, mountinfos.MOST_ABOVE + 2:
         whole = check_table(program, mountctl, f"import of {groups} groups, each above the next", list(mountinfos.masters(groups)))
         check(f"{groups} groups, each above the next, are made", whole == (groups <= mountinfos.MOST_ABOVE + 1))
 
 
+def check_left_alone(mountctl, name, lines):
+    """Each row that is left out could not stand beside those that are made: how many are left out."""
+    script = imported(mountctl, b"".join(line + b"\n" for line in lines))[1].split(b"\n")
+    made, left = made_lines(lines, script), left_out(script)
+    for line in left:
+        with_it = [other for other in lines if other in made or other == line]
+        check(f"{name}: what is left out cannot stand", comments_on(mountctl, with_it) != set(), "\n".join(map(shown, [line, b"", *with_it])))
+    return len(left)
+
+
 def check_any(program, mountctl):
     """Tables of rows that may contradict each other: what is not made is told, and the others are made as they tell."""
-    count = 0
+    count, left = 0, 0
     for seed in range(ANY_TABLES):
-        lines = list(mountinfos.any_table(random.Random(seed)))
-        count += check_table(program, mountctl, f"import of any rows, seed {seed}", lines)
+        name, lines = f"import of any rows, seed {seed}", list(mountinfos.any_table(random.Random(seed)))
+        count += check_table(program, mountctl, name, lines)
+        if seed < ALONE_TABLES:
+            left += check_left_alone(mountctl, name, lines)
     check("any rows are imported as a whole at times, and not at others", ANY_WHOLE <= count < ANY_TABLES, str(count))
-    print(f"{ANY_TABLES} tables of any rows imported, {ANY_TABLES - count} with mounts left out")
+    print(f"{ANY_TABLES} tables of any rows imported, {ANY_TABLES - count} with mounts left out; {left} rows tried alone")
 
 
 # Words behind `import` that name no tables: none of a process, and options.

@@ -39,9 +39,11 @@ ODD_COMMENTS = [
 # Tables of which a mount may be left out, each line that is, and why. Mounts stand on the root of the root mount, unbindable, or one
 # on the other; one of them stands on a peer, to which no path leads. Copies of a mount get what is mounted where they stand. Rows tell
 # of their peer groups what cannot be: another device or master than one before, a ring of masters, a group above the master that is none
-# of those in sight, or a group of a mount that is unbindable. And two rows tell of one place.
+# of those in sight, or a group of a mount that is unbindable. Two rows tell of one place. A name has a zero byte. And a row that is left
+# out tells of a group what others do not: these are made, also where it is left out once the group above its master is gone.
 AT_ROOT = b"it stands on the root of one that has peers at the root of the namespace"
 ON_LEFT, SCRIPT_NAME = b"what it stands on is left out", b"its path has the name that the script uses"
+NO_DIRECTORY = b"its root or mount point is no directory"
 NO_GROUPS, SAME_PLACE = b"its peer groups cannot be as it tells them", b"another mount stands in its place"
 PARTLY = [
     [b"1 1 0:1 / / rw - tmpfs none rw", b"2 1 0:2 / / rw unbindable - tmpfs none rw"],
@@ -98,6 +100,29 @@ PARTLY = [
         (b"1 1 0:1 / / rw shared:1 unbindable - tmpfs none rw", NO_GROUPS),
         (b"2 1 0:2 / /a rw - tmpfs none rw", ON_LEFT),
     ],
+    [
+        b"1 1 0:1 / / rw - tmpfs none rw",
+        (b"2 1 0:2 / /a\0b rw - tmpfs none rw", NO_DIRECTORY),
+        (b"3 1 0:2 /a\0b /c rw - tmpfs none rw", NO_DIRECTORY),
+        (b"4 1 0:2 /  rw - tmpfs none rw", SAME_PLACE),
+        b"5 1 0:2 / / rw - tmpfs none rw",
+    ],
+    [
+        b"1 1 0:1 / / rw - tmpfs none rw",
+        b"2 1 0:2 / /a rw shared:1 - tmpfs none rw",
+        b"3 1 0:2 / /b rw shared:1 - tmpfs none rw",
+        (b"4 1 0:3 / /c rw shared:9 unbindable - tmpfs none rw", NO_GROUPS),
+        (b"5 4 0:2 / /c/d rw shared:1 master:2 - tmpfs none rw", NO_GROUPS),
+    ],
+    [
+        b"1 1 0:1 / / rw - tmpfs none rw",
+        b"2 1 0:2 / /a rw shared:1 - tmpfs none rw",
+        b"3 2 0:3 / /a/b rw shared:3 - tmpfs none rw",
+        (b"4 1 0:4 / /c rw master:7 propagate_from:8 - tmpfs none rw", NO_GROUPS),
+        (b"5 4 0:2 / /c/d rw shared:1 master:2 - tmpfs none rw", NO_GROUPS),
+        (b"6 1 0:3 / /e rw shared:9 unbindable - tmpfs none rw", NO_GROUPS),
+        (b"7 6 0:4 / /e/f rw shared:8 - tmpfs none rw", ON_LEFT),
+    ],
 ]
 
 # Tables of slaves, each alone in a peer group, at the directories that they show: what is mounted for one of them comes to it too,
@@ -115,6 +140,35 @@ HOOKED = [
         b"7 5 0:3 / /a/b rw shared:7 - tmpfs none rw",
     ],
 ]
+
+TOO_MANY = b"too many stand below it at the root of the namespace"
+TOO_LONG = b"its root is too long for one that has peers at the root of the namespace"
+
+# As many mounts as may stand on the root of a root mount, and as many bytes as the roots of those may have whose groups have others, with
+# eight for each mount below it; but no path has more bytes than this.
+MOST_AT_ROOT, MOST_ROOT_BYTES, MOST_PATH_BYTES = 32, 4_066, 4_000
+
+# Such mounts: how many, of how many bytes the root of each is, and what the fields of the last one are.
+SHARED = b" shared:18446744073709551615"
+AT_ROOTS = [(count, MOST_ROOT_BYTES - 8 * count + more, SHARED) for count in (9, 13, MOST_AT_ROOT) for more in (0, 1)]
+AT_ROOTS += [(1, MOST_PATH_BYTES, SHARED), (8, MOST_PATH_BYTES, SHARED), (13, 3_985, SHARED)]
+AT_ROOTS += [(MOST_AT_ROOT + more, MOST_PATH_BYTES, b"") for more in (0, 1)]
+
+
+def path_of(size):
+    """A path of so many bytes, of few names."""
+    return b"".join(b"/" + b"x" * (min(size - start, 250) - 1) for start in range(0, size, 250))
+
+
+def at_root(count, size, fields):
+    """A table of mounts that stand on the root of a root mount, one on the other, with roots of so many bytes, and of one elsewhere: the
+    last one and this have these fields. And why the last one is left out, or None."""
+    root, tags = path_of(size), [b""] * (count - 1) + [fields]
+    lines = [b"%d %d 0:2 %s / rw%s - tmpfs none rw" % (number + 2, number + 1, root, tag) for number, tag in enumerate(tags)]
+    is_long = fields and 8 * count + size > MOST_ROOT_BYTES
+    why = TOO_MANY if count > MOST_AT_ROOT else TOO_LONG if is_long else None
+    return [b"1 1 0:1 / / rw - tmpfs none rw", *lines, b"99 1 0:2 / /x rw%s - tmpfs none rw" % fields], why
+
 
 # As many groups as may be above one.
 MOST_ABOVE = 64

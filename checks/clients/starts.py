@@ -9,7 +9,7 @@ import tempfile
 import time
 
 from harness.runs import MOST_SECONDS, check, connection_fault, run, shown
-from harness.servers import Server, leave_socket
+from harness.servers import Server, crowded, leave_socket
 
 # How long a server is kept from its socket, and the time of a connection that is not to be had, in seconds.
 LATE, NEVER = 0.5, 1
@@ -110,8 +110,30 @@ def check_wait(program, mountctl):
             check(f"--wait={count}", found[:2] == (2, b"") and b"--wait" in found[2], repr(found))
 
 
+def check_crowd(mountctl):
+    """Where as many clients wait as may, one that is to wait for so long gives up then; without that it waits for room."""
+    with tempfile.TemporaryDirectory() as folder:
+        path = os.path.join(folder, "socket")
+        with crowded(path) as (door, clients):
+            start = time.monotonic()
+            found = run(mountctl, b"", "--wait", str(NEVER), path, "show", "1")
+            took = time.monotonic() - start
+            good = found == (3, b"", connection_fault(path, "operation would block"))
+            check("a wait at a crowded server", good and NEVER <= took < NEVER + MOST_SECONDS / 4, f"{found}, {took}")
+            with subprocess.Popen([mountctl, path, "show", "1"], stdout=subprocess.PIPE) as client:
+                time.sleep(LATE)
+                running = client.poll()
+                for _ in range(clients):
+                    door.accept()[0].close()
+                with door.accept()[0] as stream:
+                    stream.sendall(b"no NoNamespace\n")
+                    found = running, client.communicate(timeout=MOST_SECONDS)[0], client.returncode
+            check("a client at a crowded server", found == (None, b"no NoNamespace\n", 1), repr(found))
+
+
 def check_starts(program, mountctl):
-    """The version, the environment, and servers that come late."""
+    """The version, the environment, servers that come late, and one at which many clients wait."""
     check_version(program, mountctl)
     check_environment(program, mountctl)
     check_wait(program, mountctl)
+    check_crowd(mountctl)

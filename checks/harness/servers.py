@@ -1,5 +1,6 @@
 """Servers that are started here, and plain clients that speak with them. A module, for parts of server.py."""
 import contextlib
+import itertools
 import os
 import re
 import shutil
@@ -167,6 +168,22 @@ def leave_socket(path, kind=socket.SOCK_STREAM):
     """Leaves a stale socket at a path."""
     with socket.socket(socket.AF_UNIX, kind) as left:
         left.bind(path)
+
+
+@contextlib.contextmanager
+def crowded(path):
+    """A socket at a path at which as many clients wait as may, and nobody accepts them; and how many there are."""
+    with socket.socket(socket.AF_UNIX) as door, contextlib.ExitStack() as stack:
+        door.bind(path)
+        door.listen(0)
+        for count in itertools.count():
+            client = stack.enter_context(socket.socket(socket.AF_UNIX))
+            client.setblocking(False)
+            try:
+                client.connect(path)
+            except BlockingIOError:
+                yield door, count
+                return
 
 
 def user_of_none():

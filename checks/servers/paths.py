@@ -11,34 +11,43 @@ import tempfile
 import time
 
 from harness.protocol import Broken
-from harness.runs import MOST_SECONDS, check, library
-from harness.servers import STOP, Client, Server, leave_socket, user_of_none
+from harness.runs import MOST_SECONDS, check, run
+from harness.servers import STOP, Server, crowded, leave_socket, user_of_none
+from servers.starts import (
+    ABSENT,
+    DENIED,
+    EMPTY,
+    IN_USE,
+    LONG,
+    NO_SOCKET,
+    STARTS,
+    connected,
+    ended,
+    held,
+    let_go,
+    lock_of,
+    refusal,
+    started,
+    wait_for_hold,
+)
 from servers.stops import check_stopped
-
-# Why a start may not have its path.
-ABSENT, DENIED, EMPTY = "no such file or directory", "permission denied", "path is empty"
-IN_USE, LONG, NO_SOCKET = "address in use", "path too long", "is no socket"
-
-# Ways to start a server.
-STARTS = (), ("--replace",)
 
 # The mode of a socket, and of another file.
 OWN, PLAIN = 0o600, 0o644
 
+# How many descriptors the system needs to load a server, and how many that needs to serve a client; how it ends with fewer.
+LEAST_DESCRIPTORS, NEEDED_DESCRIPTORS = 4, 9
+TOO_FEW = 1, b"", b"mountd: cannot listen: too few descriptors\n"
 
-def refusal(path, reason):
-    """How a start ends that may not have its path."""
-    return 1, b"", f"mountd: cannot listen: {path}: {reason}\n".encode()
 
-
-def check_refused(name, program, path, reason, *, starts=STARTS, user=None):
-    """A start at a path is refused for this reason."""
+def check_refused(name, program, path, reason, *, told=None, starts=STARTS, user=None):
+    """A start at a path is refused for this reason, which is told of the path, or of another."""
     for options in starts:
         done = subprocess.run(
             [program, *options, path], stdin=subprocess.DEVNULL, capture_output=True, timeout=MOST_SECONDS, user=user
         )
         found = done.returncode, done.stdout, done.stderr
-        check(f"{' '.join(options)} {name}", found == refusal(path, reason), repr(found))
+        check(f"{' '.join(options)} {name}", found == refusal(told or path, reason), repr(found))
 
 
 def mode_of(path):
@@ -65,8 +74,29 @@ def check_denied(program):
         copy = shutil.copy(program, folder)
         os.chmod(copy, 0o755)
         os.chmod(folder, 0o555)
-        check_refused("a folder of somebody else", copy, os.path.join(folder, "socket"), DENIED, user=user_of_none())
+        lock = lock_of(path := os.path.join(folder, "socket"))
+        check_refused("a folder of somebody else", copy, path, DENIED, told=lock, user=user_of_none())
+        check_refused("a file in a folder of somebody else", copy, copy, NO_SOCKET, user=user_of_none())
         os.chmod(folder, 0o755)
+
+
+def check_crowded(program):
+    """A path at which somebody listens is refused also where as many clients wait as may, and at once."""
+    with tempfile.TemporaryDirectory() as folder:
+        path = os.path.join(folder, "socket")
+        with crowded(path):
+            check_stays("a path at which many clients wait", program, path, IN_USE)
+
+
+def check_few_descriptors(program):
+    """A server that may have too few descriptors to serve anybody does not start; with one more it serves a client, and is
+    stopped by it."""
+    with tempfile.TemporaryDirectory() as folder:
+        for count in range(LEAST_DESCRIPTORS, NEEDED_DESCRIPTORS):
+            found = run("prlimit", b"", f"--nofile={count}:{count}", program, os.path.join(folder, "socket"))
+            check(f"a start with {count} descriptors", found == TOO_FEW and not os.listdir(folder), repr(found))
+    with Server(program, descriptors=NEEDED_DESCRIPTORS) as server:
+        check_stopped("a start with enough descriptors", server)
 
 
 def check_paths(program):
@@ -78,6 +108,8 @@ def check_paths(program):
         with Server(program, path=long[:107]) as server:
             check_stopped("a path of 107 bytes", server)
     check_denied(program)
+    check_crowded(program)
+    check_few_descriptors(program)
     with Server(program) as server:
         check("who may connect", mode_of(server.path) == OWN, oct(mode_of(server.path)))
         check_stays("a path with a server", program, server.path, IN_USE)
@@ -95,6 +127,9 @@ def check_paths(program):
                 pass
             check("a stop with a strange file", client.ask(b"stop") == [b"ok"] and server.ends() == (0, b""))
             check("the strange file stays", os.path.isfile(server.path))
+    with Server(program) as server:
+        os.utime(server.path)
+        check_stopped("a stop after a touch of its socket", server)
 
 
 def check_strangers(program):
@@ -138,17 +173,6 @@ def check_stale(program):
 
 
 @contextlib.contextmanager
-def started(words, **settings):
-    """A start by these words, which does not outlive the block."""
-    pipe = subprocess.PIPE
-    with subprocess.Popen(words, stdin=subprocess.DEVNULL, stdout=pipe, stderr=pipe, **settings) as start:
-        try:
-            yield start
-        finally:
-            start.kill()
-
-
-@contextlib.contextmanager
 def waiting(program, path):
     """A start that would replace a stale socket, in the moment before it looks once more."""
     with started([program, "--replace", path]) as start:
@@ -164,11 +188,6 @@ def wait_for_sleep(number):
             if file.read().rsplit(b") ", 1)[1].startswith(b"S"):
                 return
     raise Broken("the server does not wait")
-
-
-def ended(start):
-    output, complaint = start.communicate(timeout=STOP)
-    return start.returncode, output, complaint
 
 
 def check_second_look(program):
@@ -189,27 +208,6 @@ def check_second_look(program):
             check("another socket in its place", ended(start) == refusal(path, IN_USE) and which(path) == found)
 
 
-@contextlib.contextmanager
-def held(program, path, folder):
-    """A server without a umask that has made its socket, and is about to listen on it. It goes on at a file `go`."""
-    words = {"LD_PRELOAD": library(folder, "hold_listen"), "LISTEN_HELD": folder}
-    with started([program, path], env=words, umask=0) as server:
-        end = time.monotonic() + MOST_SECONDS
-        while not os.path.exists(os.path.join(folder, "held")) and time.monotonic() < end:
-            time.sleep(0.001)
-        yield server
-
-
-def connected(path):
-    """A client of the server whose socket is at a path, as soon as it listens."""
-    end = time.monotonic() + MOST_SECONDS
-    while time.monotonic() < end:
-        with contextlib.suppress(ConnectionRefusedError):
-            return Client(path)
-        time.sleep(0.001)
-    raise Broken("the server does not listen")
-
-
 def check_made(program):
     """In a folder where others may write, a socket is its user's from the beginning, and no path is followed for it.
 
@@ -220,12 +218,12 @@ def check_made(program):
         path, moved, victim = (os.path.join(folder, name) for name in ("socket", "moved", "victim"))
         with open(victim, "w", encoding="ascii"):
             os.chmod(victim, PLAIN)
-        with held(program, path, own) as server:
+        with held([program, path], "listen", own) as server:
+            wait_for_hold(own)
             check("who may connect before it listens", mode_of(path) == OWN, oct(mode_of(path)))
             os.rename(path, moved)
             os.symlink(victim, path)
-            with open(os.path.join(own, "go"), "w", encoding="ascii"):
-                pass
+            let_go(own)
             with connected(moved) as client:
                 check("a server whose socket was moved", client.ask(b"stop") == [b"ok"])
             found = ended(server)

@@ -1,12 +1,18 @@
 //! Listening at a path, on request also where a server that was killed has left its socket.
+//!
+//! A server takes the lock of its path before it looks at the path, and holds it up to its end. So no other server makes or
+//! removes a socket there meanwhile, whatever the time between two of its steps is.
 
+use crate::descriptors;
+use crate::lock::{Lock, LockFault, lock_path};
+use crate::looks::{FileIdentity, is_free, is_refused, socket_at};
 use mt_arguments::socket::SocketFault;
-use std::fs::Files;
+use std::alloc::{AllocError, Global};
+use std::fs::{File, Files};
 use std::io::ErrorKind;
 use std::net::Net;
 use std::os::fd::{AsFd, AsRawFd, OwnedFd};
-use std::os::unix::fs::{FileTypeExt, MetadataExt};
-use std::os::unix::net::{SocketAddr, UnixListener, UnixStream};
+use std::os::unix::net::{SocketAddr, UnixListener};
 use std::time::{Clock, Duration};
 use std::{fs, io, thread};
 
@@ -16,55 +22,65 @@ const MODE: u32 = 0o600;
 /// As many connections may wait to be accepted as the system allows.
 const BACKLOG: i32 = -1;
 
-/// How many milliseconds lie between two looks at a socket that refuses a connection: a server that is
-/// being started has its socket at the path a moment before it listens.
+/// How many milliseconds lie between two looks at a socket that refuses a connection: a program of another kind, which
+/// takes no lock, has its socket at the path a moment before it listens.
 const SECOND_LOOK: u64 = 100;
 
-/// A socket of the file system. Once its file is gone another may get its number, so that the time of its
-/// making is a part of it.
-#[derive(Clone, Copy, PartialEq, Eq)]
-pub(crate) struct SocketFile {
-    /// The device of its file system.
-    device: u64,
-    /// Its number there.
-    number: u64,
-    /// When it was made, in seconds and nanoseconds.
-    made: (i64, i64),
+/// How many milliseconds lie between two tries to take a lock that another server holds.
+const PAUSE: u64 = 20;
+
+/// The most tries: 15 seconds of them. A server that was stopped ends within some twelve.
+const MOST_TRIES: u32 = 750;
+
+/// The paths of a server.
+#[derive(Drop)]
+pub(crate) struct Paths {
+    /// That of its socket.
+    pub(crate) socket: String,
+    /// That of the file whose lock it holds.
+    pub(crate) lock: String,
 }
 
-/// The socket that a path names; none where it names something else, also a symbolic link to a socket.
-pub(crate) fn socket_at<R: Files>(rt: &R, path: &str) -> Option<SocketFile> {
-    let Ok(file) = fs::symlink_metadata(rt, path) else {
-        return None;
-    };
-    if !file.file_type().is_socket() {
-        return None;
-    }
-    Some(SocketFile {
-        device: file.dev(),
-        number: file.ino(),
-        made: (file.mtime(), file.mtime_nsec()),
-    })
-}
-
-/// Whether a connection is refused: nobody listens at the socket that a path names. Of a path that names
-/// another file it tells nothing, since that refuses each connection.
-fn is_refused<R: Net>(rt: &R, path: &str) -> bool {
-    match UnixStream::connect(rt, path) {
-        Ok(_) => false,
-        Err(error) => error.kind() == ErrorKind::ConnectionRefused,
+impl Paths {
+    /// The paths of a server at this socket. Refused for want of memory alone.
+    pub(crate) fn new(alloc: Global, socket: String) -> Result<Paths, AllocError> {
+        let lock = lock_path(alloc, socket.as_str())?;
+        Ok(Paths { socket, lock })
     }
 }
 
-/// Removes a stale socket: a connection to it is refused, and once more at the second look, behind which the
-/// path still names the same one. Anything else at the path stays. Whether it was removed.
-fn remove_stale<R: Files + Net + Clock>(rt: &R, path: &str) -> bool {
-    let stale = socket_at(rt, path);
-    if stale.is_none() || !is_refused(rt, path) {
-        return false;
+/// Why a server cannot listen.
+#[derive(Clone, Copy)]
+pub(crate) enum ListenFault {
+    /// No socket can be made at its path.
+    Socket(SocketFault),
+    /// The file of its lock cannot be made or locked.
+    Lock(LockFault),
+    /// The process may have fewer descriptors than a server needs to serve one client.
+    FewDescriptors,
+}
+
+/// What a failed call says of the socket of a path.
+fn fault_at<R: Files>(rt: &R, path: &str, error: &io::Error) -> ListenFault {
+    let file = fs::symlink_metadata(rt, path);
+    ListenFault::Socket(SocketFault::new(path, error, &file))
+}
+
+/// What is said of a path where another server is, or something else.
+fn taken<R: Files>(rt: &R, path: &str) -> ListenFault {
+    fault_at(rt, path, &io::Error::from(ErrorKind::AddrInUse))
+}
+
+/// What is said of a lock that cannot be had. Where its folder is not there, or the path is that of another file, no socket
+/// could be made either, and it is said of that.
+fn lock_fault<R: Files>(rt: &R, path: &str, fault: LockFault) -> ListenFault {
+    if let LockFault::Call(ErrorKind::NotFound) = fault {
+        return ListenFault::Socket(SocketFault::Call(ErrorKind::NotFound));
     }
-    thread::sleep(rt, Duration::from_millis(SECOND_LOOK));
-    is_refused(rt, path) && socket_at(rt, path) == stale && fs::remove_file(rt, path).is_ok()
+    match taken(rt, path) {
+        ListenFault::Socket(SocketFault::NoSocket) => ListenFault::Socket(SocketFault::NoSocket),
+        _ => ListenFault::Lock(fault),
+    }
 }
 
 /// What a system call says by its answer, which is 0 or -1.
@@ -73,6 +89,54 @@ fn check_status(status: i32) -> io::Result<()> {
         Ok(())
     } else {
         Err(io::Error::from_raw_os_error(os::errno()))
+    }
+}
+
+/// The address of a path. Without one it would be a name that no file has.
+fn address_of(path: &str) -> io::Result<SocketAddr> {
+    if path.is_empty() {
+        return Err(io::Error::from(ErrorKind::InvalidInput));
+    }
+    SocketAddr::from_pathname(path)
+}
+
+/// Whether a path is that of a server that begins or ends, where another holds its lock: nothing is there, or a socket at
+/// which nobody listens, if that may be replaced.
+fn may_come_free<R: Files + Net>(rt: &R, path: &str, replaces: bool) -> bool {
+    let is_silent = replaces && is_refused(rt, path) && socket_at(rt, path).is_some();
+    is_silent || is_free(rt, path)
+}
+
+/// Takes the lock of a path. A server that holds it, and begins or ends, is waited for, 15 seconds at most.
+fn take_lock<'a, R: Files<File = File> + Net + Clock>(
+    rt: &R,
+    paths: &'a Paths,
+    replaces: bool,
+) -> Result<Lock<'a>, ListenFault> {
+    let path = paths.socket.as_str();
+    for _try in 0..MOST_TRIES {
+        match Lock::take(rt, paths.lock.as_str()) {
+            Ok(Some(lock)) => return Ok(lock),
+            Ok(None) if may_come_free(rt, path, replaces) => {
+                thread::sleep(rt, Duration::from_millis(PAUSE));
+            }
+            Ok(None) => return Err(taken(rt, path)),
+            Err(fault) => return Err(lock_fault(rt, path, fault)),
+        }
+    }
+    Err(taken(rt, path))
+}
+
+/// Removes a stale socket: a connection to it is refused, and once more at the second look, after which the path still
+/// names the same one. Anything else at the path stays.
+fn remove_stale<R: Files + Net + Clock>(rt: &R, path: &str) {
+    let stale = socket_at(rt, path);
+    if stale.is_none() || !is_refused(rt, path) {
+        return;
+    }
+    thread::sleep(rt, Duration::from_millis(SECOND_LOOK));
+    if is_refused(rt, path) && socket_at(rt, path) == stale {
+        let _ = fs::remove_file(rt, path);
     }
 }
 
@@ -87,29 +151,79 @@ fn open_socket<R: Net>(rt: &R) -> io::Result<OwnedFd> {
     Ok(socket)
 }
 
-/// Listens on a socket that it makes at a path, where there is nothing yet.
-fn bind<R: Files + Net>(rt: &R, path: &str) -> io::Result<UnixListener> {
-    // An address without a path would be a name that no file has.
-    if path.is_empty() {
-        return Err(io::Error::from(ErrorKind::InvalidInput));
-    }
-    let address = SocketAddr::from_pathname(path)?;
+/// Listens on a socket that it makes at an address, where there is nothing yet.
+fn bind<R: Files + Net>(rt: &R, address: &SocketAddr) -> io::Result<UnixListener> {
     let socket = open_socket(rt)?;
-    rt.bind_unix(socket.as_fd(), &address)?;
+    rt.bind_unix(socket.as_fd(), address)?;
     check_status(libc::net::listen(socket.as_raw_fd(), BACKLOG))?;
     Ok(UnixListener::from(socket))
 }
 
-/// Listens on a socket that it makes at a path, or says why it cannot. There may be nothing at the path, but
-/// where the server `replaces` a stale socket, that.
-pub(crate) fn listen<R: Files + Net + Clock>(
+/// Listens on a socket that it makes at a path, where there is nothing yet, or a stale socket which it `replaces`. If
+/// there was one, and is none any more, whoever has removed it, the path is tried again.
+fn bind_in_lock<R: Files + Net + Clock>(
     rt: &R,
     path: &str,
+    address: &SocketAddr,
     replaces: bool,
-) -> Result<UnixListener, SocketFault> {
-    let listener = match bind(rt, path) {
-        Err(_) if replaces && remove_stale(rt, path) => bind(rt, path),
-        listener => listener,
-    };
-    listener.map_err(|error| SocketFault::new(path, &error, &fs::symlink_metadata(rt, path)))
+) -> io::Result<UnixListener> {
+    match bind(rt, address) {
+        Err(_) if replaces => {
+            remove_stale(rt, path);
+            bind(rt, address)
+        }
+        bound => bound,
+    }
+}
+
+/// A server's place: it listens, and holds the lock of its path.
+#[derive(Drop)]
+pub(crate) struct Listening<'a> {
+    /// Its paths.
+    paths: &'a Paths,
+    /// Where connections come from.
+    pub(crate) listener: UnixListener,
+    /// The file of its socket, if that was still at the path when the server began to listen.
+    made: Option<FileIdentity>,
+    lock: Lock<'a>,
+}
+
+impl<'a> Listening<'a> {
+    /// Listens at the path of a socket. There may be nothing, but where the server `replaces` a stale socket, that.
+    pub(crate) fn begin<R: Files<File = File> + Net + Clock>(
+        rt: &R,
+        paths: &'a Paths,
+        replaces: bool,
+    ) -> Result<Listening<'a>, ListenFault> {
+        let path = paths.socket.as_str();
+        let address = address_of(path).map_err(|error| fault_at(rt, path, &error))?;
+        match descriptors::are_enough(rt) {
+            Ok(true) => {}
+            Ok(false) => return Err(ListenFault::FewDescriptors),
+            Err(error) => return Err(fault_at(rt, path, &error)),
+        }
+        let lock = take_lock(rt, paths, replaces)?;
+        match bind_in_lock(rt, path, &address, replaces) {
+            Ok(listener) => Ok(Listening {
+                paths,
+                listener,
+                made: socket_at(rt, path),
+                lock,
+            }),
+            Err(error) => {
+                let fault = fault_at(rt, path, &error);
+                lock.remove(rt);
+                Err(fault)
+            }
+        }
+    }
+
+    /// Takes the socket away, if it still is the one that was made, and gives the path up to the next server.
+    pub(crate) fn end<R: Files>(self, rt: &R) {
+        let path = self.paths.socket.as_str();
+        if self.made.is_some() && socket_at(rt, path) == self.made {
+            let _ = fs::remove_file(rt, path);
+        }
+        self.lock.remove(rt);
+    }
 }

@@ -1,9 +1,13 @@
 //! `mountd`: the mount server, for sessions on a Unix socket, or for one on standard input and output.
 #![tactic(auto)]
 
+mod descriptors;
 mod listening;
+mod lock;
+mod looks;
 mod socket;
 
+use crate::listening::{ListenFault, Paths};
 use clap::{Arg, ArgAction, Command, Error, value_parser};
 use mt_arguments::program::{OUT_OF_MEMORY, Program, VERSION, WRITE_FAULT, read_arguments};
 use mt_requests::help::LINES;
@@ -27,6 +31,9 @@ const PROGRAM: Program = Program {
     name: NAME,
     failed: 1,
 };
+
+/// What is said where a server cannot listen. Behind it stand the path and the reason.
+const NOT_LISTENING: &str = "cannot listen";
 
 /// How many posts the queue of a watcher holds, if the arguments do not say.
 const QUEUE: usize = 256;
@@ -128,11 +135,25 @@ fn serve_standard(rt: &HostRuntime, queue: usize) -> ExitCode {
     }
 }
 
-/// Says how a server on the socket of a path has ended, if that is a fault.
-fn tell(rt: &HostRuntime, path: &str, served: Served) -> ExitCode {
+/// Says why a server cannot listen.
+fn tell_fault(rt: &HostRuntime, paths: &Paths, fault: ListenFault) -> ExitCode {
+    match fault {
+        ListenFault::Socket(fault) => PROGRAM.fail_at(
+            rt,
+            NOT_LISTENING,
+            paths.socket.as_str(),
+            fault,
+        ),
+        ListenFault::Lock(fault) => PROGRAM.fail_at(rt, NOT_LISTENING, paths.lock.as_str(), fault),
+        ListenFault::FewDescriptors => PROGRAM.fail(rt, "cannot listen: too few descriptors"),
+    }
+}
+
+/// Says how a server has ended, if that is a fault.
+fn tell(rt: &HostRuntime, paths: &Paths, served: Served) -> ExitCode {
     match served {
         Served::Stopped => ExitCode::SUCCESS,
-        Served::NotListening(fault) => PROGRAM.fail_at(rt, "cannot listen", path, fault),
+        Served::NotListening(fault) => tell_fault(rt, paths, fault),
         Served::NotAccepting => PROGRAM.fail(rt, "cannot accept"),
         Served::NoMemory => PROGRAM.fail(rt, OUT_OF_MEMORY),
     }
@@ -162,6 +183,9 @@ fn main(rt: HostRuntime) -> ExitCode {
         replaces,
         limits,
     } = options;
-    let served = serve_socket(&rt, rt.alloc(), &socket, replaces, limits);
-    tell(&rt, socket.as_str(), served)
+    let Ok(paths) = Paths::new(rt.alloc(), socket) else {
+        return PROGRAM.fail(&rt, OUT_OF_MEMORY);
+    };
+    let served = serve_socket(&rt, rt.alloc(), &paths, replaces, limits);
+    tell(&rt, &paths, served)
 }

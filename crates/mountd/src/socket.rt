@@ -1,16 +1,14 @@
 //! The server on a Unix socket that it makes, and takes away at its end.
 ghost use Rattle.std.specs.Prelude.{◌≡◌, ◌<◌};
 
-use crate::listening::{listen, socket_at};
-use mt_arguments::socket::SocketFault;
+use crate::listening::{ListenFault, Listening, Paths};
 use mt_desk::desk::Desk;
 use mt_desk::lines::{Lines, Naming};
 use mt_server::server::{Premises, ServerFault, run_server};
 use mt_session::bell::Bell;
 use mt_session::gate::OpenGate;
 use std::alloc::Global;
-use std::fs;
-use std::fs::Files;
+use std::fs::{File, Files};
 use std::marker::Brand;
 use std::net::{Net, TcpListener, TcpStream};
 use std::os::unix::net::UnixListener;
@@ -37,8 +35,8 @@ pub(crate) struct Limits {
 pub(crate) enum Served {
     /// A session has stopped it.
     Stopped,
-    /// No socket could be made at the path.
-    NotListening(SocketFault),
+    /// It could not listen at its path.
+    NotListening(ListenFault),
     /// It could not accept connections.
     NotAccepting,
     /// There was no memory for the server's own.
@@ -96,27 +94,29 @@ where
 
 /// Makes a socket at a path and serves sessions on it until one stops the server.
 ///
-/// There may be nothing at the path, but where the server `replaces` it, a socket that a killed server has left. Only
-/// the user whose server it is may connect, and who connects may do everything. At the end the socket is taken away,
-/// if it still is the one that was made.
+/// There may be nothing at the path, but where the server `replaces` it, a socket that a killed server has left. No other
+/// server is at the path as long as this one lives. Only the user whose server it is may connect, and who connects may do
+/// everything. At the end the socket is taken away, if it still is the one that was made.
 pub(crate) fn serve_socket<R>(
     rt: &R,
     alloc: Global,
-    path: &String,
+    paths: &Paths,
     replaces: bool,
     limits: Limits,
 ) -> Served
 where
-    R: Threads + Wait + Clock + Files + Net<Listener = TcpListener, Stream = TcpStream> + Sync,
+    R: Threads
+        + Wait
+        + Clock
+        + Files<File = File>
+        + Net<Listener = TcpListener, Stream = TcpStream>
+        + Sync,
 {
-    let listener = match listen(rt, path.as_str(), replaces) {
-        Ok(listener) => listener,
+    let listening = match Listening::begin(rt, paths, replaces) {
+        Ok(listening) => listening,
         Err(fault) => return Served::NotListening(fault),
     };
-    let made = socket_at(rt, path.as_str());
-    let served = serve_listener(rt, alloc, path, &listener, limits);
-    if made.is_some() && socket_at(rt, path.as_str()) == made {
-        let _ = fs::remove_file(rt, path.as_str());
-    }
+    let served = serve_listener(rt, alloc, &paths.socket, &listening.listener, limits);
+    listening.end(rt);
     served
 }

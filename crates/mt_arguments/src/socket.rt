@@ -1,11 +1,12 @@
 //! Why a socket cannot be had at a path, in words.
-ghost use Rattle.std.specs.Prelude.{◌≡◌, ◌≢◌, ◌⊎◌, ◌<◌, ◌≤◌, length};
+ghost use Rattle.std.specs.Prelude.{◌≡◌, ◌≢◌, ◌↔◌, ◌⊎◌, ◌<◌, ◌≤◌, IsTrue, length};
 ghost use Rattle.std.specs.IoError.{error_kind};
+ghost use Rattle.mt_arguments.specs.Sockets.{is_another};
 
 use std::fmt::{Display, Formatter};
 use std::fs::Metadata;
 use std::io::ErrorKind;
-use std::os::unix::fs::FileTypeExt;
+use std::os::unix::fs::MetadataExt;
 use std::{fmt, io};
 
 /// The longest path of a Unix socket, in bytes: the address has 108, of which the last is a zero.
@@ -25,11 +26,20 @@ pub enum SocketFault {
 }
 
 /// Whether a file is known not to be a socket: it is there, and another.
-fn is_another(file: &io::Result<Metadata>) -> bool {
+fn is_another(file: &io::Result<Metadata>) -> bool
+    ensures { result ≡ is_another file.now }
+{
     match file {
-        Ok(file) => !file.file_type().is_socket(),
+        Ok(file) => file.mode() & libc::S_IFMT != libc::S_IFSOCK,
         Err(_) => false,
     }
+}
+
+/// Whether the system tells so of a path at which another file is too.
+fn is_vague(kind: ErrorKind) -> bool
+    ensures { IsTrue result ↔ (kind ≡ ErrorKind.AddrInUse) ⊎ (kind ≡ ErrorKind.ConnectionRefused) }
+{
+    matches!(kind, ErrorKind::AddrInUse | ErrorKind::ConnectionRefused)
 }
 
 impl SocketFault {
@@ -38,18 +48,22 @@ impl SocketFault {
     pub fn new(path: &str, error: &io::Error, file: &io::Result<Metadata>) -> SocketFault
         ensures empty { length path.now ≡ 0 → result ≡ SocketFault.NoPath }
         ensures long { 107 < length path.now → result ≡ SocketFault.LongPath }
+        ensures another { length path.now ≢ 0 → length path.now ≤ 107 → (result ≡ SocketFault.NoSocket) ↔ IsTrue (is_another file.now)
+            × ((error_kind error.now ≡ ErrorKind.AddrInUse) ⊎ (error_kind error.now ≡ ErrorKind.ConnectionRefused)) }
         ensures call { length path.now ≢ 0 → length path.now ≤ 107
             → result ≢ SocketFault.NoSocket → result ≡ SocketFault.Call (error_kind error.now) }
-        ensures another { result ≡ SocketFault.NoSocket
-            → (error_kind error.now ≡ ErrorKind.AddrInUse) ⊎ (error_kind error.now ≡ ErrorKind.ConnectionRefused) }
     {
-        match error.kind() {
-            _ if path.is_empty() => SocketFault::NoPath,
-            _ if path.len() > LONGEST => SocketFault::LongPath,
-            ErrorKind::AddrInUse | ErrorKind::ConnectionRefused if is_another(file) => {
-                SocketFault::NoSocket
-            }
-            kind => SocketFault::Call(kind),
+        if path.is_empty() {
+            return SocketFault::NoPath;
+        }
+        if path.len() > LONGEST {
+            return SocketFault::LongPath;
+        }
+        let kind = error.kind();
+        if is_vague(kind) && is_another(file) {
+            SocketFault::NoSocket
+        } else {
+            SocketFault::Call(kind)
         }
     }
 }

@@ -20,11 +20,11 @@ path_word (b ∷ bytes) = b ∷ bytes
 abbrev pub name_count : List ℕ → ℕ
 name_count path = length (filter (λ b. b == 47) path)
 
--- a piece between slashes is a name: it stands for 1 to 255 bytes, and is neither `.` nor `..`
+-- a piece between slashes is a name: it stands for 1 to 255 bytes, none of them zero, and is neither `.` nor `..`
 abbrev pub says_name : List ℕ → Bool
 says_name piece =
     option_map_or (λ bytes. nat_le 1 (length bytes) && nat_le (length bytes) 255) (unescaped piece) false
-    && not (bytes_eq piece (codes ".")) && not (bytes_eq piece (codes ".."))
+    && list_all (λ b. not (b == 0)) piece && not (bytes_eq piece (codes ".")) && not (bytes_eq piece (codes ".."))
 
 -- a path that the script can name: of at most 4,000 bytes, each name of it behind a slash
 unfoldable pub can_be_named : List ℕ → Bool

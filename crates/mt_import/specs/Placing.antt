@@ -5,7 +5,7 @@ use Rattle.std.specs.Option.{option_or}
 use Rattle.std.specs.Str.{bytes_eq}
 use Rattle.mt_import.specs.declared.mount.Mount.{Mount}
 use Rattle.mt_import.specs.declared.reason.Reason.{Reason}
-use Rattle.mt_import.specs.declared.reason.Reason.TheVariants.{NoRootMount, NoParent, NoDirectory, Elsewhere, AtRoot, ScriptName, TooDeep}
+use Rattle.mt_import.specs.declared.reason.Reason.TheVariants.{NoRootMount, NoParent, NoDirectory, Elsewhere, TooManyAtRoot, ScriptName, TooDeep}
 use Rattle.mt_import.specs.Paths.{below_root, can_be_named, has_script_name, is_too_deep, path_behind}
 use Rattle.mt_import.specs.Reading.{ToldMount}
 
@@ -51,7 +51,7 @@ abbrev pub why_none_at : Mount → Option (List ℕ) → Option Reason
 why_none_at parent None = Some Elsewhere
 why_none_at parent (Some names) =
     if is_too_deep (parent.root.now ++ names) then Some TooDeep
-    else (if is_some (base_on parent (level_on parent names)) then None else Some AtRoot)
+    else (if is_some (base_on parent (level_on parent names)) then None else Some TooManyAtRoot)
 
 abbrev pub why_none_on : Mount → ToldMount → Option Reason
 why_none_on parent row =

@@ -7,7 +7,7 @@ use Rattle.mt_requests.specs.declared.request.Request.{Request}
 use Rattle.mt_requests.specs.declared.request.Request.TheVariants as request
 use Rattle.mt_requests.specs.Requests.{request_of}
 use Rattle.mt_import.specs.declared.reason.Reason.{Reason}
-use Rattle.mt_import.specs.declared.reason.Reason.TheVariants.{SameTable, SecondLine, NoRootMount, NoParent, ParentLeftOut, Ring, NoDirectory, Elsewhere, AtRoot, ScriptName, TooDeep, NoSuchGroups, TooLow, SamePlace, NoRoom}
+use Rattle.mt_import.specs.declared.reason.Reason.TheVariants.{SameTable, SecondLine, NoRootMount, NoParent, ParentLeftOut, Ring, NoDirectory, Elsewhere, AtRoot, TooManyAtRoot, LongAtRoot, ScriptName, TooDeep, NoSuchGroups, TooLow, SamePlace, NoRoom}
 use Rattle.mt_import.specs.Options.{are_known}
 use Rattle.mt_import.specs.Reading.{ToldMount}
 
@@ -63,6 +63,8 @@ reason_text Ring = codes "its parents go round in a ring"
 reason_text NoDirectory = codes "its root or mount point is no directory"
 reason_text Elsewhere = codes "it stands elsewhere than below its parent"
 reason_text AtRoot = codes "it stands on the root of one that has peers at the root of the namespace"
+reason_text TooManyAtRoot = codes "too many stand below it at the root of the namespace"
+reason_text LongAtRoot = codes "its root is too long for one that has peers at the root of the namespace"
 reason_text ScriptName = codes "its path has the name that the script uses"
 reason_text TooDeep = codes "its directory is too deep"
 reason_text NoSuchGroups = codes "its peer groups cannot be as it tells them"

@@ -32,7 +32,7 @@ impl<'a> Groups<'a> {
     }
 
     /// Whether what a row tells of groups can be beside what others told.
-    fn may_add(&self, row: &HostMount) -> bool {
+    pub(crate) fn may_add(&self, row: &HostMount) -> bool {
         let device = row.device.as_slice();
         is_possible(row)
             && self.may_be_of(row.shared, device)

@@ -1,10 +1,11 @@
 //! What a script makes in front of the namespaces: filesystems, one for each device, their directories, and what is staged: a
 //! mount of each filesystem of which directories are bound, and a member of each peer group from which mounts are bound.
 
+use crate::choice::Candidate;
 use crate::groups::{Group, Staged};
 use crate::host_mount::HostMount;
 use crate::path::{SECOND, STAGE};
-use crate::plan::{Candidate, Plan};
+use crate::plan::Plan;
 use crate::script::Script;
 use crate::site::{APART, COVER, GROUP, NEW, PEER, SHARED, SLAVE, SPARED, STAGE_FS};
 use crate::space::Space;

@@ -8,7 +8,7 @@ use crate::script::Script;
 use crate::space::{Space, spaces_of};
 use crate::spaces::make_spaces;
 use crate::telling::{tell_spaces, tell_tables};
-use crate::tree::{Tree, tree_of};
+use crate::tree::{Refused, Tree, tree_of};
 use crate::writer::Allocated;
 use mt_skel::fault::Fault;
 use std::alloc::Global;
@@ -19,8 +19,15 @@ fn are_same(left: &[HostMount], right: &[HostMount]) -> bool {
         && left.iter().zip(right).all(|(row, other)| row.line.as_slice() == other.line.as_slice())
 }
 
+/// How often rows that are left out make room for others at most.
+const MOST_ROUNDS: usize = 64;
+
 /// The trees of tables.
-fn trees_of(alloc: Global, tables: &[Vec<HostMount>]) -> Allocated<Vec<Tree<'_>>>
+fn trees_of<'a>(
+    alloc: Global,
+    tables: &'a [Vec<HostMount>],
+    refused: &Refused,
+) -> Allocated<Vec<Tree<'a>>>
     ensures rows { IfOk result (λ trees. map (λ tree. tree.rows) trees.items ≡ map (λ rows. rows.items) tables.now) }
 {
     let mut trees = Vec::new(alloc);
@@ -29,9 +36,29 @@ fn trees_of(alloc: Global, tables: &[Vec<HostMount>]) -> Allocated<Vec<Tree<'_>>
         let is_told = tables[..before]
             .iter()
             .any(|other| are_same(other.as_slice(), rows.as_slice()));
-        trees.push(tree_of(alloc, number, rows.as_slice(), is_told)?)?;
+        trees.push(tree_of(alloc, number, rows.as_slice(), is_told, refused)?)?;
     }
     Ok(trees)
+}
+
+/// The trees of tables, and what is planned of them. Where a row stands in the place of one that is left out, it is tried in that
+/// place.
+fn planned<'a>(alloc: Global, tables: &'a [Vec<HostMount>]) -> Allocated<(Vec<Tree<'a>>, Plan<'a>)>
+    ensures rows { IfOk result (λ (trees, plan). map (λ tree. tree.rows) trees.items ≡ map (λ rows. rows.items) tables.now) }
+{
+    let mut refused = Refused::new(alloc);
+    for _round in 0..MOST_ROUNDS {
+        let trees = trees_of(alloc, tables, &refused)?;
+        let plan = plan_with_room(alloc, trees.as_slice())?;
+        let count = refused.len();
+        plan.refuse(trees.as_slice(), &mut refused)?;
+        if refused.len() == count {
+            return Ok((trees, plan));
+        }
+    }
+    let trees = trees_of(alloc, tables, &refused)?;
+    let plan = plan_with_room(alloc, trees.as_slice())?;
+    Ok((trees, plan))
 }
 
 /// What makes the filesystems and their directories, and what is staged, if there is a namespace to make.
@@ -73,8 +100,7 @@ pub fn script_of(alloc: Global, tables: &[Vec<HostMount>]) -> Result<Script, Fau
     ensures made { IfOk result (IsImport (map (λ rows. rows.items) tables.now)) }
     ensures memory { IsOkUnless result Fault.NoMemory }
 {
-    let trees = trees_of(alloc, tables)?;
-    let mut plan = plan_with_room(alloc, trees.as_slice())?;
+    let (trees, mut plan) = planned(alloc, tables)?;
     let spaces = spaces_of(alloc, trees, &plan)?;
     let counted = counting(alloc, &plan, spaces.as_slice())?;
     plan.groups.number(counted.numbers.named.as_slice());

@@ -154,7 +154,7 @@ pub(crate) fn mount_on<'a>(
     }
     let (lowest, names, level) = stack_on(parent, names, here);
     let Some(base) = base_on(parent, level) else {
-        return Ok(Err(Reason::AtRoot));
+        return Ok(Err(Reason::TooManyAtRoot));
     };
     Ok(Ok(Mount {
         row,

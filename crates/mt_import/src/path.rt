@@ -1,6 +1,6 @@
 //! Paths as a mountinfo has them, each name with its escapes. The path of a root is empty here: then a path and one
 //! below it are joined by writing one behind the other.
-ghost use Rattle.std.specs.Prelude.{◌≡◌, nat_le, ◌&&◌, false, length};
+ghost use Rattle.std.specs.Prelude.{◌≡◌, nat_le, ◌&&◌, ◌==◌, not, false, length};
 ghost use Rattle.std.specs.List.{list_all};
 ghost use Rattle.std.specs.Option.{option_copied, option_map_or};
 ghost use Rattle.mt_skel.specs.Escapes.{unescaped};
@@ -50,11 +50,21 @@ fn has_right_length(piece: &[u8]) -> bool
     }
 }
 
+/// Whether no byte is zero.
+fn has_no_zero(piece: &[u8]) -> bool
+    ensures { result ≡ list_all (λ b. not (b == 0)) piece.now }
+{
+    piece.iter().all(|byte| *byte != 0)
+}
+
 /// Whether a piece between slashes is a name.
 fn says_name(piece: &[u8]) -> bool
     ensures { result ≡ says_name piece.now }
 {
-    has_right_length(piece) && piece != b".".as_slice() && piece != b"..".as_slice()
+    has_right_length(piece)
+        && has_no_zero(piece)
+        && piece != b".".as_slice()
+        && piece != b"..".as_slice()
 }
 
 /// Whether each piece between the slashes of a text is a name.

@@ -1,11 +1,12 @@
 //! Which mounts of the trees are made, and what they need: as many as agree on their peer groups, and as a server has room for.
 
+use crate::choice::{Candidate, Choice, candidates_of, choose};
 use crate::front::slots_of;
 use crate::groups::{Groups, Staged};
 use crate::host_mount::HostMount;
-use crate::mount::Mount;
+use crate::path::below_root;
 use crate::reason::{Reason, Why};
-use crate::tree::Tree;
+use crate::tree::{Refused, Tree};
 use crate::writer::{Allocated, Done};
 use std::alloc::Global;
 use std::collections::{BTreeMap, BTreeSet};
@@ -18,127 +19,6 @@ const MOST_DIRECTORIES: usize = 16_384;
 
 /// The most filesystems of a server.
 const MOST_FILESYSTEMS: usize = 256;
-
-/// A mount of the trees, which is made unless it is left out.
-#[derive(Clone, Copy)]
-pub(crate) struct Candidate<'t, 'a> {
-    /// Its number among those of all trees, one tree after another.
-    number: usize,
-    /// The number of its table.
-    pub(crate) table: usize,
-    /// Its row.
-    pub(crate) row: &'a HostMount,
-    /// The mount.
-    pub(crate) mount: &'t Mount<'a>,
-    /// What it stands on, the root mount on itself.
-    pub(crate) below: &'t Mount<'a>,
-    /// The number of that.
-    above: usize,
-}
-
-/// Adds the mounts of a tree.
-fn add_tree<'t, 'a>(all: &mut Vec<Candidate<'t, 'a>>, tree: &'t Tree<'a>) -> Done {
-    let (before, mounts) = (all.len(), tree.mounts());
-    for mount in mounts {
-        if let Some(below) = mounts.get(mount.above) {
-            all.push(Candidate {
-                number: all.len(),
-                table: tree.table,
-                row: mount.row,
-                mount,
-                below,
-                above: before.saturating_add(mount.above),
-            })?;
-        }
-    }
-    Ok(())
-}
-
-/// The mounts of the trees.
-fn candidates_of<'t, 'a>(
-    alloc: Global,
-    trees: &'t [Tree<'a>],
-) -> Allocated<Vec<Candidate<'t, 'a>>> {
-    let mut all = Vec::new(alloc);
-    for tree in trees {
-        add_tree(&mut all, tree)?;
-    }
-    Ok(all)
-}
-
-/// The peer groups of mounts. A member is staged of one in which a mount is on whose root another one stands, elsewhere than at
-/// the root of the namespace.
-fn groups_of<'a>(alloc: Global, made: &[Candidate<'_, 'a>]) -> Allocated<Groups<'a>> {
-    let mut groups = Groups::new(alloc);
-    for candidate in made {
-        groups.add(candidate.row, candidate.table)?;
-    }
-    for candidate in made {
-        let (mount, below) = (candidate.mount, candidate.below);
-        let row = below.row;
-        if let (true, Some(group)) = (mount.stands_on_root(below), row.shared) {
-            groups.stage(group);
-        }
-    }
-    groups.settle(alloc)?;
-    Ok(groups)
-}
-
-/// Whether the mount of a number is made.
-fn is_made(left: &[Why], number: usize) -> bool {
-    matches!(left.get(number), Some(None))
-}
-
-/// Why a mount is left out beside the others, if it is: what it stands on is, by its groups, or at the root of the namespace.
-fn why_left(groups: &Groups<'_>, candidate: &Candidate<'_, '_>, left: &[Why]) -> Why {
-    if let Some(why) = groups.why_groupless(candidate.row, candidate.table) {
-        return Some(why);
-    }
-    if candidate.above == candidate.number {
-        return None;
-    }
-    if !is_made(left, candidate.above) {
-        return Some(Reason::ParentLeftOut);
-    }
-    let (mount, below) = (candidate.mount, candidate.below);
-    let row = below.row;
-    if mount.level == 0 && groups.receiving(row.shared).is_some() {
-        return Some(Reason::AtRoot);
-    }
-    None
-}
-
-/// Leaves mounts out that cannot be made beside the others, by the groups.
-fn judge(groups: &Groups<'_>, made: &[Candidate<'_, '_>], left: &mut Vec<Why>) {
-    for candidate in made {
-        let why = why_left(groups, candidate, left.as_slice());
-        if let Some(place) = left.get_mut(candidate.number) {
-            *place = why;
-        }
-    }
-}
-
-/// Leaves mounts out that do not agree on their groups: why mounts are left out, of so many, by their numbers, and the groups of
-/// the others. Those that are none of these at first have no room.
-fn choose<'a>(
-    alloc: Global,
-    count: usize,
-    made: &mut Vec<Candidate<'_, 'a>>,
-) -> Allocated<(Vec<Why>, Groups<'a>)> {
-    let mut left: Vec<Why> = vec![in alloc; None; made.len()]?;
-    left.resize(count, Some(Reason::NoRoom))?;
-    let mut groups = groups_of(alloc, made.as_slice())?;
-    for _round in 0..=count {
-        let before = made.len();
-        judge(&groups, made.as_slice(), &mut left);
-        made.retain(|candidate| is_made(left.as_slice(), candidate.number));
-        if made.len() == before {
-            break;
-        }
-        groups = groups_of(alloc, made.as_slice())?;
-    }
-    Ok((left, groups))
-}
 
 /// Which mounts are made, and what they need.
 pub(crate) struct Plan<'a> {
@@ -177,9 +57,7 @@ impl<'a> Drop for Plan<'a> {
 impl<'a> Plan<'a> {
     /// What is needed where so many mounts are made, from the first, and whether a server has room for that.
     fn of(alloc: Global, all: &[Candidate<'_, 'a>], most: usize) -> Allocated<(Plan<'a>, bool)> {
-        let mut made = Vec::from_slice(alloc, all)?;
-        made.truncate(most);
-        let (left, groups) = choose(alloc, all.len(), &mut made)?;
+        let Choice { left, made, groups } = choose(alloc, all, most)?;
         let staged = groups.staged(alloc)?;
         let directories = slots_of(alloc, &staged)?;
         let mut plan = Plan {
@@ -197,6 +75,22 @@ impl<'a> Plan<'a> {
         }
         let fits = plan.fits(made.as_slice())?;
         Ok((plan, fits))
+    }
+
+    /// Refuses mounts of the trees that are left out in whose place another row stands.
+    pub(crate) fn refuse(&self, trees: &[Tree<'a>], refused: &mut Refused) -> Done {
+        let mut rest = self.left.as_slice();
+        for tree in trees {
+            let (here, others) = rest.split_at(tree.mounts().len().min(rest.len()));
+            rest = others;
+            let wanted = wanted_places(self.alloc, tree)?;
+            for (mount, left) in tree.mounts().iter().zip(here) {
+                if let (Some(why), true) = (left, wanted.contains(&place_of(mount.row))) {
+                    refuse_one(refused, (tree.table, mount.number), *why)?;
+                }
+            }
+        }
+        Ok(())
     }
 
     /// Whether a group is staged of which no table has a member.
@@ -224,10 +118,7 @@ impl<'a> Plan<'a> {
     /// what is mounted on one of a group: a mount that isolates its place, and what spares it. The first namespace alone has
     /// what is staged, or beside it the copy that is made.
     fn mounts_at_once(&self, made: &[Candidate<'_, '_>]) -> Allocated<usize> {
-        let roots = made
-            .iter()
-            .filter(|candidate| candidate.above == candidate.number)
-            .count();
+        let roots = made.iter().filter(|candidate| candidate.is_root()).count();
         let stages = if roots > 1 || self.has_unseen() { 2 } else { 1 };
         let isolated = self.most_receivers(made, stages)?.saturating_add(1);
         let staged = self
@@ -253,6 +144,30 @@ impl<'a> Plan<'a> {
                 && mounts <= MOST_MOUNTS,
         )
     }
+}
+
+/// Where the row of a table stands: on which mount, and at which path.
+fn place_of(row: &HostMount) -> (u64, &[u8]) {
+    (row.parent, below_root(row.point.as_slice()))
+}
+
+/// Where rows of a table stand that are left out since others stand there.
+fn wanted_places<'a>(alloc: Global, tree: &Tree<'a>) -> Allocated<BTreeSet<(u64, &'a [u8])>> {
+    let mut wanted = BTreeSet::new(alloc);
+    for (row, left) in tree.rows.iter().zip(tree.left.as_slice()) {
+        if let Some(Reason::SamePlace) = left {
+            wanted.insert(place_of(row))?;
+        }
+    }
+    Ok(wanted)
+}
+
+/// Refuses a row for a reason of its own: not for want of room, nor for what it stands on.
+fn refuse_one(refused: &mut Refused, row: (usize, usize), why: Reason) -> Done {
+    if !matches!(why, Reason::NoRoom | Reason::ParentLeftOut) {
+        refused.insert(row, why)?;
+    }
+    Ok(())
 }
 
 /// How many mounts find room, from the first: more of them are tried by half as many in each step.

@@ -14,8 +14,11 @@ pub(crate) enum Reason {
     /// Its root or its mount point is no path of names, or too long.
     NoDirectory,
     Elsewhere,
-    /// Or it stands on too many others that stand so.
     AtRoot,
+    /// It is the 33rd or a later one of those that stand on the root of the root mount, one on the other.
+    TooManyAtRoot,
+    /// It has peers, and the paths of what comes to them while it is brought to the root of the namespace would be too long.
+    LongAtRoot,
     ScriptName,
     /// The path of the directory that it shows, or of that on which it stands, has too many names, or too many bytes.
     TooDeep,
@@ -47,6 +50,9 @@ impl Reason {
             Reason::Elsewhere => b"it stands elsewhere than below its parent",
             Reason::AtRoot =>
                 b"it stands on the root of one that has peers at the root of the namespace",
+            Reason::TooManyAtRoot => b"too many stand below it at the root of the namespace",
+            Reason::LongAtRoot =>
+                b"its root is too long for one that has peers at the root of the namespace",
             Reason::ScriptName => b"its path has the name that the script uses",
             Reason::TooDeep => b"its directory is too deep",
             Reason::NoSuchGroups => b"its peer groups cannot be as it tells them",

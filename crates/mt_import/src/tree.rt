@@ -9,7 +9,7 @@ use crate::path::{below_root, names};
 use crate::reason::{Reason, Why};
 use crate::writer::{Allocated, Done};
 use std::alloc::Global;
-use std::collections::BTreeSet;
+use std::collections::{BTreeMap, BTreeSet};
 use std::marker::Model;
 
 /// The mounts of a table.
@@ -51,7 +51,7 @@ fn is_free<'a>(
     above: usize,
     row: &'a HostMount,
 ) -> Allocated<bool> {
-    Ok(here == 0 || places.insert((above, row.point.as_slice()))?)
+    Ok(here == 0 || places.insert((above, below_root(row.point.as_slice())))?)
 }
 
 impl<'a> Tree<'a> {
@@ -186,7 +186,13 @@ struct Below {
     names: usize,
     /// Which row it is.
     number: usize,
+    /// Why it is left out in any case, if it is.
+    left: Why,
 }
+
+/// Rows that are left out in any case, each by the number of its table and its own, and why: they have no place that another one
+/// could have.
+pub(crate) type Refused = BTreeMap<(usize, usize), Reason>;
 
 /// Of the rows that stand on others, those that stand on this one.
 fn below_of<'b>(below: &'b [Below], row: &HostMount) -> &'b [Below] {
@@ -201,6 +207,10 @@ fn below_of<'b>(below: &'b [Below], row: &HostMount) -> &'b [Below] {
 fn wait_for(waiting: &mut Vec<Waiting>, rows: &[Below], on: On) -> Done {
     for row in rows {
         let number = row.number;
+        let on = match row.left {
+            Some(why) => on.and(Err(why)),
+            None => on,
+        };
         waiting.push(Waiting { number, on })?;
     }
     Ok(())
@@ -235,6 +245,7 @@ fn sorted(
     tree: &Tree<'_>,
     ids: &BTreeSet<u64>,
     root: Option<usize>,
+    refused: &Refused,
     waiting: &mut Vec<Waiting>,
 ) -> Allocated<Vec<Below>> {
     let mut below = Vec::new(*tree.mounts.allocator());
@@ -259,6 +270,7 @@ fn sorted(
             parent: row.parent,
             names,
             number,
+            left: refused.get(&(tree.table, number)).copied(),
         })?;
     }
     below.sort_unstable_by_key(|row| (row.parent, row.names, row.number));
@@ -266,12 +278,13 @@ fn sorted(
 }
 
 /// The mounts that the rows of the table of a number tell, each with its place, and why the others have none: all are left out
-/// where a table before it tells the same.
+/// where a table before it tells the same, and those that are refused.
 pub(crate) fn tree_of<'a>(
     alloc: Global,
     table: usize,
     rows: &'a [HostMount],
     is_told: bool,
+    refused: &Refused,
 ) -> Allocated<Tree<'a>>
     ensures { IfOk result (λ tree. tree.rows ≡ rows.now) }
 {
@@ -281,7 +294,7 @@ pub(crate) fn tree_of<'a>(
     let mut tree = Tree::new(alloc, table, rows, Reason::Ring)?;
     let ids = ids_of(&mut tree)?;
     let (root, mut waiting) = (root_of(&ids, rows), Vec::new(alloc));
-    let below = sorted(&tree, &ids, root, &mut waiting)?;
+    let below = sorted(&tree, &ids, root, refused, &mut waiting)?;
     if let Some(number) = root {
         waiting.push(Waiting { number, on: Ok(0) })?;
     }
