@@ -55,7 +55,7 @@ def check_bounded(program):
         turned, found = until_accepted(client, accepted)
         check("a command after the end of the watcher", turned, repr(found))
         check("nothing is lost that was accepted", found == b"ok %d %d" % (CHAIN + 1, 2 * CHAIN + accepted + 1), repr(found))
-        kept = server.status("VmRSS") - before
+        kept = kept_in_time(server, before)
         check("the memory of freed posts goes back to the system", kept < MOST_KEPT, f"{kept} KiB more")
         print(f"{accepted} posts of {CHAIN} deep mounts within {SPACE >> 20} MiB; {kept} KiB more after them", flush=True)
         check_stopped_by("a bound of the address space", server, client)
@@ -74,6 +74,14 @@ def fill(client):
             check("a change for which there is no room", answer == [b"no NoMemory"], repr(answer))
             return accepted
     return MOST_POSTS
+
+
+def kept_in_time(server, before):
+    """How much more memory the server has than it had, in KiB, once that is little or its time is over."""
+    end = time.monotonic() + WAIT
+    while server.status("VmRSS") - before >= MOST_KEPT and time.monotonic() < end:
+        time.sleep(0.05)
+    return server.status("VmRSS") - before
 
 
 def until_accepted(client, accepted):
