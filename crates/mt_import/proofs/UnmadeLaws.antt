@@ -50,7 +50,7 @@ rowless table (of ∷ others) (first, rest) =
 -- and no text
 textless : (groups : BTreeMap ℕ Group) (table : ℕ) (spaces : List Space) → AreUnmade table spaces → spaces_text groups spaces [] ≡ []
 textless groups table [] all = refl
-textless groups table (of ∷ others) (first, rest) = rw (not_shown table of first) textless groups (suc table) others rest
+textless groups table (of ∷ others) (first, rest) = rw (not_shown table of first) (textless groups (suc table) others rest)
 
 sound : (groups : BTreeMap ℕ Group) (spaces : List Space) → AreUnmade 1 spaces → is_sound groups spaces ≡ true
 sound groups spaces all = rw (numbered 1 spaces all, ordered 1 spaces all, rowless 1 spaces all) refl

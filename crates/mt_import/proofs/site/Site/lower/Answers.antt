@@ -9,5 +9,5 @@ returns c =
 
 pub returns-in-Some : goal.returns-in-Some
 returns-in-Some c =
-    member_lowered c.args.self.groups.now.all c.args.self.space.now c.args.self.stage.now c.args.mount.now c.in-Some.group c.in_ok-place.place.items c.in_ok-hook.hook.items
+    member_lowered c.args.self.groups.now.all c.args.self.space.now c.args.self.stage.now c.args.mount.now c.in-Some.group c.in_ok-place.place.items c.as_slice-in-Some.result.now
     c.args.script.now c.run.new.script c.unmount.new.script (search rules) (search rules) (search rules) (search rules) c.in_ok-unmount.ensures
