@@ -6,3 +6,4 @@ pub mod CommandLaws
 pub mod TreeLaws
 pub mod ForwardLaws
 pub mod CoverLaws
+pub mod UnmadeLaws

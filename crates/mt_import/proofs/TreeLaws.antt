@@ -88,10 +88,10 @@ got_still (y ∷ ms) ns (suc k) x e = got_still ms ns k x e
 stands_still : (rs : List ToldMount) (ms ns : List Mount) (k : ℕ) (x : Mount) → StandsThere rs ms k x → StandsThere rs (ms ++ ns) k x
 stands_still rs ms ns k x s = record { row = s.row; on = go s.on }
   where
-    go : (((x.above ≡ k) × IsRootMount x.row.now x) ⊎ ((p : Mount) × (slice_get ms x.above ≡ Some p) × IsPlacedOn p x.row.now k x))
-        → ((x.above ≡ k) × IsRootMount x.row.now x) ⊎ ((p : Mount) × (slice_get (ms ++ ns) x.above ≡ Some p) × IsPlacedOn p x.row.now k x)
+    go : (((x.above ≡ k) × IsRootMount x.row.now x) ⊎ ((p : Mount) × (x.above < k) × (slice_get ms x.above ≡ Some p) × IsPlacedOn p x.row.now k x))
+        → ((x.above ≡ k) × IsRootMount x.row.now x) ⊎ ((p : Mount) × (x.above < k) × (slice_get (ms ++ ns) x.above ≡ Some p) × IsPlacedOn p x.row.now k x)
     go (inl e) = inl e
-    go (inr (p, e, f)) = inr (p, got_still ms ns x.above p e, f)
+    go (inr (p, before, e, f)) = inr (p, before, got_still ms ns x.above p e, f)
 
 stands_more_at : (rs : List ToldMount) (ms ms' : List Mount) (m : Mount) → ms' ≡ ms ++ m ∷ [] → StandsThere rs ms (length ms) m
     → ((k : ℕ) (x : Mount) → slice_get ms k ≡ Some x → StandsThere rs ms k x) → (k : ℕ) (x : Mount) → slice_get ms' k ≡ Some x → StandsThere rs ms' k x
@@ -157,7 +157,7 @@ next_on rs ms row n here above parent (Ok m) next on there place (e, f, h) = rec
   within = (let inside = slice_get_within ms above parent on in omega (arith, inside, h));
   stands = record {
     row = ap (slice_get rs) f ∙ there ∙ ap (λ r. Some r) (sym e);
-    on = inr (parent, ap (slice_get ms) h ∙ on, subst (λ r. IsPlacedOn parent r (length ms) m) (sym e) (subst (λ k. IsPlacedOn parent row k m) next place));
+    on = inr (parent, (let inside = slice_get_within ms above parent on in omega (arith, inside, h)), ap (slice_get ms) h ∙ on, subst (λ r. IsPlacedOn parent r (length ms) m) (sym e) (subst (λ k. IsPlacedOn parent row k m) next place));
   };
 }
 

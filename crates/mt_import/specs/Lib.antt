@@ -14,4 +14,6 @@ pub mod Turns
 pub mod Covers
 pub mod Telling
 pub mod Spaces
+pub mod Plans
+pub mod Unmade
 pub mod Import

@@ -9,13 +9,13 @@ use Rattle.mt_import.specs.Commands.{mount_text, bind_text}
 use Rattle.mt_import.specs.Groups.{receiving, lone_group, source_group, number_here}
 use Rattle.mt_import.specs.Options.{options_text}
 use Rattle.mt_import.specs.Paths.{path_word}
-use Rattle.mt_import.specs.Script.{line_or_comment, group_comment}
+use Rattle.mt_import.specs.Script.{command_line, group_comment}
 use Rattle.mt_import.specs.Slots.{staged_path, group_path}
 
 -- options and the propagation of a mount are set, if there is anything to set
 abbrev pub set_text : List ℕ → List ℕ → List ℕ → List ℕ
 set_text space path [] = []
-set_text space path (b ∷ words) = line_or_comment (codes "setattr " ++ (space ++ (codes " " ++ (path_word path ++ (b ∷ words)))))
+set_text space path (b ∷ words) = command_line (codes "setattr " ++ (space ++ (codes " " ++ (path_word path ++ (b ∷ words)))))
 
 unfoldable pub attributes_text : List ℕ → List ℕ → List ℕ → Option (List ℕ) → List ℕ
 attributes_text space options path kind = set_text space path (options_text options kind)

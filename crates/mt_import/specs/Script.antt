@@ -7,7 +7,7 @@ use Rattle.mt_requests.specs.declared.request.Request.{Request}
 use Rattle.mt_requests.specs.declared.request.Request.TheVariants as request
 use Rattle.mt_requests.specs.Requests.{request_of}
 use Rattle.mt_import.specs.declared.reason.Reason.{Reason}
-use Rattle.mt_import.specs.declared.reason.Reason.TheVariants.{SameTable, SecondLine, NoRootMount, NoParent, ParentLeftOut, Ring, NoDirectory, Elsewhere, AtRoot, TooManyAtRoot, LongAtRoot, ScriptName, TooDeep, NoSuchGroups, TooLow, SamePlace, NoRoom}
+use Rattle.mt_import.specs.declared.reason.Reason.TheVariants.{SameTable, SecondLine, NoRootMount, NoParent, ParentLeftOut, Ring, NoDirectory, Elsewhere, AtRoot, TooManyAtRoot, LongAtRoot, ScriptName, TooDeep, NoSuchGroups, TooLow, SamePlace, NoRoom, Unmade}
 use Rattle.mt_import.specs.Options.{are_known}
 use Rattle.mt_import.specs.Reading.{ToldMount}
 
@@ -32,13 +32,13 @@ IsScript text = (lines : List (List ℕ)) × (text ≡ flat_map (λ line. line +
 unfoldable pub line_text : List ℕ → List ℕ
 line_text line = cond (is_script_line line) (line ++ 10 ∷ []) []
 
--- a line that is to be a command, or a comment in its place
-unfoldable pub line_or_comment : List ℕ → List ℕ
-line_or_comment line = line_text line ++ cond (is_script_line line) [] (line_text (codes "# a line that the server would not read is left out"))
+-- the line of a command
+unfoldable pub command_line : List ℕ → List ℕ
+command_line line = line ++ 10 ∷ []
 
--- the command of these words, or a comment in its place
+-- the command of these words
 unfoldable pub command_text : List (List ℕ) → List ℕ
-command_text words = line_or_comment (join_with_byte 32 words)
+command_text words = command_line (join_with_byte 32 words)
 
 -- a comment on a table, of two texts
 unfoldable pub table_comment : ℕ → List ℕ → List ℕ → List ℕ
@@ -71,6 +71,7 @@ reason_text NoSuchGroups = codes "its peer groups cannot be as it tells them"
 reason_text TooLow = codes "too many groups are above its own"
 reason_text SamePlace = codes "another mount stands in its place"
 reason_text NoRoom = codes "the server has no room for it"
+reason_text Unmade = codes "no script makes it"
 
 -- the comment that tells why a mount is not made
 unfoldable pub left_out_text : ℕ → ToldMount → Reason → List ℕ

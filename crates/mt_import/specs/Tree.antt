@@ -1,6 +1,6 @@
 -- The mounts of a table, in the order of their making.
 -- A word with no source is this project's rule.
-use Rattle.std.specs.Prelude.{◌≡◌, ◌⊎◌, ◌≤◌, ℕ, ◌-◌, length, Bool, true, false, ◌&&◌, cond, nat_le, suc, List, [], ◌∷◌, map, slice_get, Option, Some, None}
+use Rattle.std.specs.Prelude.{◌≡◌, ◌⊎◌, ◌≤◌, ◌<◌, ℕ, ◌-◌, length, Bool, true, false, ◌&&◌, cond, nat_le, suc, List, [], ◌∷◌, map, slice_get, Option, Some, None}
 use Rattle.mt_skel.specs.Counted.{occ}
 use Rattle.mt_import.specs.declared.mount.Mount.{Mount}
 use Rattle.mt_import.specs.declared.reason.Reason.{Reason}
@@ -36,10 +36,10 @@ pub record TreeView : Type 0 where
   pub mounts : List Mount
   pub left : List (Option Reason)
 
--- A mount of a number is that of a row, and is the root mount, which stands on itself, or has its place on another one.
+-- A mount of a number is that of a row, and is the root mount, which stands on itself, or has its place on one before it.
 pub record StandsThere (rows : List ToldMount) (mounts : List Mount) (number : ℕ) (mount : Mount) : Type 0 where
   pub row : slice_get rows mount.number ≡ Some mount.row.now
-  pub on : ((mount.above ≡ number) × IsRootMount mount.row.now mount) ⊎ ((parent : Mount) × (slice_get mounts mount.above ≡ Some parent) × IsPlacedOn parent mount.row.now number mount)
+  pub on : ((mount.above ≡ number) × IsRootMount mount.row.now mount) ⊎ ((parent : Mount) × (mount.above < number) × (slice_get mounts mount.above ≡ Some parent) × IsPlacedOn parent mount.row.now number mount)
 
 -- One that is the next of some mounts is that of the row of a number.
 pub record IsNextMount (rows : List ToldMount) (mounts : List Mount) (number : ℕ) (mount : Mount) : Type 0 where

@@ -11,7 +11,7 @@ use crate::path::{SECOND, STAGE};
 use crate::script::Script;
 use crate::site::{COVER, GROUP, NEW, PEER, PRIVATE, STAGE_FS, Site};
 use crate::space::{Way, is_made};
-use crate::writer::{Allocated, Done, command, one_behind};
+use crate::writer::{Allocated, Written, command, one_behind};
 use std::alloc::Global;
 
 /// Whether a mount is made on the root of the root mount, or of one that stands so.
@@ -37,7 +37,7 @@ pub(crate) fn covers_of(alloc: Global, mounts: &[Mount<'_>], ways: &[Way]) -> Al
 impl<'s, 'a> Site<'s, 'a> {
     /// Makes the place without group on which the old root is put, where others get what is mounted on a mount, or one above the
     /// root mount is to be shared.
-    fn shelve(self, script: &mut Script, mount: &Mount<'_>, path: &[u8]) -> Done
+    fn shelve(self, script: &mut Script, mount: &Mount<'_>, path: &[u8]) -> Written
         ensures { OnOk result (script.new ≡ script.old ++ shelf_text (receiving self.entry.groups.now.all mount.now.row.now.shared) self.entry.space.now self.entry.stage.now mount.now path.now) }
     {
         let row = mount.row;
@@ -55,7 +55,7 @@ impl<'s, 'a> Site<'s, 'a> {
 
     /// Has a mount at a path become the root of the namespace, with the old root on it.
     #[tactic(auto, unfolding(crate::specs::Covers::rise_text))]
-    fn rise(self, script: &mut Script, mount: &Mount<'_>, path: &[u8]) -> Done
+    fn rise(self, script: &mut Script, mount: &Mount<'_>, path: &[u8]) -> Written
         ensures { OnOk result (script.new ≡ script.old ++ rise_text self.entry.groups.now.all self.entry.space.now self.entry.stage.now mount.now path.now) }
     {
         let old = one_behind(self.alloc, path, STAGE)?;
@@ -67,7 +67,7 @@ impl<'s, 'a> Site<'s, 'a> {
     /// Makes the root mount, which takes the place of what is staged at the root of the namespace, or one that comes there, at a
     /// slot.
     #[tactic(auto, unfolding(crate::specs::Covers::base_text))]
-    pub(crate) fn make_base(self, script: &mut Script, mount: &Mount<'_>) -> Done
+    pub(crate) fn make_base(self, script: &mut Script, mount: &Mount<'_>) -> Written
         ensures { OnOk result (script.new ≡ script.old ++ base_text self.entry.groups.now.all self.entry.space.now self.entry.stage.now mount.now) }
     {
         if mount.base == 0 {
@@ -82,7 +82,7 @@ impl<'s, 'a> Site<'s, 'a> {
     /// Makes the root of the namespace shared, which is alone in its group, and moves the old root onto a mount without group
     /// that a peer at a path gives it.
     #[tactic(auto, unfolding(crate::specs::Covers::shelve_text))]
-    fn shelve_shared(self, script: &mut Script, mount: &Mount<'_>, peer: &[u8]) -> Done
+    fn shelve_shared(self, script: &mut Script, mount: &Mount<'_>, peer: &[u8]) -> Written
         ensures { OnOk result (script.new ≡ script.old ++ shelve_text self.entry.groups.now.all self.entry.space.now peer.now mount.now) }
     {
         let hook = one_behind(self.alloc, peer, SECOND)?;
@@ -97,7 +97,7 @@ impl<'s, 'a> Site<'s, 'a> {
 
     /// Puts it back on the one below it, and takes away its peer, which is at a path then.
     #[tactic(auto, unfolding(crate::specs::Covers::unshelve_text))]
-    fn lower_shared(self, script: &mut Script, peer: &[u8]) -> Done
+    fn lower_shared(self, script: &mut Script, peer: &[u8]) -> Written
         ensures { OnOk result (script.new ≡ script.old ++ unshelve_text self.entry.space.now peer.now) }
     {
         let hook = one_behind(self.alloc, peer, SECOND)?;
@@ -109,7 +109,7 @@ impl<'s, 'a> Site<'s, 'a> {
 
     /// Puts one that is the root of the namespace back on the one below it.
     #[tactic(auto, unfolding(crate::specs::Covers::lower_text))]
-    fn lower(self, script: &mut Script, mount: &Mount<'_>) -> Done
+    fn lower(self, script: &mut Script, mount: &Mount<'_>) -> Written
         ensures { OnOk result (script.new ≡ script.old ++ lower_text self.entry.groups.now.all self.entry.space.now self.entry.stage.now mount.now) }
     {
         let row = mount.row;
@@ -117,7 +117,8 @@ impl<'s, 'a> Site<'s, 'a> {
             let place = one_behind(self.alloc, mount.root, STAGE)?;
             let hook = self.slot(GROUP, group, place.as_slice())?;
             self.run(script, b"pivot", STAGE, STAGE)?;
-            return self.unmount(script, hook.as_slice());
+            self.unmount(script, hook.as_slice())?;
+            return Ok(());
         }
         if let Some(alone) = row.shared {
             let below = one_behind(self.alloc, self.stage, PEER)?;
@@ -133,7 +134,12 @@ impl<'s, 'a> Site<'s, 'a> {
 
     /// Makes each of the mounts of these numbers the root of the namespace, the old one below it, and then puts each back, the
     /// last one first.
-    pub(crate) fn cover(self, script: &mut Script, mounts: &[Mount<'_>], covers: &[usize]) -> Done
+    pub(crate) fn cover(
+        self,
+        script: &mut Script,
+        mounts: &[Mount<'_>],
+        covers: &[usize],
+    ) -> Written
         ensures { OnOk result (script.new ≡ script.old ++ covered self.entry.groups.now.all self.entry.space.now self.entry.stage.now mounts.now covers.now) }
     {
         let Some((number, others)) = covers.split_first() else {
@@ -156,7 +162,7 @@ impl<'s, 'a> Site<'s, 'a> {
 
     /// Takes what is staged away, and makes the root mount, if there is one, a member of its group, if it is alone in that.
     #[tactic(auto, unfolding(crate::specs::Covers::finish_text))]
-    pub(crate) fn finish(self, script: &mut Script, mounts: &[Mount<'_>]) -> Done
+    pub(crate) fn finish(self, script: &mut Script, mounts: &[Mount<'_>]) -> Written
         ensures { OnOk result (script.new ≡ script.old ++ finished self.entry.groups.now.all self.entry.space.now self.entry.stage.now mounts.now) }
     {
         let Some(root) = mounts.first() else {

@@ -10,8 +10,8 @@ use crate::script::Script;
 use crate::site::{APART, COVER, GROUP, NEW, PEER, SHARED, SLAVE, SPARED, STAGE_FS};
 use crate::space::Space;
 use crate::writer::{
-    Allocated, Done, Text, command, comment, digits_of, group_comment, joined, note, one_behind,
-    spaced,
+    Allocated, Done, Text, Unmade, Written, command, comment, digits_of, group_comment, joined,
+    note, one_behind, spaced,
 };
 use std::alloc::Global;
 use std::collections::BTreeSet;
@@ -98,7 +98,7 @@ impl<'a> Plan<'a> {
     }
 
     /// Makes the filesystems of the mounts.
-    fn make_filesystems(&self, script: &mut Script) -> Done {
+    fn make_filesystems(&self, script: &mut Script) -> Written {
         for (before, first) in self.filesystems.values().enumerate() {
             let (table, row) = *first;
             make_filesystem(script, table, row, before.saturating_add(1))?;
@@ -121,7 +121,7 @@ impl<'a> Plan<'a> {
     }
 
     /// Makes the directories, each behind those above it.
-    fn make_directories(&self, script: &mut Script) -> Done {
+    fn make_directories(&self, script: &mut Script) -> Written {
         for directory in self.directories.iter() {
             let text = directory.as_slice();
             if let Some(end) = text.iter().position(|byte| *byte == b'/') {
@@ -132,7 +132,7 @@ impl<'a> Plan<'a> {
     }
 
     /// Stages the filesystems of which directories are bound.
-    fn stage_plains(&self, script: &mut Script) -> Done {
+    fn stage_plains(&self, script: &mut Script) -> Written {
         for device in self.plains.iter() {
             let path = one_behind(self.alloc, b"/", device)?;
             command(script, &[b"mount", b"1", device, path.as_slice()])?;
@@ -141,7 +141,7 @@ impl<'a> Plan<'a> {
     }
 
     /// Stages members of groups, of those above others first.
-    fn stage_groups(&self, script: &mut Script) -> Done {
+    fn stage_groups(&self, script: &mut Script) -> Written {
         for staged in self.staged.iter() {
             if let Some(group) = self.groups.get(staged.1) {
                 self.stage_group(script, staged.1, &group)?;
@@ -151,7 +151,7 @@ impl<'a> Plan<'a> {
     }
 
     /// Stages a member of a group of the tables.
-    fn stage_group(&self, script: &mut Script, number: u64, group: &Group<'_>) -> Done {
+    fn stage_group(&self, script: &mut Script, number: u64, group: &Group<'_>) -> Written {
         let path = numbered(self.alloc, number)?;
         let path = path.as_slice();
         script.count_group(&self.groups, number, b"")?;
@@ -161,7 +161,7 @@ impl<'a> Plan<'a> {
     }
 
     /// Has a member of a group come from that of its master, as a slave, or else from its filesystem.
-    fn stage_below(&self, script: &mut Script, group: &Group<'_>, path: &[u8]) -> Done {
+    fn stage_below(&self, script: &mut Script, group: &Group<'_>, path: &[u8]) -> Written {
         let Some(master) = group.master else {
             return command(script, &[b"mount", b"1", group.device, path]);
         };
@@ -171,7 +171,7 @@ impl<'a> Plan<'a> {
     }
 
     /// Makes all that stands in front of the namespaces.
-    pub(crate) fn make_front(&self, script: &mut Script) -> Done {
+    pub(crate) fn make_front(&self, script: &mut Script) -> Written {
         self.make_filesystems(script)?;
         self.tell_others(script)?;
         command(script, &[b"mkfs", STAGE_FS, b"import", b"none"])?;
@@ -182,7 +182,7 @@ impl<'a> Plan<'a> {
     }
 
     /// Unmounts the staged members of groups in a namespace, but of those of which no table has one.
-    fn unstage_groups(&self, script: &mut Script, space: &[u8]) -> Done {
+    fn unstage_groups(&self, script: &mut Script, space: &[u8]) -> Written {
         for staged in self.staged.iter() {
             if self.groups.is_seen(staged.1) {
                 let path = numbered(self.alloc, staged.1)?;
@@ -193,7 +193,7 @@ impl<'a> Plan<'a> {
     }
 
     /// Unmounts the staged filesystems there.
-    fn unstage_plains(&self, script: &mut Script, space: &[u8]) -> Done {
+    fn unstage_plains(&self, script: &mut Script, space: &[u8]) -> Written {
         for device in self.plains.iter() {
             let path = one_behind(self.alloc, b"/", device)?;
             command(script, &[b"umount", space, path.as_slice()])?;
@@ -203,7 +203,7 @@ impl<'a> Plan<'a> {
 
     /// What makes one more namespace than those of the first table and these, which keeps members of groups of which no table has
     /// one, if there are any.
-    pub(crate) fn keeper_of(&self, others: &[Space<'_>]) -> Allocated<Script> {
+    pub(crate) fn keeper_of(&self, others: &[Space<'_>]) -> Result<Script, Unmade> {
         let mut script = Script::new(self.alloc);
         if !self.has_unseen() {
             return Ok(script);
@@ -257,7 +257,7 @@ fn push_mkfs(script: &mut Script, device: &[u8], kind: &[u8], source: &[u8]) -> 
 
 /// Makes the filesystem of a device. A type or source that no filesystem can have is told in a comment, and `none` in its
 /// place.
-fn make_device(script: &mut Script, table: usize, row: &HostMount) -> Done {
+fn make_device(script: &mut Script, table: usize, row: &HostMount) -> Written {
     let (device, kind) = (row.device.as_slice(), row.kind.as_slice());
     let source = source_word(script.alloc(), row.source.as_slice())?;
     if push_mkfs(script, device, kind, source.as_slice())? {
@@ -265,15 +265,17 @@ fn make_device(script: &mut Script, table: usize, row: &HostMount) -> Done {
     }
     let text = b"has a type or source that no filesystem can have";
     note(script, table, row, text)?;
-    let _is_read = push_mkfs(script, device, kind, b"none")?
+    if push_mkfs(script, device, kind, b"none")?
         || push_mkfs(script, device, b"none", source.as_slice())?
-        || push_mkfs(script, device, b"none", b"none")?;
-    Ok(())
+    {
+        return Ok(());
+    }
+    command(script, &[b"mkfs", device, b"none", b"none"])
 }
 
 /// Makes the filesystem of a row, the one of a number here. Its super options are told with its first mount, if they are
 /// others than `rw`: they are the last word of a line.
-fn make_filesystem(script: &mut Script, table: usize, row: &HostMount, here: usize) -> Done {
+fn make_filesystem(script: &mut Script, table: usize, row: &HostMount, here: usize) -> Written {
     let (device, here) = (
         row.device.as_slice(),
         digits_of(script.alloc(), here as u64)?,
@@ -286,5 +288,6 @@ fn make_filesystem(script: &mut Script, table: usize, row: &HostMount, here: usi
     if row.line.as_slice().ends_with(b" rw") {
         return Ok(());
     }
-    note(script, table, row, b"has super options that are left out")
+    note(script, table, row, b"has super options that are left out")?;
+    Ok(())
 }

@@ -5,11 +5,13 @@ ghost use Rattle.mt_import.specs.Import.{IsImport};
 use crate::host_mount::HostMount;
 use crate::plan::{Plan, plan_with_room};
 use crate::script::Script;
+use crate::soundness::is_sound;
 use crate::space::{Space, spaces_of};
 use crate::spaces::make_spaces;
 use crate::telling::{tell_spaces, tell_tables};
 use crate::tree::{Refused, Tree, tree_of};
-use crate::writer::Allocated;
+use crate::unmade::told_script;
+use crate::writer::{Allocated, Unmade};
 use mt_skel::fault::Fault;
 use std::alloc::Global;
 
@@ -62,7 +64,7 @@ fn planned<'a>(alloc: Global, tables: &'a [Vec<HostMount>]) -> Allocated<(Vec<Tr
 }
 
 /// What makes the filesystems and their directories, and what is staged, if there is a namespace to make.
-fn front_of(alloc: Global, plan: &Plan<'_>, spaces: &[Space<'_>]) -> Allocated<Script> {
+fn front_of(alloc: Global, plan: &Plan<'_>, spaces: &[Space<'_>]) -> Result<Script, Unmade> {
     let mut script = Script::new(alloc);
     if spaces.iter().any(|space| space.is_shown()) {
         plan.make_front(&mut script)?;
@@ -70,35 +72,34 @@ fn front_of(alloc: Global, plan: &Plan<'_>, spaces: &[Space<'_>]) -> Allocated<S
     Ok(script)
 }
 
-/// The script of tables of which this is planned.
-fn script_with(alloc: Global, plan: &Plan<'_>, spaces: &[Space<'_>]) -> Allocated<Script>
+/// The script of tables of which this is planned, if it is what they tell.
+fn script_with(alloc: Global, plan: &Plan<'_>, spaces: &[Space<'_>]) -> Result<Script, Unmade>
     ensures { IfOk result (IsImport (map (λ space. space.tree.rows) spaces.now)) }
 {
+    let is_right = is_sound(alloc, &plan.groups, spaces)?;
+    if !is_right {
+        return Err(Unmade::Refused);
+    }
     let front = front_of(alloc, plan, spaces)?;
     let mut script = Script::new(alloc);
     tell_tables(&mut script, spaces)?;
     tell_spaces(&mut script, spaces)?;
     script.append(&front)?;
     make_spaces(&mut script, plan, spaces)?;
+    let _text = script.text();
     Ok(script)
 }
 
 /// The script without what it tells of rows: the numbers that the server gives groups are known from it, and not told in it.
-fn counting(alloc: Global, plan: &Plan<'_>, spaces: &[Space<'_>]) -> Allocated<Script> {
+fn counting(alloc: Global, plan: &Plan<'_>, spaces: &[Space<'_>]) -> Result<Script, Unmade> {
     let mut counted = front_of(alloc, plan, spaces)?;
     make_spaces(&mut counted, plan, spaces)?;
     Ok(counted)
 }
 
-/// The script that makes the namespaces of which these are the tables, each with its rows. Refused as `NoMemory` alone.
-///
-/// A server that was just started makes a namespace of each table, numbered as they are, with a table that tells what the rows
-/// tell, up to the numbers of mounts, groups and devices; peer groups and masters that tables have in common are common there
-/// too. Where a peer group has slaves among the rows and no member, one more namespace has one. What cannot be made is told in
-/// comments.
-pub fn script_of(alloc: Global, tables: &[Vec<HostMount>]) -> Result<Script, Fault>
-    ensures made { IfOk result (IsImport (map (λ rows. rows.items) tables.now)) }
-    ensures memory { IsOkUnless result Fault.NoMemory }
+/// The script that makes the namespaces of tables, unless a line of it is none that the server reads.
+fn made_script(alloc: Global, tables: &[Vec<HostMount>]) -> Result<Script, Unmade>
+    ensures { IfOk result (IsImport (map (λ rows. rows.items) tables.now)) }
 {
     let (trees, mut plan) = planned(alloc, tables)?;
     let spaces = spaces_of(alloc, trees, &plan)?;
@@ -106,4 +107,21 @@ pub fn script_of(alloc: Global, tables: &[Vec<HostMount>]) -> Result<Script, Fau
     plan.groups.number(counted.numbers.named.as_slice());
     let script = script_with(alloc, &plan, spaces.as_slice())?;
     Ok(script)
+}
+
+/// The script that makes the namespaces of which these are the tables, each with its rows. Refused as `NoMemory` alone.
+///
+/// A server that was just started makes a namespace of each table, numbered as they are, with a table that tells what the rows
+/// tell, up to the numbers of mounts, groups and devices; peer groups and masters that tables have in common are common there
+/// too. Where a peer group has slaves among the rows and no member, one more namespace has one. What cannot be made is told in
+/// comments: all rows are, if a line that makes them is none that the server reads, of which no table is known.
+pub fn script_of(alloc: Global, tables: &[Vec<HostMount>]) -> Result<Script, Fault>
+    ensures made { IfOk result (IsImport (map (λ rows. rows.items) tables.now)) }
+    ensures memory { IsOkUnless result Fault.NoMemory }
+{
+    match made_script(alloc, tables) {
+        Ok(script) => Ok(script),
+        Err(Unmade::NoMemory) => Err(Fault::NoMemory),
+        Err(Unmade::Refused) => Ok(told_script(alloc, tables)?),
+    }
 }

@@ -11,6 +11,9 @@
 //!   isolates where others would get it, and those at the root of the namespace by pivots ([`covers`]). It is made twice: the
 //!   first time the groups are counted to which the server gives [`numbers`].
 //!
+//! What is planned is made only if it is what the tables tell ([`soundness`]), and each line of a command is one that the server
+//! reads; else all rows are told, and nothing is made ([`unmade`]).
+//!
 //! A [`script::Script`] has only comments and lines that the server reads as commands.
 #![tactic(auto)]
 
@@ -32,11 +35,13 @@ pub mod read;
 mod reason;
 pub mod script;
 mod site;
+mod soundness;
 mod space;
 mod spaces;
 mod telling;
 mod tree;
 mod turns;
+mod unmade;
 mod writer;
 
 pub use mt_skel::fault;

@@ -10,7 +10,7 @@ use crate::options::{Kind, options_of};
 use crate::path::path_word;
 use crate::script::Script;
 use crate::site::{GROUP, SHARED, SLAVE, Site, UNBINDABLE};
-use crate::writer::{Done, group_comment, joined, push_command};
+use crate::writer::{Written, group_comment, joined, push_command};
 
 /// The options that are those of a new mount.
 const UNCHANGED: &[u8] = b"relatime";
@@ -50,7 +50,7 @@ fn late_options(waits: bool, options: &[u8]) -> &[u8]
 impl<'s, 'a> Site<'s, 'a> {
     /// Sets options and the propagation of the mount at a path, if there is anything to set.
     #[tactic(auto, unfolding(crate::specs::Making::attributes_text))]
-    fn set_attributes(self, script: &mut Script, options: &[u8], path: &[u8], kind: Kind) -> Done
+    fn set_attributes(self, script: &mut Script, options: &[u8], path: &[u8], kind: Kind) -> Written
         ensures { OnOk result (script.new ≡ script.old ++ attributes_text self.entry.space.now options.now path.now (option_map (λ word. word.now) kind.entry)) }
     {
         let words = options_of(self.alloc, options, kind)?;
@@ -65,7 +65,13 @@ impl<'s, 'a> Site<'s, 'a> {
     /// Binds a directory of the staged member of a group, if of one, or of a filesystem, or else mounts that: its directory is
     /// empty for the root.
     #[tactic(auto, unfolding(crate::specs::Making::made_text))]
-    fn make(self, script: &mut Script, source: Option<u64>, mount: &Mount<'_>, path: &[u8]) -> Done
+    fn make(
+        self,
+        script: &mut Script,
+        source: Option<u64>,
+        mount: &Mount<'_>,
+        path: &[u8],
+    ) -> Written
         ensures { OnOk result (script.new ≡ script.old ++ made_text self.entry.space.now self.entry.stage.now source mount.now.row.now.device mount.now.root.now path.now) }
     {
         if let Some(group) = source {
@@ -83,7 +89,7 @@ impl<'s, 'a> Site<'s, 'a> {
 
     /// Makes a mount at a path, where nothing propagates, with its options, unless these wait until it is made shared.
     #[tactic(auto, unfolding(crate::specs::Making::bare_text))]
-    pub(crate) fn make_bare(self, script: &mut Script, mount: &Mount<'_>, path: &[u8]) -> Done
+    pub(crate) fn make_bare(self, script: &mut Script, mount: &Mount<'_>, path: &[u8]) -> Written
         ensures { OnOk result (script.new ≡ script.old ++ bare_text self.entry.groups.now.all self.entry.space.now self.entry.stage.now mount.now path.now) }
     {
         let row = mount.row;
@@ -99,7 +105,7 @@ impl<'s, 'a> Site<'s, 'a> {
 
     /// Makes a mount at a path a member of its group, if it is alone in that, with the options that wait for it.
     #[tactic(auto, unfolding(crate::specs::Making::share_text))]
-    pub(crate) fn share_alone(self, script: &mut Script, mount: &Mount<'_>, path: &[u8]) -> Done
+    pub(crate) fn share_alone(self, script: &mut Script, mount: &Mount<'_>, path: &[u8]) -> Written
         ensures { OnOk result (script.new ≡ script.old ++ share_text self.entry.groups.now.all self.entry.space.now mount.now.row.now path.now) }
     {
         let row = mount.row;

@@ -29,6 +29,8 @@ pub(crate) enum Reason {
     SamePlace,
     /// Or for what comes with it while it is made.
     NoRoom,
+    /// A line of the script would be none that the server reads, or what is planned not what the tables tell.
+    Unmade,
 }
 
 /// Why something is left out, if it is.
@@ -59,6 +61,7 @@ impl Reason {
             Reason::TooLow => b"too many groups are above its own",
             Reason::SamePlace => b"another mount stands in its place",
             Reason::NoRoom => b"the server has no room for it",
+            Reason::Unmade => b"no script makes it",
         }
     }
 }

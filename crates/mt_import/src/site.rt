@@ -8,7 +8,7 @@ ghost use Rattle.mt_import.specs.Slots.{slot, apart_path, path_from};
 use crate::groups::Groups;
 use crate::mount::Mount;
 use crate::script::Script;
-use crate::writer::{Done, Text, command, digits_of, joined};
+use crate::writer::{Text, Written, command, digits_of, joined};
 use std::alloc::Global;
 
 /// The words that change the propagation of a mount.
@@ -56,14 +56,14 @@ pub(crate) struct Site<'s, 'a> {
 
 impl<'s, 'a> Site<'s, 'a> {
     /// Appends a command on the namespace, of this word and two others.
-    pub(crate) fn run(self, script: &mut Script, word: &[u8], first: &[u8], last: &[u8]) -> Done
+    pub(crate) fn run(self, script: &mut Script, word: &[u8], first: &[u8], last: &[u8]) -> Written
         ensures { OnOk result (script.new ≡ script.old ++ command_text (word.now ∷ self.entry.space.now ∷ first.now ∷ last.now ∷ [])) }
     {
         command(script, &[word, self.space, first, last])
     }
 
     /// Appends an unmount of a mount of the namespace.
-    pub(crate) fn unmount(self, script: &mut Script, path: &[u8]) -> Done
+    pub(crate) fn unmount(self, script: &mut Script, path: &[u8]) -> Written
         ensures { OnOk result (script.new ≡ script.old ++ umount_text self.entry.space.now path.now) }
     {
         command(script, &[b"umount", self.space, path])

@@ -10,11 +10,11 @@ use crate::plan::Plan;
 use crate::script::Script;
 use crate::site::Site;
 use crate::space::Space;
-use crate::writer::{Done, command, digits_of, table_comment};
+use crate::writer::{Written, command, digits_of, table_comment};
 
 impl<'s, 'a> Site<'s, 'a> {
     /// Makes the mounts of a table.
-    fn make_mounts(self, script: &mut Script, space: &Space<'_>) -> Done
+    fn make_mounts(self, script: &mut Script, space: &Space<'_>) -> Written
         ensures { OnOk result (script.new ≡ script.old ++ mounts_made self.entry.groups.now.all self.entry.space.now self.entry.stage.now space.now) }
     {
         let mounts = space.tree.mounts();
@@ -27,7 +27,7 @@ impl<'s, 'a> Site<'s, 'a> {
 }
 
 /// Copies the first namespace, for any other one.
-fn copy_for(script: &mut Script, number: usize) -> Done
+fn copy_for(script: &mut Script, number: usize) -> Written
     ensures { OnOk result (script.new ≡ script.old ++ copied_if (nat_lt 1 number)) }
 {
     if number > 1 {
@@ -38,7 +38,7 @@ fn copy_for(script: &mut Script, number: usize) -> Done
 
 /// Makes the namespace of a table.
 #[tactic(auto, unfolding(crate::specs::Spaces::space_text))]
-fn make_space(script: &mut Script, groups: &Groups<'_>, space: &Space<'_>) -> Done
+fn make_space(script: &mut Script, groups: &Groups<'_>, space: &Space<'_>) -> Written
     ensures { OnOk result (script.new ≡ script.old ++ space_text groups.now.all space.now) }
 {
     let alloc = script.alloc();
@@ -57,7 +57,7 @@ fn make_space(script: &mut Script, groups: &Groups<'_>, space: &Space<'_>) -> Do
 }
 
 /// Makes the namespaces of the tables of which the root mount is made.
-fn make_shown(script: &mut Script, groups: &Groups<'_>, spaces: &[Space<'_>]) -> Done
+fn make_shown(script: &mut Script, groups: &Groups<'_>, spaces: &[Space<'_>]) -> Written
     ensures { OnOk result (script.new ≡ script.old ++ flat_map (made_if_shown groups.now.all) spaces.now) }
 {
     'spaces: for space in spaces {
@@ -70,7 +70,7 @@ fn make_shown(script: &mut Script, groups: &Groups<'_>, spaces: &[Space<'_>]) ->
 
 /// Makes the namespaces of all tables of which the root mount is made, that of the first one last: it is the one of which the
 /// others are copies.
-pub(crate) fn make_spaces(script: &mut Script, plan: &Plan<'_>, spaces: &[Space<'_>]) -> Done
+pub(crate) fn make_spaces(script: &mut Script, plan: &Plan<'_>, spaces: &[Space<'_>]) -> Written
     ensures { OnOk result (AreMade plan.now.groups.all spaces.now script.old script.new) }
 {
     let Some((first, others)) = spaces.split_first() else {

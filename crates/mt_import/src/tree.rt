@@ -1,6 +1,6 @@
 //! The mounts of a table in the order in which they are made: what one stands on comes before it, and what another one hides is
 //! made before that.
-ghost use Rattle.std.specs.Prelude.{◌≡◌, IfOk, OnOk};
+ghost use Rattle.std.specs.Prelude.{◌≡◌, [], IfOk, OnOk};
 ghost use Rattle.mt_import.specs.Tree.{is_waiting, IsNextMount, IsMakingOrder};
 
 use crate::host_mount::HostMount;
@@ -56,8 +56,15 @@ fn is_free<'a>(
 
 impl<'a> Tree<'a> {
     /// No mounts yet, for the rows of the table of a number, which are left out for a reason if their turn never comes.
-    fn new(alloc: Global, table: usize, rows: &'a [HostMount], why: Reason) -> Allocated<Tree<'a>>
-        ensures { IfOk result (λ tree. tree.rows ≡ rows.now) }
+    pub(crate) fn new(
+        alloc: Global,
+        table: usize,
+        rows: &'a [HostMount],
+        why: Reason,
+    ) -> Allocated<Tree<'a>>
+        ensures rows { IfOk result (λ tree. tree.rows ≡ rows.now) }
+        ensures numbered { IfOk result (λ tree. tree.table ≡ table) }
+        ensures bare { IfOk result (λ tree. tree.mounts ≡ []) }
     {
         let left = vec![in alloc; Some(why); rows.len()]?;
         Ok(Tree {

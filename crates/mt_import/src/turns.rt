@@ -17,13 +17,13 @@ use crate::mount::Mount;
 use crate::script::Script;
 use crate::site::{GROUP, PRIVATE, SPARED, STAGE_FS, Site};
 use crate::space::{Space, Way, hooked_by};
-use crate::writer::{Done, one_behind};
+use crate::writer::{Written, one_behind};
 
 impl<'s, 'a> Site<'s, 'a> {
     /// Takes away the mount of a hook at a path, where it would hide what is to be reached, and leaves all others: a mount inside
     /// of these spares them.
     #[tactic(auto, unfolding(crate::specs::Hook::release_text))]
-    fn release(self, script: &mut Script, hook: &[u8], path: &[u8]) -> Done
+    fn release(self, script: &mut Script, hook: &[u8], path: &[u8]) -> Written
         ensures { OnOk result (script.new ≡ script.old ++ release_text self.entry.space.now hook.now path.now) }
     {
         let spared = one_behind(self.alloc, hook, SPARED)?;
@@ -35,7 +35,7 @@ impl<'s, 'a> Site<'s, 'a> {
     }
 
     /// Takes away the mounts of a hook at these paths.
-    fn release_all(self, script: &mut Script, hook: &[u8], paths: &[Vec<u8>]) -> Done
+    fn release_all(self, script: &mut Script, hook: &[u8], paths: &[Vec<u8>]) -> Written
         ensures { OnOk result (script.new ≡ script.old ++ flat_map (release_text self.entry.space.now hook.now) (map (λ path. path.items) paths.now)) }
     {
         'paths: for path in paths {
@@ -53,7 +53,7 @@ impl<'s, 'a> Site<'s, 'a> {
         hook: &[u8],
         others: &[Vec<u8>],
         place: &[u8],
-    ) -> Done
+    ) -> Written
         ensures { OnOk result (script.new ≡ script.old ++ isolate_text self.entry.space.now hook.now (map (λ path. path.items) others.now) place.now) }
     {
         self.run(script, b"mount", STAGE_FS, hook)?;
@@ -64,7 +64,7 @@ impl<'s, 'a> Site<'s, 'a> {
 
     /// Brings a mount to its place, where nothing propagates.
     #[tactic(auto, unfolding(crate::specs::Turns::settle_text))]
-    fn settle(self, script: &mut Script, apart: bool, mount: &Mount<'_>, place: &[u8]) -> Done
+    fn settle(self, script: &mut Script, apart: bool, mount: &Mount<'_>, place: &[u8]) -> Written
         ensures { OnOk result (script.new ≡ script.old ++ settle_text self.entry.groups.now.all self.entry.space.now self.entry.stage.now apart mount.now place.now) }
     {
         if apart {
@@ -78,7 +78,13 @@ impl<'s, 'a> Site<'s, 'a> {
 
     /// Brings a mount to its place, which is isolated if others get what is mounted there.
     #[tactic(auto, unfolding(crate::specs::Turns::placed_text))]
-    fn place(self, script: &mut Script, hooked: Option<u64>, way: &Way, mount: &Mount<'_>) -> Done
+    fn place(
+        self,
+        script: &mut Script,
+        hooked: Option<u64>,
+        way: &Way,
+        mount: &Mount<'_>,
+    ) -> Written
         ensures { OnOk result (script.new ≡ script.old ++ placed_text hooked self.entry.groups.now.all self.entry.space.now self.entry.stage.now way.now mount.now) }
     {
         let place = self.path_from(mount, mount.names)?;
@@ -95,7 +101,7 @@ impl<'s, 'a> Site<'s, 'a> {
     }
 
     /// Makes a mount shared that was made apart and is alone in its group.
-    fn share_apart(self, script: &mut Script, apart: bool, mount: &Mount<'_>) -> Done
+    fn share_apart(self, script: &mut Script, apart: bool, mount: &Mount<'_>) -> Written
         ensures { OnOk result (script.new ≡ script.old ++ (if apart then share_text self.entry.groups.now.all self.entry.space.now mount.now.row.now (apart_path self.entry.stage.now mount.now.level) else [])) }
     {
         if !apart {
@@ -107,7 +113,13 @@ impl<'s, 'a> Site<'s, 'a> {
 
     /// Begins the mount of a number, unless it is left out: one at the root of the namespace is made, and one that is made apart.
     #[tactic(auto, unfolding(crate::specs::Turns::begun_text))]
-    fn begin(self, script: &mut Script, space: &Space<'_>, number: usize, mount: &Mount<'_>) -> Done
+    fn begin(
+        self,
+        script: &mut Script,
+        space: &Space<'_>,
+        number: usize,
+        mount: &Mount<'_>,
+    ) -> Written
         ensures { OnOk result (script.new ≡ script.old ++ begun_at self.entry.groups.now.all self.entry.space.now self.entry.stage.now (slice_get space.now.ways.items number) mount.now) }
     {
         let Some(way) = space.ways.get(number) else {
@@ -129,7 +141,7 @@ impl<'s, 'a> Site<'s, 'a> {
     /// Ends the mount of a number, on which all stands that does: it comes to its place, unless it is left out, or at the root of
     /// the namespace.
     #[tactic(auto, unfolding(crate::specs::Turns::ended_text))]
-    fn end(self, script: &mut Script, space: &Space<'_>, number: usize) -> Done
+    fn end(self, script: &mut Script, space: &Space<'_>, number: usize) -> Written
         ensures { OnOk result (script.new ≡ script.old ++ ended_at self.entry.groups.now.all self.entry.space.now self.entry.stage.now space.now number) }
     {
         let (mounts, ways) = (space.tree.mounts(), space.ways.as_slice());
@@ -146,7 +158,7 @@ impl<'s, 'a> Site<'s, 'a> {
     }
 
     /// Ends the mounts of these numbers.
-    fn end_all(self, script: &mut Script, space: &Space<'_>, numbers: &[usize]) -> Done
+    fn end_all(self, script: &mut Script, space: &Space<'_>, numbers: &[usize]) -> Written
         ensures { OnOk result (script.new ≡ script.old ++ flat_map (ended_at self.entry.groups.now.all self.entry.space.now self.entry.stage.now space.now) numbers.now) }
     {
         'numbers: for number in numbers {
@@ -161,7 +173,7 @@ impl<'s, 'a> Site<'s, 'a> {
         script: &mut Script,
         space: &Space<'_>,
         mounts: &[Mount<'_>],
-    ) -> Done
+    ) -> Written
         ensures { OnOk result (script.new ≡ script.old ++ turns_from self.entry.groups.now.all self.entry.space.now self.entry.stage.now space.now [] 0 mounts.now) }
     {
         let mut open = Vec::new(self.alloc);

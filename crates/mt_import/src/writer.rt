@@ -1,12 +1,12 @@
 //! The lines of the script, made of their words.
 ghost use Rattle.std.specs.Prelude.{◌≡◌, ◌∷◌, ◌++◌, map, take, decimal, IfOk, OnOk};
 ghost use Rattle.std.specs.List.{flat_map, join_with_byte};
-ghost use Rattle.mt_import.specs.Script.{line_text, line_or_comment, command_text, comment_text, table_comment, group_comment};
+ghost use Rattle.mt_import.specs.Script.{line_text, command_line, command_text, comment_text, table_comment, group_comment};
 
 use crate::host_mount::HostMount;
 use crate::script::Script;
 use itoa::Buffer;
-use std::alloc::{AllocError, Global};
+use std::alloc::{AllocError, AllocFailed, Global};
 
 /// How many bytes of a row a comment tells.
 const MOST_TOLD: usize = 8_000;
@@ -19,6 +19,29 @@ pub(crate) type Done = Allocated<()>;
 
 /// The same of one that makes a text.
 pub(crate) type Text = Allocated<Vec<u8>>;
+
+/// Why a part of a script is not made.
+#[derive(Clone, Copy)]
+pub(crate) enum Unmade {
+    NoMemory,
+    /// A line that is to be a command is none that the server reads, or what is planned is not what the tables tell.
+    Refused,
+}
+
+impl From<AllocError> for Unmade {
+    fn from(_error: AllocError) -> Unmade {
+        Unmade::NoMemory
+    }
+}
+
+impl<T: Drop> From<AllocFailed<T>> for Unmade {
+    fn from(_error: AllocFailed<T>) -> Unmade {
+        Unmade::NoMemory
+    }
+}
+
+/// What a call answers that makes a part of a script.
+pub(crate) type Written = Result<(), Unmade>;
 
 /// Texts, one behind the other.
 pub(crate) fn joined(alloc: Global, texts: &[&[u8]]) -> Text
@@ -72,20 +95,20 @@ pub(crate) fn spaced(alloc: Global, words: &[&[u8]]) -> Text
     Ok(line)
 }
 
-/// Appends a line that is to be a command, or a comment in its place.
-#[tactic(auto, unfolding(crate::specs::Script::line_or_comment))]
-pub(crate) fn push_command(script: &mut Script, line: &[u8]) -> Done
-    ensures { OnOk result (script.new ≡ script.old ++ line_or_comment line.now) }
+/// Appends a line that is to be a command, which is refused unless the server reads it as one.
+#[tactic(auto, unfolding(crate::specs::Script::line_text, crate::specs::Script::command_line))]
+pub(crate) fn push_command(script: &mut Script, line: &[u8]) -> Written
+    ensures { OnOk result (script.new ≡ script.old ++ command_line line.now) }
 {
     if !script.push(line)? {
-        let _said = script.push(b"# a line that the server would not read is left out")?;
+        return Err(Unmade::Refused);
     }
     Ok(())
 }
 
-/// Appends the command of these words, or a comment in its place.
+/// Appends the command of these words.
 #[tactic(auto, unfolding(crate::specs::Script::command_text))]
-pub(crate) fn command(script: &mut Script, words: &[&[u8]]) -> Done
+pub(crate) fn command(script: &mut Script, words: &[&[u8]]) -> Written
     ensures { OnOk result (script.new ≡ script.old ++ command_text (map (λ word. word.now) words.now)) }
 {
     let line = spaced(script.alloc(), words)?;
