@@ -14,6 +14,7 @@ mod kept;
 mod lines;
 mod marked;
 mod messages;
+mod newness;
 mod options;
 mod places;
 mod provide;
@@ -77,7 +78,7 @@ fn run_lines<R: Input + Drop, W: Output, O: Output>(
     let alloc = rt.alloc();
     if matches!(task, Task::Script) {
         let mut input = LineReader::new(alloc, Reading::new(rt.reader()), SCRIPT_LIMIT)?;
-        return run_script(rt, alloc, strict, &mut input, lines, writer, out);
+        return run_script(rt, alloc, strict, 0, &mut input, lines, writer, out);
     }
     let line = line_of(alloc, words)?;
     run_line(rt, alloc, line.as_slice(), lines, writer, out)

@@ -22,7 +22,7 @@ use Rattle.mt_lines.specs.Words.{words}
 use Rattle.mt_events.specs.declared.opening.Scope.TheVariants.{All}
 use Rattle.mt_protocol.specs.declared.form.Form.TheVariants.{Posts}
 use Rattle.mt_client.specs.Requests.{is_refusal, lines_behind, event_count}
-use Rattle.mt_client.specs.Missing.{AreDueLines, IsClosing, IsMissing, IsMissingAnswer, IsOnlyCounted}
+use Rattle.mt_client.specs.Missing.{AreDueLines, IsWaiting, IsMissing, IsMissingAnswer, IsOnlyCounted}
 
 -- posts that are due, up to their end
 abbrev pub due_posts : (count : ℕ) (scope : Scope) (mirrors : List MirrorView) (lines : List (List ℕ)) → AreDuePosts count scope mirrors lines → IsSeries (up_to (due_to scope) (counted_line count) count) mirrors lines
@@ -119,7 +119,7 @@ pub due_lines : (count : ℕ) (mirrors : List MirrorView) (lines : List (List �
 due_lines count mirrors lines d = are_in_lines posts_due count mirrors d.posts lines (d.valid, d.due) d.many d.all
 
 -- the answer of a watcher that is closed
-pub closing_needs_count : (mirrors : List MirrorView) (seen : List ℕ) (before middle : List Item) → before ≡ Text seen ∷ middle → is_refusal seen ≡ false → None ≡ lines_behind Posts true seen → NoneFirst (IsRefusedOr (IsClosing mirrors)) before
+pub closing_needs_count : (mirrors : List MirrorView) (seen : List ℕ) (before middle : List Item) → before ≡ Text seen ∷ middle → is_refusal seen ≡ false → None ≡ lines_behind Posts true seen → NoneFirst (IsRefusedOr (IsWaiting mirrors)) before
 closing_needs_count mirrors seen before middle there tells counts =
     unrefused_or (no_refusal there tells) (λ lines later k e.
     let t = first_taken later there k.all e in
@@ -127,7 +127,7 @@ closing_needs_count mirrors seen before middle there tells counts =
     cc)
 
 pub closing_needs_posts : (count : ℕ) (mirrors : List MirrorView) (seen : List ℕ) (before middle : List Item) → before ≡ Text seen ∷ middle → is_refusal seen ≡ false → Some count ≡ lines_behind Posts true seen → NoneFirst (AreDueLines count mirrors) middle
-    → NoneFirst (IsRefusedOr (IsClosing mirrors)) before
+    → NoneFirst (IsRefusedOr (IsWaiting mirrors)) before
 closing_needs_posts count mirrors seen before middle there tells counts none =
     unrefused_or (no_refusal there tells) (λ lines later k e.
     let t = first_taken later there k.all e in

@@ -1,4 +1,4 @@
--- Which lines are missing where the effects of a line are not told: what a watcher finds, an answer, or the posts of a watcher that is closed.
+-- Which lines are missing where the effects of a line are not told: what a watcher finds, an answer, or the posts of the watcher.
 -- A word with no source is this project's rule.
 use Rattle.std.specs.Prelude.{◌≡◌, ℕ, ◌+◌, Bool, true, List, ◌∷◌, ◌++◌, length, Some, ◌⊎◌}
 use Rattle.std.specs.List.{flat_map, AllByRecursion}
@@ -23,8 +23,8 @@ pub record AreDueLines (count : ℕ) (mirrors : List MirrorView) (lines : List (
   pub many : length lines ≡ count
   pub all : lines ≡ flat_map post_lines posts
 
--- the lines of what a watcher has when it is closed: how many they are, and then those of posts
-pub record IsClosing (mirrors : List MirrorView) (lines : List (List ℕ)) : Type 0 where
+-- the lines of the posts that wait: how many they are, and then those of posts
+pub record IsWaiting (mirrors : List MirrorView) (lines : List (List ℕ)) : Type 0 where
   pub first : List ℕ
   pub others : List (List ℕ)
   pub count : ℕ
@@ -36,11 +36,11 @@ pub record IsClosing (mirrors : List MirrorView) (lines : List (List ℕ)) : Typ
 abbrev pub IsMissing : Type 0 → (List (List ℕ) → Type 0) → List Item → Type 0
 IsMissing unsent kind before = NoneFirst kind before ⊎ (unsent × NoneFirst IsOneRefusal before)
 
--- no answer to a line comes first, or nothing of a closed watcher behind it
+-- no answer to a line comes first, or no posts that wait behind it
 abbrev pub IsMissingAnswer : Type 0 → List ℕ → List MirrorView → List Item → Type 0
 IsMissingAnswer unsent line mirrors opened =
     IsMissing unsent (λ lines. (told : Bool) × IsAnswer (form_of line) lines told) opened
-    ⊎ ((answered : List Item) × HasRead (λ lines. IsAnswer (form_of line) lines true) opened answered × IsMissing unsent (IsRefusedOr (IsClosing mirrors)) answered)
+    ⊎ ((answered : List Item) × HasRead (λ lines. IsAnswer (form_of line) lines true) opened answered × IsMissing unsent (IsRefusedOr (IsWaiting mirrors)) answered)
 
 -- the same, or nothing that a watcher of all namespaces finds comes first
 abbrev pub IsMissingEffect : Type 0 → List ℕ → List Item → Type 0

@@ -5,7 +5,7 @@ use Rattle.mt_client.specs.Reading.{lines_left}
 use Rattle.mt_client.proofs.CallLaws.{reads_both, writes_both, out_both, handed_on, fault_as, passes_passed, passes_read, refused_of, as_fault, effect_behind}
 use Rattle.mt_client.proofs.MissingLaws.{missing_later}
 use Rattle.mt_client.proofs.RelayLaws.{part_first, part_second, part_one}
-use Rattle.mt_client.specs.Missing.{IsClosing, IsMissing, IsMissingAnswer}
+use Rattle.mt_client.specs.Missing.{IsWaiting, IsMissing, IsMissingAnswer}
 use Rattle.mt_client.specs.Awaited.{IsRefusedOr}
 use Rattle.mt_client.proofs.effects.tell_answered.Goals as goal
 
@@ -59,7 +59,7 @@ returns g c =
       prints = on_ok_weaker c.tell_changes.result (λ q. writes_both passed.out.on q) c.tell_changes.ensures.prints;
       fault = IfErr-weaker c.tell_changes.result _ _
           (λ f q.
-          effect_behind (λ unsent. IsMissing unsent (IsRefusedOr (IsClosing c.args.mirrors.now.items)) (lines_left c.pass_answer.new.lines)) (λ unsent. IsMissingAnswer unsent c.args.line.now c.args.mirrors.now.items (lines_left c.args.lines.now))
+          effect_behind (λ unsent. IsMissing unsent (IsRefusedOr (IsWaiting c.args.mirrors.now.items)) (lines_left c.pass_answer.new.lines)) (λ unsent. IsMissingAnswer unsent c.args.line.now c.args.mirrors.now.items (lines_left c.args.lines.now))
           passed.read.on sent.on passed.out.on (λ t less more later m. inr (lines_left c.pass_answer.new.lines, passes_read passed t, missing_later later m)) q)
           c.tell_changes.ensures.fault;
     }
