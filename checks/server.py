@@ -35,6 +35,7 @@ from clients.python import check_python
 from clients.questions import check_questions
 from clients.reasons import check_reasons
 from clients.starts import check_starts
+from clients.terminals import check_terminals
 from clients.worlds import check_worlds
 from harness.protocol import Broken
 from harness.runs import check, failures
@@ -79,6 +80,7 @@ CLIENT_PARTS = {
     "reading": check_reading,
     "reasons": check_reasons,
     "starts": check_starts,
+    "terminals": check_terminals,
     "retold": check_retold,
     "pictures": check_pictures,
     "objects": check_objects,

@@ -19,6 +19,7 @@ mod options;
 mod places;
 mod provide;
 mod quiet;
+mod screen;
 mod script;
 mod sources;
 mod spaces;
@@ -36,6 +37,7 @@ use crate::lines::run_line;
 use crate::marked::Marked;
 use crate::messages::NAME;
 use crate::quiet::Quiet;
+use crate::screen::standard_output;
 use crate::script::{SCRIPT_LIMIT, run_script};
 use crate::spaces::list_spaces;
 use crate::tables::import_files;
@@ -127,7 +129,7 @@ fn run_task(
     manner: Manner,
 ) -> Result<bool, Fault> {
     let alloc = rt.alloc();
-    let mut out = Writing::new(io::writer(rt));
+    let mut out = standard_output(rt);
     let mut lines = LineReader::new(alloc, Reading::new(stream), LINE_LIMIT)?;
     let mut writer = Writing::new(stream);
     let strict = manner.strict;
@@ -163,7 +165,7 @@ fn run_words(rt: &HostRuntime, socket: &str, words: &[&str], manner: Manner) -> 
 fn import_input(rt: &HostRuntime) -> Result<(), ImportFault> {
     let alloc = rt.alloc();
     let mut input = LineReader::new(alloc, Reading::new(rt.reader()), ROW_LIMIT)?;
-    let mut out = Writing::new(io::writer(rt));
+    let mut out = standard_output(rt);
     import(alloc, &mut input, &mut out)
 }
 

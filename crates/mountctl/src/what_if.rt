@@ -9,6 +9,7 @@ use crate::messages::{NAME, tell_left_out};
 use crate::newness::{Begun, begin_script};
 use crate::provide::provide;
 use crate::quiet::Quiet;
+use crate::screen::standard_output;
 use crate::script::{SCRIPT_LIMIT, run_script};
 use crate::tables::{named_files, script_of_files};
 use crate::task::{WordFault, parted};
@@ -24,7 +25,6 @@ use mt_lines::words::{Pieces, number, words};
 use mt_render::telling::Telling;
 use mt_terminal::message::Shown;
 use std::alloc::{AllocError, Global};
-use std::io;
 use std::io::Eprint;
 use std::os::unix::net::UnixStream;
 use std::process::ExitCode;
@@ -236,7 +236,7 @@ fn ask_what_if(
     words: &[&str],
 ) -> Result<Effects, Fault> {
     let alloc = rt.alloc();
-    let mut out = Writing::new(io::writer(rt));
+    let mut out = standard_output(rt);
     let mut lines = LineReader::new(alloc, Reading::new(stream), LINE_LIMIT)?;
     let mut writer = Writing::new(stream);
     tell_what_if(

@@ -1,14 +1,14 @@
 //! Text for a terminal: strangers' bytes as it is given them, and how many cells they take.
 ghost use Rattle.std.specs.Prelude.{◌≡◌, ◌<◌, ◌≤◌, ◌++◌, OnOk, IfOk};
 ghost use Rattle.std.specs.List.{flat_map};
-ghost use Rattle.mt_terminal.specs.Terminal.{hex_digit, hex_byte, is_obeyed, piece_text, terminal_text, character_cells, cells_of_text};
+ghost use Rattle.mt_terminal.specs.Terminal.{hex_digit, hex_byte, is_control, is_hidden, is_obeyed, piece_text, terminal_text, character_cells, cells_of_text};
 
 use bstr::decode_utf8;
 use std::alloc::{AllocError, Global};
 use unicode_width::UnicodeWidthChar;
 
 /// A hexadecimal digit.
-fn hex_digit(n: u8) -> u8
+pub(crate) fn hex_digit(n: u8) -> u8
     requires { n < 16 }
     ensures { result ≡ hex_digit n }
 {
@@ -35,12 +35,31 @@ fn push_hexes(text: &mut Vec<u8>, bytes: &[u8]) -> Result<(), AllocError>
     Ok(())
 }
 
-/// Whether a terminal obeys a character: the controls of ASCII, and those behind them.
+/// Whether a character is a control of ASCII, or one of those behind them.
+fn is_control(code: u32) -> bool
+    ensures { result ≡ is_control code }
+{
+    code < 32 || (127 <= code && code <= 159)
+}
+
+/// Whether a character turns the direction of text, separates lines or paragraphs, or is a byte order mark.
+fn is_hidden(code: u32) -> bool
+    ensures { result ≡ is_hidden code }
+{
+    code == 0x061c
+        || (0x200e <= code && code <= 0x200f)
+        || (0x2028 <= code && code <= 0x202e)
+        || (0x2066 <= code && code <= 0x2069)
+        || code == 0xfeff
+}
+
+/// Whether a terminal obeys a character, so that a text with it looks as another one: a control, a character that turns
+/// the direction of text, a separator of lines or paragraphs, or a byte order mark.
 pub(crate) fn is_obeyed(character: char) -> bool
     ensures { result ≡ is_obeyed character }
 {
     let code = u32::from(character);
-    code < 32 || (127 <= code && code <= 159)
+    is_control(code) || is_hidden(code)
 }
 
 /// Appends the bytes of a character, or of what is none.
