@@ -20,6 +20,7 @@ use crate::fault::ClientFault;
 use crate::named::NamedTelling;
 use crate::posts::{lines_of_event, read_posted};
 use crate::relay::{next_text, pass_answer, print_line};
+use crate::request::ended_line;
 use crate::sending::send_request;
 use crate::telling::tell_due;
 use crate::watch::watch;
@@ -146,7 +147,7 @@ fn tell_changes<R: Input + Drop, W: Output, O: Output>(
     ensures prints { OnOk result (WritesOn O.Output out.old out.new) }
     ensures fault { IfErr result (λ fault. IsEffectFault W.Output O.Output fault (λ unsent. IsMissing unsent (IsRefusedOr (IsWaiting mirrors.old.items)) (lines_left lines.old)) lines.old lines.new writer.old writer.new out.old out.new) }
 {
-    if !send_request(lines, writer, b"take 1024", out)? {
+    if !send_request(lines, writer, b"take 1024\n", out)? {
         return Ok(false);
     }
     tell_taken(alloc, lines, named, mirrors, out)
@@ -178,7 +179,8 @@ fn tell_answered<R: Input + Drop, W: Output, O: Output>(
     ensures prints { OnOk result (WritesOn O.Output out.old out.new) }
     ensures fault { IfErr result (λ fault. IsEffectFault W.Output O.Output fault (λ unsent. IsMissingAnswer unsent line.now mirrors.old.items (lines_left lines.old)) lines.old lines.new writer.old writer.new out.old out.new) }
 {
-    if !send_request(lines, writer, line, out)? {
+    let request = ended_line(alloc, line)?;
+    if !send_request(lines, writer, request.as_slice(), out)? {
         return Ok(false);
     }
     if !pass_answer(alloc, lines, form_of(line), out)? {
