@@ -37,6 +37,8 @@ TEXT_CHECKS = (
     ("one word, one meaning; each thing once", "checks/words.py"),
     ("self-test of names.py", "checks/names.py", "--self-test"),
     ("names in the documents", "checks/names.py"),
+    ("self-test of unused.py", "checks/unused.py", "--self-test"),
+    ("what nothing cites", "checks/unused.py"),
     ("where definitions stand", "checks/definitions.py"),
     ("wrong bodies can be applied", "checks/wrong.py", "--look"),
 )

@@ -1,13 +1,20 @@
 #!/usr/bin/env -S python3 -B
-"""Says which lemmas and definitions nothing cites. Called by hand, when proofs have changed.
+"""Says which lemmas, definitions, laws and functions nothing cites. A program of the gate.
 
     checks/unused.py [--self-test]
 
-It reads specs/ and proofs/ of all crates, and prints each declaration to which no citation leads: from the code (its
-`ghost use` lines and its attributes), from an answer to a goal, or from an example of mt_examples. A name that two
-modules have is that of the module which the citing file takes it from. A public lemma that is printed may still be
-found by `search`, so check its crate without it. The status is 0 where nothing is printed. --self-test shows that what
-is cited only by what nothing cites is found, and nothing else.
+It prints a line for each
+
+(a) lemma or definition of specs/ and proofs/ to which no citation leads: from the code (its `ghost use` lines and its
+    attributes), from an answer to a goal, from an example of mt_examples, or from a lemma of SEARCHED. A name that two
+    modules have is that of the module which the citing file takes it from;
+(b) lemma of SEARCHED that is not there, or that is cited;
+(c) law that docs/PROVED.md does not name. A law is a function of a laws.rt, and nothing has to call it: it is a
+    promise, and PROVED.md is where the promises stand;
+(d) function that the code of no crate says but mt_examples, and that docs/PROVED.md does not name. A name that several
+    functions have is that of each; `main` and what an `impl` of a trait has are left alone.
+
+The status is 0 where there is none. --self-test shows that each is found in texts made for it, and nothing else.
 """
 import argparse
 import collections
@@ -17,7 +24,16 @@ import re
 import sys
 
 from harness.runs import TOP, end_self_test
-from sources.texts import EXAMPLES, without_comments
+from sources.texts import EXAMPLES, closing, crate_of, functions, without_comments
+from sources.uses import CODE_USE, GHOST_USE as BROUGHT_IN, blanked
+
+# Lemmas that no answer cites, and that `search` takes for a goal without an answer, which stands beside each. Check the
+# crate without a lemma before it comes in here.
+SEARCHED = {
+    "Rattle.mt_import.proofs.TreeLaws.no_tree": "a new `Tree` is in order",
+    "Rattle.mt_import.proofs.TreeLaws.row_left": "`Tree::leave_out` keeps the order",
+    "Rattle.mt_import.proofs.TreeLaws.next_root": "what `Tree::placed` answers for the root mount",
+}
 
 USE = re.compile(r"^((?:unfoldable )?pub )?use (\S+?)\.\{([^}]*)\}", re.M)
 GHOST_USE = re.compile(r"\bghost use (\S+?)\.\{([^}]*)\}")
@@ -27,6 +43,10 @@ ALIAS = re.compile(r"^use (\S+) as (\S+)", re.M)
 DECLARED = re.compile(r"^ *(?:(?:pub|abbrev|unfoldable|record|data) )+(?:record |data )?([^\s(){},;.:]+)|^ *([^\s(){},;.:]+) :(?=\s|$)")
 MODULE = re.compile(r"^ *module _ .*?\bwhere$", re.M | re.S)
 TOKEN = re.compile(r"[^\s(){}\[\],;\"]+")
+LAW = re.compile(r"^pub fn (\w+)\(\)$", re.M)
+# A comment, or a literal.
+SPOKEN = re.compile(r"//[^\n]*|b?\"(?:[^\"\\]|\\.)*\"|b?'(?:[^'\\]|\\.)'", re.S)
+TRAIT_IMPL = re.compile(r"^impl\b[^{;]*? for [^{;]*\{", re.M)
 
 Declared = collections.namedtuple("Declared", "line text")
 
@@ -109,15 +129,16 @@ class Library:
             yield name, ({scope[word] for word in words if scope.get(word)} | behind) - {None, (module, name)}
 
 
-def uncited(texts, code):
+def uncited(texts, code, searched=()):
     """The declarations that nothing leads to, each with its line."""
     library = Library(texts)
     cites = {(module, name): cited for module in texts for name, cited in library.cited_by(module)}
     todo = [key for key in cites if key[0].split(".")[1] == EXAMPLES or re.search(r"(?<!\S)\(?goal\.", library.files[key[0]][key[1]].text)]
-    for crate, text in code:
+    todo += [key for key in cites if ".".join(key) in searched]
+    for path, text in code.items():
         text = without_comments(text, "//")
         todo += [library.find(source, name) for source, listed in GHOST_USE.findall(text) for name, _ in names_in(listed)]
-        todo += [library.find(f"Rattle.{crate}.{path.replace('::', '.')}", name) for path, name in BY_PATH.findall(text)]
+        todo += [library.find(f"Rattle.{crate_of(path)}.{there.replace('::', '.')}", name) for there, name in BY_PATH.findall(text)]
     reached = set()
     while todo:
         key = todo.pop()
@@ -125,6 +146,54 @@ def uncited(texts, code):
             reached.add(key)
             todo += cites[key]
     return [(module, library.files[module][name].line, name) for module, name in cites if (module, name) not in reached]
+
+
+def unsearched(found, searched):
+    """A line for each lemma that `search` is said to find, and that is not there or is cited, given what nothing cites."""
+    alone = {f"{module}.{name}" for module, _, name in found}
+    return [f"{lemma}: of SEARCHED, but not there, or cited" for lemma in searched if lemma not in alone]
+
+
+def unnamed_laws(code, named):
+    """A line for each law that is not among these names."""
+    laws = [(path, law) for path, text in sorted(code.items()) if path.endswith("/laws.rt") for law in LAW.findall(text)]
+    return [f"{law}: a law that docs/PROVED.md does not name, in {path}" for path, law in laws if law not in named]
+
+
+def plain_code(text):
+    """A text of code with spaces in the place of comments and literals, whose braces open nothing."""
+    return SPOKEN.sub(lambda found: re.sub(r"[^\n]", " ", found[0]), text)
+
+
+def of_traits(text):
+    """The places of a text that are in an `impl` of a trait."""
+    opened = [found.end() - 1 for found in TRAIT_IMPL.finditer(text)]
+    return [range(start, closing(text, start)) for start in opened]
+
+
+def what_calls(text):
+    """A text with spaces in the place of what calls nothing: what brings names in, and all of a function but its body."""
+    for found in [*BROUGHT_IN.finditer(text), *CODE_USE.finditer(text)]:
+        text = blanked(text, *found.span())
+    for name, named, start, _ in list(functions(text)):
+        text = blanked(text, named - len(name), start)
+    return text
+
+
+def uncalled(code, named):
+    """A line for each function that no code says but that of examples, and that is not among these names."""
+    said_by, found = collections.defaultdict(set), []
+    texts = {path: plain_code(text) for path, text in sorted(code.items()) if crate_of(path) != EXAMPLES}
+    for path, text in texts.items():
+        bodies = [(start, end, (path, name)) for name, _, start, end in functions(text)]
+        for spoken in re.finditer(r"\w+", what_calls(text)):
+            said_by[spoken[0]].add(next((key for start, end, key in bodies if start < spoken.start() < end), path))
+    for path, text in texts.items():
+        traits = of_traits(text)
+        for name, place, _, _ in functions(text):
+            if not said_by[name] - {(path, name)} and name not in named | {"main"} and not any(place in inside for inside in traits):
+                found.append(f"{name}: a function that nothing calls, in {path}")
+    return found
 
 
 def read(pattern):
@@ -138,12 +207,20 @@ TEXTS = {
     "Rattle.low.proofs.Laws": "use Rattle.low.specs.Sizes.{size}\n\nmodule _ (n : ℕ) where\n  pub used : size n ≡ n\n  used = refl\n\n  helper : ℕ\n  helper = n\n\n  pub lost : ℕ\n  lost = helper n\n",
     "Rattle.low.proofs.f.Answers": "use Rattle.low.proofs.Laws as laws\nuse Rattle.low.proofs.f.Goals as goal\n\npub returns : goal.returns\nreturns c = laws.used c.helper\n",
 }
+CODE = {
+    "low/src/laws.rt": "ghost use Rattle.low.specs.Sizes.{size as many};\n\npub fn told()\n    ensures { many }\n{}\n\npub fn untold()\n    ensures { many }\n{}\n",
+    "low/src/rows.rt": "use crate::rest::{dead};\n\nimpl Drop for Row {\n    fn drop(self) {\n        called(b'{');\n    }\n}\n\nfn called()\n    ensures { dead }\n{\n}\n\nfn dead(n: u64) -> u64\n    ensures { dead n }\n{\n    dead(n - 1)\n}\n\npub fn promised()\n{\n}\n",
+    "mt_examples/src/lib.rt": "fn tests()\n{\n    dead(1)\n}\n",
+}
 
 
 def self_test():
     """Whether what nothing cites is found in texts made for it, and nothing else."""
-    found = uncited(TEXTS, [("low", "ghost use Rattle.low.specs.Sizes.{size as many};")])
-    return sorted(name for _, _, name in found) == ["helper", "lost", "twice"]
+    lost, helper = "Rattle.low.proofs.Laws.lost", "Rattle.low.proofs.Laws.helper"
+    found = uncited(TEXTS, CODE)
+    alone = [sorted(name for _, _, name in told) for told in (found, uncited(TEXTS, CODE, {lost}))]
+    others = unsearched(found, [lost, "Rattle.low.proofs.Laws.used"]) + unnamed_laws(CODE, {"told"}) + uncalled(CODE, {"promised"})
+    return alone == [["helper", "lost", "twice"], ["twice"]] and [line.split(":")[0] for line in others] == ["Rattle.low.proofs.Laws.used", "untold", "dead"]
 
 
 def main():
@@ -152,8 +229,12 @@ def main():
     if parser.parse_args().self_test:
         end_self_test("unused.py", self_test())
     texts = {"Rattle." + path.removesuffix(".antt").replace("/", "."): text for kind in ("specs", "proofs") for path, text in read(f"{kind}/**/*.antt").items()}
-    found = uncited(texts, [(path.split("/")[0], text) for path, text in read("src/**/*.rt").items()])
-    print(*(f"{module}:{line}: {name}" for module, line, name in found), f"{len(texts)} files, {len(found)} declarations that nothing cites", sep="\n")
+    code = read("src/**/*.rt")
+    with open(os.path.join(TOP, "docs", "PROVED.md"), encoding="utf-8") as file:
+        named = set(re.findall(r"\w+", " ".join(re.findall(r"`([^`\n]+)`", file.read()))))
+    found = [f"{name}: nothing cites it, in {module}, line {line}" for module, line, name in uncited(texts, code, SEARCHED)]
+    found += unsearched(uncited(texts, code), SEARCHED) + unnamed_laws(code, named) + uncalled(code, named)
+    print(*found, f"{len(texts) + len(code)} files, {len(found)} lemmas, definitions, laws and functions that nothing cites", sep="\n")
     sys.exit(1 if found else 0)
 
 

@@ -30,13 +30,15 @@ impl Kept {
 }
 
 impl Output for Kept {
-    ghost use Rattle.std.specs.Prelude.{[], false};
+    ghost use Rattle.std.specs.Prelude.{[], Some, false};
 
     ghost tells = { false };
 
     ghost counts = { false };
 
     ghost written = { λ q. [] };
+
+    ghost contents = { λ q. Some q.text.items };
 
     ghost failed = { λ q. 0 };
 

@@ -103,13 +103,15 @@ impl<'a, C: Clock, O: Output + Drop> Marked<'a, C, O> {
 }
 
 impl<'a, C: Clock, O: Output + Drop> Output for Marked<'a, C, O> {
-    ghost use Rattle.std.specs.Prelude.{[], false};
+    ghost use Rattle.std.specs.Prelude.{[], None, false};
 
     ghost tells = { false };
 
     ghost counts = { false };
 
     ghost written = { λ q. [] };
+
+    ghost contents = { λ q. None };
 
     ghost failed = { λ q. 0 };
 

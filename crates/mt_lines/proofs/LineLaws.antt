@@ -1,4 +1,6 @@
 -- The lines of bytes of which the front is known.
+use Rattle.std.specs.Io.KnownBytes.{Consumes, IsAtEnd, prepend_known}
+use Rattle.std.proofs.KnownBytes.{Consumes-trans}
 use Rattle.memchr.specs.Find.{IsFirstByte, is_byte}
 use Rattle.std.proofs.Math.Seq.{take-length}
 use Rattle.std.proofs.Math.Dec.{eqb-suc-zero}
@@ -8,19 +10,20 @@ use Rattle.mt_lines.specs.declared.line.Line.{Line}
 use Rattle.mt_lines.specs.declared.line.Line.TheVariants as line
 use Rattle.mt_lines.specs.declared.line.ReadFault.{ReadFault}
 use Rattle.mt_lines.specs.declared.line.ReadFault.TheVariants as fault
-use Rattle.mt_lines.specs.Reading.{IsNext}
+use Rattle.mt_lines.specs.Reading.{IsNext, IsNextKnown, LosesNoLine}
 use Rattle.std.proofs.Common.{Result, Ok, Err, inl, inr, IsTrue, Option, Some, None, MatchOption, MatchBool, add-one, append_assoc, zero, slice_index, eq-eqb, length-append, ◌≡◌, ℕ, suc, ◌+◌, ◌<◌, ◌≤◌, ◌==◌, if◌then◌else◌, List, [], ◌∷◌, ◌++◌, length, take, drop, refl, ap, sym, ◌∙◌, arith, Bool, true, false, eqb}
 use Rattle.std.proofs.lemmas.Bool.{ne_eqb, eqb-true}
 use Rattle.std.proofs.lemmas.Bool.Decides.{nat_tests}
 use Rattle.mt_lines.specs.Lines.{Item, lines_of, Unbroken, slack, Text, TooLong, Unended, Endless, between_line_ends, items, cons_first, by_length, last_items}
 
 -- a line of which so many bytes were seen, and as many kept as the limit allows
-pub record Consumed (limit seen : ℕ) (kept : List ℕ) (told : Bool) (before after : List ℕ) : Type 0 where
+pub record Consumed (limit seen : ℕ) (kept : List ℕ) (told : Bool) (before after : List ℕ) (from to : Option (List ℕ)) : Type 0 where
   pub text : List ℕ
   pub count : seen ≡ length text
   pub unbroken : Unbroken text
   pub front : kept ≡ take limit text
   pub split : IsTrue told → before ≡ text ++ after
+  pub known : Consumes from to text
 
 -- a first line that is whole is the first piece
 pub pieces-line : (text rest : List ℕ) → Unbroken text → between_line_ends (text ++ 10 ∷ rest) ≡ text ∷ between_line_ends rest
@@ -103,13 +106,14 @@ drop-at_ten (b ∷ hay) zero n e = let is : b ≡ 10 = eqb-true b 10 e in ap (λ
 drop-at_ten (b ∷ hay) (suc k) n e = drop-at_ten hay k (omega arith) e
 
 -- the record of a line's front, after one more piece
-pub Consumed-more : (limit seen : ℕ) (kept : List ℕ) (told : Bool) (before after piece later new_kept : List ℕ) (c : Consumed limit seen kept told before after) → (IsTrue told → after ≡ piece ++ later) → Unbroken piece → new_kept ≡ take limit (c.text ++ piece) → Consumed limit (seen + length piece) new_kept told before later
-Consumed-more limit seen kept told before after piece later new_kept c split unbroken front = record {
+pub Consumed-more : (limit seen : ℕ) (kept : List ℕ) (told : Bool) (before after piece later new_kept : List ℕ) (from mid to : Option (List ℕ)) (c : Consumed limit seen kept told before after from mid) → (IsTrue told → after ≡ piece ++ later) → Consumes mid to piece → Unbroken piece → new_kept ≡ take limit (c.text ++ piece) → Consumed limit (seen + length piece) new_kept told before later from to
+Consumed-more limit seen kept told before after piece later new_kept from mid to c split more unbroken front = record {
   text = c.text ++ piece;
   count = simp length-append (omega (arith, c.count));
   unbroken = Unbroken-append c.text piece c.unbroken unbroken;
   front = front;
   split = λ t. c.split t ∙ (rw (split t) (sym (append_assoc c.text piece later)));
+  known = Consumes-trans from mid to c.text piece c.known more;
 }
 
 -- a test of the length for 0
@@ -177,3 +181,47 @@ left-same left ahead ahead' input input' e f = rw (e, f) refl
 -- a front of the bytes, and what is left behind it, told in another way
 pub split-same : (before text rest rest' : List ℕ) → before ≡ text ++ rest → rest' ≡ rest → before ≡ text ++ rest'
 split-same before text rest rest' split same = rw same split
+
+-- a piece of what was read ahead is the front of what is known to be left
+pub ahead_consumed : (piece rest ahead : List ℕ) (later : Option (List ℕ)) → ahead ≡ piece ++ rest → Consumes (prepend_known ahead later) (prepend_known rest later) piece
+ahead_consumed piece rest ahead None e = tt
+ahead_consumed piece rest ahead (Some xs) e = ap (λ (x : List ℕ). x ++ xs) e ∙ append_assoc piece rest xs
+
+-- `judge_next`, `finish_next` and `lines_of-endless` of bytes that may be known
+pub judge_known : (limit : ℕ) (text : List ℕ) (before after : Option (List ℕ)) (kept new_kept : List ℕ) (r : Result Line ReadFault) → Unbroken text → Consumes before after (text ++ 10 ∷ []) → kept ≡ take limit text → (length text ≤ limit → (r ≡ Ok line.Text) × (new_kept ≡ kept)) → (limit < length text → length text ≤ limit + slack → r ≡ Ok line.TooLong) → (limit + slack < length text → r ≡ Err fault.Endless) → IsNextKnown limit before r new_kept after
+judge_known limit text None after kept new_kept r u split front short long endless = tt
+judge_known limit text (Some xs) None kept new_kept r u split front short long endless = absurd split
+judge_known limit text (Some xs) (Some ys) kept new_kept r u split front short long endless =
+    judge_next limit text xs ys kept new_kept r u (split ∙ append_assoc text (10 ∷ []) ys) front short long endless
+
+pub finish_known : (limit : ℕ) (text : List ℕ) (before after : Option (List ℕ)) (new_kept : List ℕ) (r : Line) → Unbroken text → Consumes before after text → IsAtEnd after → length text ≤ limit + slack → (length text ≡ 0 → r ≡ line.End) → (0 < length text → length text ≤ limit → r ≡ line.Unended) → (limit < length text → r ≡ line.TooLong) → IsNextKnown limit before (Ok r) new_kept after
+finish_known limit text None after new_kept r u split end within none short long = tt
+finish_known limit text (Some xs) None new_kept r u split end within none short long = absurd split
+finish_known limit text (Some xs) (Some ys) new_kept r u split end within none short long = finish_next limit text xs ys new_kept r u split end within none short long
+
+pub endless_known : (limit : ℕ) (text : List ℕ) (before after : Option (List ℕ)) (kept : List ℕ) → Unbroken text → limit + slack < length text → Consumes before after text → IsNextKnown limit before (Err fault.Endless) kept after
+endless_known limit text None after kept u long split = tt
+endless_known limit text (Some xs) None kept u long split = absurd split
+endless_known limit text (Some xs) (Some ys) kept u long split = let e = lines_of-endless limit text ys u long in (e.0, rw split e.1)
+
+-- no whole line was taken where a fault of the input ended the call
+pub part_whole : (e : ReadFault) (before after : Option (List ℕ)) (part : List ℕ) → Unbroken part → Consumes before after part → LosesNoLine (Err e) before after
+part_whole fault.Endless before after part u split = tt
+part_whole fault.Device before after part u split = (part, u, split)
+part_whole fault.Interrupted before after part u split = (part, u, split)
+part_whole fault.NoMemory before after part u split = (part, u, split)
+
+-- the same of so many bytes, as a call took them of a reader whose input it left alone
+pub ahead_taken : (n : ℕ) (ahead rest : List ℕ) (later later' : Option (List ℕ)) → rest ≡ drop n ahead → later' ≡ later → Consumes (prepend_known ahead later) (prepend_known rest later') (take n ahead)
+ahead_taken n ahead rest later later' e same = rw (same, e) (ahead_consumed (take n ahead) (drop n ahead) ahead later (sym (take-append-drop n ahead)))
+
+-- and of those up to a line end, with it
+pub line_taken : (n : ℕ) (ahead rest : List ℕ) (later later' : Option (List ℕ)) → drop n ahead ≡ 10 ∷ drop (n + 1) ahead → rest ≡ drop 1 (drop n ahead) → later' ≡ later → Consumes (prepend_known ahead later) (prepend_known rest later') (take n ahead ++ 10 ∷ [])
+line_taken n ahead rest later later' d e same =
+    let is : rest ≡ drop (n + 1) ahead = e ∙ ap (drop 1) d in
+    let whole : ahead ≡ (take n ahead ++ 10 ∷ []) ++ rest = sym (take-append-drop n ahead) ∙ ap (λ x. take n ahead ++ x) (d ∙ ap (λ x. 10 ∷ x) (sym is)) ∙ sym (append_assoc (take n ahead) (10 ∷ []) rest) in
+    rw same (ahead_consumed (take n ahead ++ 10 ∷ []) rest ahead later whole)
+
+-- what is known to be left, told in another way
+pub known-same : {A : Type 0} (known : A → Option (List ℕ)) (ahead ahead' : List ℕ) (input input' : A) → ahead ≡ ahead' → input ≡ input' → prepend_known ahead (known input) ≡ prepend_known ahead' (known input')
+known-same known ahead ahead' input input' e f = rw (e, f) refl

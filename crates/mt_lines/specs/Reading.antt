@@ -1,7 +1,8 @@
 -- What one call of a line reader means, and what its clauses see of a reader.
 -- A word with no source is this project's rule.
-use Rattle.std.specs.Prelude.{◌≡◌, ℕ, ◌+◌, ◌<◌, ◌≤◌, List, [], ◌∷◌, ◌++◌, Result, Ok, Err, Option, is_some, if◌then◌else◌, vec_capacity}
-use Rattle.mt_lines.specs.Lines.{Item, lines_of, Text, TooLong, Unended, Endless}
+use Rattle.std.specs.Prelude.{◌≡◌, ℕ, ◌+◌, ◌<◌, ◌≤◌, List, [], ◌∷◌, ◌++◌, Result, Ok, Err, Option, None, Some, ⊤, is_some, if◌then◌else◌, vec_capacity}
+use Rattle.std.specs.Io.KnownBytes.{prepend_known, Consumes}
+use Rattle.mt_lines.specs.Lines.{Item, lines_of, Unbroken, Text, TooLong, Unended, Endless}
 use Rattle.mt_lines.specs.declared.line.Line.{Line}
 use Rattle.mt_lines.specs.declared.line.Line.TheVariants as line
 use Rattle.mt_lines.specs.declared.line.LineReader.{LineReader}
@@ -15,6 +16,10 @@ use Rattle.mt_lines.specs.Stream.{HasFailed, IsInterrupted, most_interruptions}
 -- input has left
 abbrev pub bytes_left : {R : Type 0} {g : Ghosts R} → LineReader R g → List ℕ
 bytes_left {R} {g} r = r.chunk ++ g.left r.reader
+
+-- the same where what its input has left is known
+abbrev pub known_left : {R : Type 0} {g : Ghosts R} → LineReader R g → Option (List ℕ)
+known_left {R} {g} r = prepend_known r.chunk (g.remaining r.reader)
 
 -- how many calls of the reader's input have failed
 abbrev pub failed_calls : {R : Type 0} {g : Ghosts R} → LineReader R g → ℕ
@@ -55,6 +60,18 @@ IsNext limit before (Err fault.Endless) text after = (more : List Item) × (line
 IsNext limit before (Err fault.Device) text after = Unit {0}
 IsNext limit before (Err fault.Interrupted) text after = Unit {0}
 IsNext limit before (Err fault.NoMemory) text after = Unit {0}
+
+-- the same of a reader of which the bytes are known: they stay known
+abbrev pub IsNextKnown : ℕ → Option (List ℕ) → Result Line ReadFault → List ℕ → Option (List ℕ) → Type 0
+IsNextKnown limit None r text after = ⊤
+IsNextKnown limit (Some before) r text None = ⊥
+IsNextKnown limit (Some before) r text (Some after) = IsNext limit before r text after
+
+-- a call that answered a fault of its input took no whole line of it: what it took has no line end
+abbrev pub LosesNoLine : Result Line ReadFault → Option (List ℕ) → Option (List ℕ) → Type 0
+LosesNoLine (Ok l) before after = ⊤
+LosesNoLine (Err fault.Endless) before after = ⊤
+LosesNoLine (Err e) before after = (part : List ℕ) × Unbroken part × Consumes before after part
 
 -- how far the count of failed calls rose in a call that answered this fault: by one at least for
 -- Device, and by the most interruptions for Interrupted

@@ -1,6 +1,6 @@
 -- What one call of a stream gives, takes and counts, and what the streams in memory hold.
 -- A word with no source is this project's rule.
-use Rattle.std.specs.Prelude.{◌≡◌, ℕ, ◌-◌, ◌<◌, suc, zero, min, List, [], ◌∷◌, ◌++◌, length, replicate, take, Result, Ok, Err}
+use Rattle.std.specs.Prelude.{◌≡◌, ℕ, ◌-◌, ◌<◌, suc, zero, min, List, [], ◌∷◌, ◌++◌, length, replicate, take, Result, Ok, Err, Bool}
 use Rattle.mt_lines.specs.declared.stream.StreamFault.{StreamFault}
 use Rattle.mt_lines.specs.declared.stream.StreamFault.TheVariants.{Interrupted, Failed}
 use Rattle.mt_lines.specs.declared.stream.Reading.{Reading}
@@ -74,6 +74,10 @@ reading_inner r = r.inner
 -- the writer of the standard library that an output writes to
 abbrev pub writing_inner : {W : Type 0} → Writing W → W
 writing_inner w = w.inner
+
+-- a flush of it has failed
+abbrev pub is_broken : {W : Type 0} → Writing W → Bool
+is_broken w = w.is_broken
 
 -- how many bytes a read of bytes in memory gives: as many as are left, fit the buffer and may go in
 -- one call

@@ -1,5 +1,6 @@
 //! Lines of a stream, the same however the stream cuts its bytes.
 ghost use Rattle.std.specs.Prelude.{◌≡◌, ◌≢◌, ℕ, ◌+◌, ◌^◌, ◌<◌, ◌≤◌, List, [], ◌∷◌, ◌++◌, length, take, drop, IsTrue, IfOk, IfErr, OnErr, OnOk, IfSome, MatchResult, MatchOption, MatchBool, IsNone, None, Some, vec_capacity, vec_len, min};
+ghost use Rattle.std.specs.Io.KnownBytes.{Consumes, Keeps, IsAtEnd};
 ghost use Rattle.mt_lines.specs.Lines.{Unbroken, line_end, slack};
 ghost use Rattle.mt_lines.specs.declared.line.TheConstants.{CHUNK, MOST_RESERVED};
 
@@ -120,6 +121,8 @@ impl Chunk {
         ensures given { IsTrue R.tells → R.left reader.old ≡ self.new ++ R.left reader.new }
         ensures end { IfOk result
             (λ more. MatchBool more (Unit {0}) (IsTrue R.tells → R.left reader.new ≡ [])) }
+        ensures known { Consumes (R.remaining reader.old) (R.remaining reader.new) self.new }
+        ensures known_end { IfOk result (λ more. MatchBool more (Unit {0}) (IsAtEnd (R.remaining reader.new))) }
         ensures counted { IsTrue R.counts → MatchResult result
             (λ _. R.failed reader.new ≡ R.failed reader.old)
             (λ _. R.failed reader.new ≡ R.failed reader.old + 1) }
@@ -164,7 +167,7 @@ fn keep(line: &mut Vec<u8>, limit: usize, piece: &[u8]) -> Result<(), AllocError
 }
 
 impl<R: Input + Drop> LineReader<R> {
-    ghost use Rattle.mt_lines.specs.Reading.{IsNext, IsFaultCause, IsReadCause, IsFaultRun, IsReadRun, bytes_left, failed_calls, last_faults, limit_of, fault_of, last_line, line_room, most_reserved};
+    ghost use Rattle.mt_lines.specs.Reading.{IsNext, IsNextKnown, LosesNoLine, IsFaultCause, IsReadCause, IsFaultRun, IsReadRun, bytes_left, known_left, failed_calls, last_faults, limit_of, fault_of, last_line, line_room, most_reserved};
 
     /// Takes the input, and the most bytes that a line may have.
     ///
@@ -172,6 +175,7 @@ impl<R: Input + Drop> LineReader<R> {
     /// no memory for them. Reads nothing yet.
     pub fn new(alloc: Global, reader: R, limit: u32) -> Result<LineReader<R>, AllocError>
         ensures left { IfOk result (λ r. bytes_left r ≡ R.left reader) }
+        ensures known { IfOk result (λ r. known_left r ≡ R.remaining reader) }
         ensures failed { IfOk result (λ r. failed_calls r ≡ R.failed reader) }
         ensures faults { IfOk result (λ r. last_faults r ≡ R.faults reader) }
         ensures limit { IfOk result (λ r. limit_of r ≡ limit) }
@@ -208,6 +212,10 @@ impl<R: Input + Drop> LineReader<R> {
     pub fn next(&mut self) -> Result<Line, ReadFault>
         ensures next { IsNone (fault_of self.old) → IsTrue R.tells
             → IsNext (limit_of self.old) (bytes_left self.old) result (last_line self.new) (bytes_left self.new) }
+        ensures known { IsNone (fault_of self.old)
+            → IsNextKnown (limit_of self.old) (known_left self.old) result (last_line self.new) (known_left self.new) }
+        ensures whole { IsNone (fault_of self.old)
+            → LosesNoLine result (known_left self.old) (known_left self.new) }
 
         // Nothing but a text leaves a line to lend.
         ensures empty { result ≢ Ok Line.Text → last_line self.new ≡ [] }
@@ -244,6 +252,8 @@ impl<R: Input + Drop> LineReader<R> {
     fn read_line(&mut self) -> Result<Line, ReadFault>
         ensures next { IsTrue R.tells
             → IsNext self.old.limit (bytes_left self.old) result self.new.line.items (bytes_left self.new) }
+        ensures known { IsNextKnown self.old.limit (known_left self.old) result self.new.line.items (known_left self.new) }
+        ensures whole { LosesNoLine result (known_left self.old) (known_left self.new) }
         ensures empty { IfOk result (λ line. line ≢ Line.Text → self.new.line.items ≡ []) }
         ensures cause { IsTrue R.counts
             → IsReadCause result (failed_calls self.old) (failed_calls self.new) }
@@ -280,6 +290,8 @@ impl<R: Input + Drop> LineReader<R> {
             (λ more. MatchBool more (0 < length self.new.chunk) (IsTrue R.tells
             → bytes_left self.new ≡ [])) }
         ensures given { IsTrue R.tells → bytes_left self.new ≡ bytes_left self.old }
+        ensures known { Keeps (known_left self.old) (known_left self.new) }
+        ensures known_end { IfOk result (λ more. MatchBool more (Unit {0}) (IsAtEnd (known_left self.new))) }
         ensures cause { IsTrue R.counts → MatchResult result
             (λ _. failed_calls self.old ≤ failed_calls self.new)
             (λ e. IsFaultCause e (failed_calls self.old) (failed_calls self.new)) }
@@ -305,6 +317,8 @@ impl<R: Input + Drop> LineReader<R> {
         ensures given { IsTrue R.tells → R.left self.old.reader ≡ bytes_left self.new }
         ensures end { IfOk result
             (λ more. MatchBool more (Unit {0}) (IsTrue R.tells → R.left self.new.reader ≡ [])) }
+        ensures known { Consumes (R.remaining self.old.reader) (R.remaining self.new.reader) self.new.chunk }
+        ensures known_end { IfOk result (λ more. MatchBool more (Unit {0}) (IsAtEnd (R.remaining self.new.reader))) }
         ensures cause { IsTrue R.counts → MatchResult result
             (λ _. failed_calls self.old ≤ failed_calls self.new)
             (λ e. IsFaultCause e (failed_calls self.old) (failed_calls self.new)) }
@@ -335,6 +349,7 @@ impl<R: Input + Drop> LineReader<R> {
         ensures rest { OnOk result (self.new.chunk ≡ drop count self.old.chunk) }
         ensures memory { IfErr result
             (λ e. (e ≡ ReadFault.NoMemory) × (most_reserved < self.old.limit)) }
+        ensures kept_chunk { OnErr result (self.new.chunk ≡ self.old.chunk) }
         ensures same { (self.new.limit ≡ self.old.limit) × (self.new.reader ≡ self.old.reader)
             × (self.new.fault ≡ self.old.fault) }
     {

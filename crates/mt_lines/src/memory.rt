@@ -46,7 +46,8 @@ impl<'a> Portions<'a> {
 }
 
 impl Input for Portions<'_> {
-    ghost use Rattle.std.specs.Prelude.{◌≡◌, ◌+◌, ◌<◌, ◌≤◌, [], length, IfOk, Ok, true};
+    ghost use Rattle.std.specs.Prelude.{◌≡◌, ◌+◌, ◌<◌, ◌≤◌, [], length, IfOk, Ok, Some, true};
+    ghost use Rattle.std.specs.Io.KnownBytes.{ReadConsumes};
     ghost use Rattle.mt_lines.specs.Stream.{Gives, failed_reads, faults_after_read, portion_size, portions_left, portions_most};
 
     ghost tells = { true };
@@ -54,6 +55,8 @@ impl Input for Portions<'_> {
     ghost counts = { true };
 
     ghost left = { portions_left };
+
+    ghost remaining = { λ p. Some (portions_left p) };
 
     ghost failed = { λ p. 0 };
 
@@ -64,6 +67,7 @@ impl Input for Portions<'_> {
         requires { 0 < length buffer.old }
         ensures bound { IfOk result (λ n. n ≤ length buffer.new) }
         ensures given { Gives (portions_left self.old) (portions_left self.new) buffer.new result }
+        ensures known { ReadConsumes (Some (portions_left self.old)) (Some (portions_left self.new)) result buffer.new }
 
         // No call fails, so that the count of failed calls stays 0.
         ensures counted { 0 ≡ 0 + failed_reads result }
@@ -118,7 +122,8 @@ impl<'a> Faulty<'a> {
 }
 
 impl Input for Faulty<'_> {
-    ghost use Rattle.std.specs.Prelude.{◌≡◌, ◌+◌, ◌-◌, ◌<◌, ◌≤◌, length, IfOk, Ok, Err, true};
+    ghost use Rattle.std.specs.Prelude.{◌≡◌, ◌+◌, ◌-◌, ◌<◌, ◌≤◌, length, IfOk, Ok, Err, Some, true};
+    ghost use Rattle.std.specs.Io.KnownBytes.{ReadConsumes};
     ghost use Rattle.mt_lines.specs.Stream.{Gives, failed_reads, faults_after_read, portion_size, faulty_left, faulty_most, faulty_before, faulty_pending, faulty_failed, faulty_faults, faulty_fault};
 
     ghost tells = { true };
@@ -126,6 +131,8 @@ impl Input for Faulty<'_> {
     ghost counts = { true };
 
     ghost left = { faulty_left };
+
+    ghost remaining = { λ f. Some (faulty_left f) };
 
     ghost failed = { faulty_failed };
 
@@ -136,6 +143,7 @@ impl Input for Faulty<'_> {
         requires { 0 < length buffer.old }
         ensures bound { IfOk result (λ n. n ≤ length buffer.new) }
         ensures given { Gives (faulty_left self.old) (faulty_left self.new) buffer.new result }
+        ensures known { ReadConsumes (Some (faulty_left self.old)) (Some (faulty_left self.new)) result buffer.new }
         ensures counted { faulty_failed self.new ≡ faulty_failed self.old + failed_reads result }
         ensures faults { faulty_faults self.new ≡ faults_after_read (faulty_faults self.old) result }
 
@@ -200,7 +208,7 @@ impl Faltering {
 }
 
 impl Output for Faltering {
-    ghost use Rattle.std.specs.Prelude.{◌≡◌, ◌+◌, ◌<◌, ◌≤◌, [], length, IfOk, Ok, Err, true, false};
+    ghost use Rattle.std.specs.Prelude.{◌≡◌, ◌+◌, ◌<◌, ◌≤◌, [], length, IfOk, Ok, Err, None, true, false};
     ghost use Rattle.mt_lines.specs.Stream.{failed_writes, faults_after_write, faltering_pending, faltering_failed, faltering_faults, faltering_fault};
 
     ghost tells = { false };
@@ -208,6 +216,8 @@ impl Output for Faltering {
     ghost counts = { true };
 
     ghost written = { λ f. [] };
+
+    ghost contents = { λ f. None };
 
     ghost failed = { faltering_failed };
 
@@ -272,7 +282,8 @@ impl Sink {
 }
 
 impl Output for Sink {
-    ghost use Rattle.std.specs.Prelude.{◌≡◌, ◌-◌, ◌<◌, ◌≤◌, ◌++◌, length, take, min, IfOk, Ok, Err, true, false, []};
+    ghost use Rattle.std.specs.Prelude.{◌≡◌, ◌-◌, ◌<◌, ◌≤◌, ◌++◌, length, take, min, IfOk, Ok, Err, Some, true, false, []};
+    ghost use Rattle.std.specs.Io.KnownBytes.{WriteAppends};
     ghost use Rattle.mt_lines.specs.Stream.{bytes_taken, sink_bytes, sink_most, sink_room};
 
     ghost tells = { true };
@@ -280,6 +291,8 @@ impl Output for Sink {
     ghost counts = { false };
 
     ghost written = { sink_bytes };
+
+    ghost contents = { λ s. Some (sink_bytes s) };
 
     ghost failed = { λ s. 0 };
 
@@ -290,6 +303,7 @@ impl Output for Sink {
         ensures bound { IfOk result (λ n. n ≤ length bytes.now) }
         ensures sent { sink_bytes self.new
             ≡ sink_bytes self.old ++ take (bytes_taken result) bytes.now }
+        ensures known { WriteAppends (Some (sink_bytes self.old)) (Some (sink_bytes self.new)) result bytes.now }
         ensures full { length (sink_bytes self.old) ≡ sink_room self.old
             → result ≡ Err StreamFault.Failed }
         ensures takes { length (sink_bytes self.old) < sink_room self.old

@@ -1,5 +1,6 @@
 //! Streams of bytes, and a send that says how much went out.
 ghost use Rattle.std.specs.Prelude.{◌≡◌, ◌↔◌, ℕ, ◌+◌, ◌<◌, ◌≤◌, List, ◌++◌, length, take, Bool, IsTrue, IfOk, IfErr, OnErr, OnOk, Result, ◌⊎◌, false, []};
+ghost use Rattle.std.specs.Io.KnownBytes.{Appends, Keeps, WriteAppends};
 ghost use Rattle.std.specs.IoError.{error_kind};
 ghost use Rattle.mt_lines.specs.Stream.{bytes_taken, failed_writes, failed_reads, faults_after_read, faults_after_write, Gives, HasFailed, IsInterrupted};
 
@@ -24,7 +25,12 @@ pub enum StreamFault {
 /// of one that tells, and what is said of calls of one that counts. `left` is what it has still to
 /// give, up to the end of the input. `failed` is how many of its calls have failed, and `faults` are
 /// the faults of its last calls, the latest first, back to the last call that succeeded.
+///
+/// `remaining` is what it has still to give where that is known of the value, as std's `Read` has it:
+/// a stream over another one knows it where that one does.
 pub trait Input {
+    ghost use Rattle.std.specs.Prelude.{Option};
+    ghost use Rattle.std.specs.Io.KnownBytes.{ReadConsumes};
     ghost use Rattle.mt_lines.specs.declared.stream.StreamFault.{StreamFault};
 
     ghost tells: { Bool };
@@ -32,6 +38,8 @@ pub trait Input {
     ghost counts: { Bool };
 
     ghost left: { Self → List ℕ };
+
+    ghost remaining: { Self → Option (List ℕ) };
 
     ghost failed: { Self → ℕ };
 
@@ -44,6 +52,7 @@ pub trait Input {
         requires { 0 < length buffer.old }
         ensures bound { IfOk result (λ n. n ≤ length buffer.new) }
         ensures given { IsTrue tells → Gives (left self.old) (left self.new) buffer.new result }
+        ensures known { ReadConsumes (remaining self.old) (remaining self.new) result buffer.new }
         ensures counted { IsTrue counts → failed self.new ≡ failed self.old + failed_reads result }
         ensures faults { IsTrue counts → faults self.new ≡ faults_after_read (faults self.old) result };
 }
@@ -56,7 +65,12 @@ pub trait Input {
 /// so far. `failed` is how many of its calls have failed, and `faults` are the faults of its last
 /// calls, the latest first, back to the last call that succeeded. A call that takes none of some
 /// bytes has failed.
+///
+/// `contents` is what it has taken where that is known of the value, as std's `Write` has it: a stream
+/// over another one knows it where that one does.
 pub trait Output {
+    ghost use Rattle.std.specs.Prelude.{Option};
+    ghost use Rattle.std.specs.Io.KnownBytes.{WriteAppends};
     ghost use Rattle.mt_lines.specs.declared.stream.StreamFault.{StreamFault};
 
     ghost tells: { Bool };
@@ -65,17 +79,20 @@ pub trait Output {
 
     ghost written: { Self → List ℕ };
 
+    ghost contents: { Self → Option (List ℕ) };
+
     ghost failed: { Self → ℕ };
 
     ghost faults: { Self → List StreamFault };
 
     /// Takes some of the bytes, from the first one on, and answers how many. Where the output tells
-    /// its bytes, a call that answers a fault takes nothing; of a real stream some may have gone out
-    /// before a call answers `Failed` ([`Writing`]).
+    /// its bytes, and where they are known, a call that answers a fault takes nothing; of a real stream
+    /// some may have gone out before a call answers `Failed`.
     fn write(&mut self, bytes: &[u8]) -> Result<usize, StreamFault>
         ensures bound { IfOk result (λ n. n ≤ length bytes.now) }
         ensures sent { IsTrue tells
             → written self.new ≡ written self.old ++ take (bytes_taken result) bytes.now }
+        ensures known { WriteAppends (contents self.old) (contents self.new) result bytes.now }
         ensures counted { IsTrue counts → failed self.new ≡ failed self.old + failed_writes bytes.now result }
         ensures faults { IsTrue counts → faults self.new ≡ faults_after_write bytes.now (faults self.old) result };
 }
@@ -97,6 +114,7 @@ fn write_once<W: Output>(writer: &mut W, bytes: &[u8]) -> Result<usize, Cut>
     ensures some { IfOk result (λ count. 0 < length bytes.now → 0 < count) }
     ensures sent { IfOk result (λ count. IsTrue W.tells
         → W.written writer.new ≡ W.written writer.old ++ take count bytes.now) }
+    ensures known { WriteAppends (W.contents writer.old) (W.contents writer.new) result bytes.now }
     ensures none { IfErr result (λ cut. cut.sent ≡ 0) }
     ensures kept { OnErr result (IsTrue W.tells → W.written writer.new ≡ W.written writer.old) }
     ensures cause { OnErr result (IsTrue W.counts → W.failed writer.old < W.failed writer.new) }
@@ -121,16 +139,18 @@ fn write_once<W: Output>(writer: &mut W, bytes: &[u8]) -> Result<usize, Cut>
 ///
 /// Answers `Cut` at a write that fails or takes nothing, and, by this project's rule, at the
 /// 1,000th interrupted write in succession. Then only the bytes that it tells went out, fewer than
-/// all, where the output tells its bytes; of a real stream some more may have, in the write that
-/// failed ([`Writing`]).
+/// all, where the output tells its bytes or they are known; of a real stream some more may have, in
+/// the write that failed.
 pub fn send<W: Output>(writer: &mut W, bytes: &[u8]) -> Result<(), Cut>
     ensures whole { OnOk result (IsTrue W.tells
         → W.written writer.new ≡ W.written writer.old ++ bytes.now) }
+    ensures appended { OnOk result (Appends (W.contents writer.old) (W.contents writer.new) bytes.now) }
 
     // After a cut, a prefix of the bytes went out, and not all of them.
     ensures within { IfErr result (λ cut. cut.sent < length bytes.now) }
     ensures cut { IfErr result (λ cut. IsTrue W.tells
         → W.written writer.new ≡ W.written writer.old ++ take cut.sent bytes.now) }
+    ensures appended_part { IfErr result (λ cut. Appends (W.contents writer.old) (W.contents writer.new) (take cut.sent bytes.now)) }
 
     // A cut comes only where a call failed: where the last call did, with fewer interruptions in
     // succession before it than end a send, or where so many calls were interrupted in succession.
@@ -157,6 +177,7 @@ pub fn send<W: Output>(writer: &mut W, bytes: &[u8]) -> Result<(), Cut>
 /// Answers `Cut`, with no bytes sent, at a write that fails, and at the 1,000th interrupted write in succession.
 pub fn find_reader<W: Output>(writer: &mut W) -> Result<(), Cut>
     ensures kept { IsTrue W.tells → W.written writer.new ≡ W.written writer.old }
+    ensures known { Keeps (W.contents writer.old) (W.contents writer.new) }
     ensures none { IfErr result (λ cut. cut.sent ≡ 0) }
 
     // A cut comes only where a call failed, as in `send`.
@@ -181,7 +202,8 @@ fn stream_fault(error: &Error) -> StreamFault
     }
 }
 
-/// A reader of the standard library as an `Input`, which tells no bytes and counts no failures.
+/// A reader of the standard library as an `Input`, which counts no failures. What remains is known where it is known
+/// of the reader.
 #[derive(Drop)]
 pub struct Reading<R> {
     inner: R,
@@ -209,6 +231,8 @@ impl<R: Read + Drop> Input for Reading<R> {
 
     ghost left = { λ r. [] };
 
+    ghost remaining = { λ r. R.remaining (reading_inner r) };
+
     ghost failed = { λ r. 0 };
 
     ghost faults = { λ r. [] };
@@ -216,7 +240,7 @@ impl<R: Read + Drop> Input for Reading<R> {
     /// Reads once. An interrupted read is `Interrupted`, and every other error `Failed`.
     fn read(&mut self, buffer: &mut [u8]) -> Result<usize, StreamFault>
         ensures bound { IfOk result (λ n. n ≤ length buffer.new) }
-        ensures bytes { ReadConsumes (R.remaining (reading_inner self.old)) (R.remaining (reading_inner self.new)) result buffer.new }
+        ensures known { ReadConsumes (R.remaining (reading_inner self.old)) (R.remaining (reading_inner self.new)) result buffer.new }
     {
         match self.inner.read(buffer) {
             Ok(count) => Ok(count),
@@ -225,54 +249,71 @@ impl<R: Read + Drop> Input for Reading<R> {
     }
 }
 
-/// A writer of the standard library as an `Output`, which tells no bytes and counts no failures.
+/// A writer of the standard library as an `Output`, which counts no failures. What it has taken is known where it is known
+/// of the writer.
 ///
-/// Each write is flushed. Where that fails the call answers `Failed`, and the bytes that the writer
-/// had taken may have gone out, or not: they are in no count. A socket has nothing to flush, so that
-/// a failed write there has taken nothing.
+/// Each write is flushed. Where that fails the bytes are taken all the same, so the call tells them, and every later call
+/// fails; [`Writing::end`] tells of a flush that failed in the last one.
 #[derive(Drop)]
 pub struct Writing<W> {
     inner: W,
+    is_broken: bool,
 }
 
 impl<W> Writing<W> {
-    ghost use Rattle.mt_lines.specs.Stream.{writing_inner};
+    ghost use Rattle.std.specs.Prelude.{false};
+    ghost use Rattle.mt_lines.specs.Stream.{writing_inner, is_broken};
 
     /// Takes the writer, as a socket or the standard output.
     pub fn new(inner: W) -> Writing<W>
-        ensures { writing_inner result ≡ inner }
+        ensures inner { writing_inner result ≡ inner }
+        ensures whole { is_broken result ≡ false }
     {
-        Writing { inner }
+        Writing {
+            inner,
+            is_broken: false,
+        }
     }
 }
 
 impl<W: Write + Drop> Writing<W> {
+    ghost use Rattle.std.specs.Prelude.{MatchBool};
     ghost use Rattle.std.specs.Io.KnownBytes.{Keeps};
-    ghost use Rattle.mt_lines.specs.Stream.{writing_inner};
+    ghost use Rattle.mt_lines.specs.Stream.{writing_inner, is_broken};
 
-    /// Flushes, over interruptions. A flush that does not come through is `Failed`, and never
-    /// `Interrupted`: its bytes were taken, and who writes them again sends them twice.
-    fn flush(&mut self) -> Result<(), StreamFault>
-        ensures err { IfErr result (λ e. e ≡ StreamFault.Failed) }
-        ensures bytes { Keeps (W.contents (writing_inner self.old)) (W.contents (writing_inner self.new)) }
+    /// Answers `Failed` where a flush has failed, so that bytes which were taken may not have gone out.
+    pub fn end(self) -> Result<(), StreamFault>
+        ensures { MatchBool (is_broken self) (result ≡ Err StreamFault.Failed) (result ≡ Ok tt) }
+    {
+        if self.is_broken {
+            Err(StreamFault::Failed)
+        } else {
+            Ok(())
+        }
+    }
+
+    /// Flushes, over interruptions, and remembers where that does not come through.
+    fn flush(&mut self)
+        ensures { Keeps (W.contents (writing_inner self.old)) (W.contents (writing_inner self.new)) }
     {
         'flushing: for _flushes in 0..MOST_INTERRUPTIONS {
             match self.inner.flush() {
-                Ok(()) => return Ok(()),
+                Ok(()) => return,
                 Err(error) => {
                     if stream_fault(&error) == StreamFault::Failed {
-                        return Err(StreamFault::Failed);
+                        self.is_broken = true;
+                        return;
                     }
                 }
             }
         }
-        Err(StreamFault::Failed)
+        self.is_broken = true;
     }
 }
 
 impl<W: Write + Drop> Output for Writing<W> {
-    ghost use Rattle.std.specs.Prelude.{◌≡◌, ◌≤◌, [], length, take, IfOk, Err, false};
-    ghost use Rattle.std.specs.Io.KnownBytes.{Appends, Keeps};
+    ghost use Rattle.std.specs.Prelude.{◌≤◌, [], length, IfOk, false};
+    ghost use Rattle.std.specs.Io.KnownBytes.{WriteAppends};
     ghost use Rattle.mt_lines.specs.Stream.{writing_inner};
 
     ghost tells = { false };
@@ -281,23 +322,24 @@ impl<W: Write + Drop> Output for Writing<W> {
 
     ghost written = { λ w. [] };
 
+    ghost contents = { λ w. W.contents (writing_inner w) };
+
     ghost failed = { λ w. 0 };
 
     ghost faults = { λ w. [] };
 
-    /// Writes once and flushes. An interrupted write is `Interrupted`, and then nothing was taken.
-    /// Every other error is `Failed`: of the write, or of the flush behind a write that has taken
-    /// bytes, which may have gone out all the same.
+    /// Writes once and flushes. An interrupted write is `Interrupted`, and every other error is `Failed`: nothing was taken
+    /// then. Once a flush has failed, each call is `Failed`.
     fn write(&mut self, bytes: &[u8]) -> Result<usize, StreamFault>
         ensures bound { IfOk result (λ n. n ≤ length bytes.now) }
-        ensures bytes { IfOk result
-            (λ n. Appends (W.contents (writing_inner self.old)) (W.contents (writing_inner self.new)) (take n bytes.now)) }
-        ensures interrupted { result ≡ Err StreamFault.Interrupted
-            → Keeps (W.contents (writing_inner self.old)) (W.contents (writing_inner self.new)) }
+        ensures known { WriteAppends (W.contents (writing_inner self.old)) (W.contents (writing_inner self.new)) result bytes.now }
     {
+        if self.is_broken {
+            return Err(StreamFault::Failed);
+        }
         match self.inner.write(bytes) {
             Ok(count) => {
-                self.flush()?;
+                self.flush();
                 Ok(count)
             }
             Err(error) => Err(stream_fault(&error)),

@@ -3,10 +3,12 @@ ghost use Rattle.mt_session.specs.Forms.{AnswersHaveForms};
 ghost use Rattle.mt_session.specs.Headline.{SessionsFollow, AnswersTell};
 ghost use Rattle.mt_session.specs.SharedHeadline.{SharedSessionsFollow};
 
-/// The lines of a plain session are a schedule of its floor, behind the events that were done before them. So the posts
-/// that are told of a watcher, by `take`, `follow` and `close`, are a prefix of those posted for the namespaces it follows
-/// since its opening, each once and in order; and applied to the opening that `watch` told, they give each namespace's
-/// table as of its last told number (`schedule`). Where a line tells posts, its answer is their text (`texts`).
+/// The lines of a plain session are a schedule of its floor, after the events that were done before them. So of a watcher
+/// that one of these lines begins, the posts that the later ones tell, by `take`, `follow` and `close`, are a prefix of
+/// those posted to it, and these of those posted for the namespaces it follows since its opening, each once and in order;
+/// and applied to the opening that `watch` told, they give the table of each of these namespaces as of its last told
+/// number (`schedule`). Where a line tells posts, its answer is their text, as `take` and `close` have it, or as `follow`
+/// has it, with whatever stands at the end (`texts`).
 pub fn sessions_follow()
     ensures schedule { SessionsFollow }
     ensures texts { AnswersTell }

@@ -1,4 +1,5 @@
 use Rattle.std.proofs.Common.{◌≡◌, IsTrue, [], ◌+◌}
+use Rattle.std.specs.Io.KnownBytes.{Keeps}
 use Rattle.mt_lines.specs.Stream.{interruptions}
 use Rattle.mt_lines.proofs.stream.write_once.Given as goal
 
@@ -6,6 +7,7 @@ use Rattle.mt_lines.proofs.stream.write_once.Given as goal
 abbrev pub invariant-trying : goal.invariant-trying
 invariant-trying g l = record {
   kept : IsTrue g.W.Output.tells → g.W.Output.written l.writer ≡ g.W.Output.written l.initial.writer;
+  known : Keeps (g.W.Output.contents l.initial.writer) (g.W.Output.contents l.writer);
   failed : IsTrue g.W.Output.counts → g.W.Output.failed l.writer ≡ g.W.Output.failed l.initial.writer + l._tries;
   run : IsTrue g.W.Output.counts → g.W.Output.faults l.initial.writer ≡ [] → g.W.Output.faults l.writer ≡ interruptions l._tries;
 }
