@@ -23,6 +23,7 @@ use Rattle.mt_client.specs.Awaited.{AreRowLines, IsPostBehind}
 use Rattle.mt_client.specs.Replies.{IsPartLines, IsPostLines, IsBlock, IsBlockOf, AreBlocks, AreBlockLines, AreBehind, IsHeaded, most_posts, IsEnding, IsFollowAnswer, IsAnswer}
 use Rattle.mt_client.proofs.FollowLaws.{post_counted, printed_post, HasReadMore}
 use Rattle.mt_client.proofs.OpeningLaws.{first_taken, needs_line, heading_tells, few}
+use Rattle.mt_client.proofs.RowLaws.{no_rows}
 use Rattle.mt_client.proofs.SeriesLaws.{Series, IsSeries, Came, came_cut, in_lines, are_in_lines, groups}
 use Rattle.mt_client.proofs.RelayLaws.{sent_whole, lines_alike}
 use Rattle.std.specs.Str.{bytes_eq}
@@ -271,7 +272,7 @@ refusal_answers : (form : Form) (line : List ℕ) → is_refusal line ≡ true �
 refusal_answers Done line e = headed_refusal Done line (refl, refl) e
 refusal_answers Number line e = headed_refusal Number line (refl, refl) e
 refusal_answers Place line e = headed_refusal Place line (refl, refl) e
-refusal_answers Table line e = headed_refusal Table line no_rows e
+refusal_answers Table line e = headed_refusal Table line no_rows.0 e
 refusal_answers Opening line e = headed_refusal Opening line (record { blocks = []; each = tt; all = refl }, refl) e
 refusal_answers Posts line e = headed_refusal Posts line (record { blocks = []; each = tt; all = refl }, refl) e
 refusal_answers Followed line e = record { posts = []; last = line; each = tt; all = refl; tells = refusal_tells line e; ends = e; bounded = omega arith }

@@ -1,9 +1,11 @@
 -- Rows that come by rising ID: which one may come next, and what cannot come first where none such does.
-use Rattle.std.proofs.Common.{◌≡◌, ℕ, ◌+◌, ◌<◌, ◌≤◌, Bool, true, false, ◌&&◌, nat_lt, List, [], ◌∷◌, ◌++◌, map, length, Option, Some, None, refl, sym, ap, ◌∙◌, arith, append_assoc, length-append}
+use Rattle.std.proofs.Common.{◌≡◌, ◌≢◌, ℕ, ◌+◌, ◌<◌, ◌≤◌, Bool, true, false, ◌&&◌, nat_lt, List, [], ◌∷◌, ◌++◌, map, length, Option, Some, None, refl, sym, ap, subst, ◌∙◌, IsTrue, arith, append_assoc, length-append}
 use Rattle.std.specs.List.{AllByRecursion, list_all}
 use Rattle.std.proofs.lemmas.List.{map-append}
 use Rattle.std.proofs.lemmas.Bool.Decides.{nat_tests}
 use Rattle.mt_lines.specs.Lines.{Item, Text}
+use Rattle.mt_lines.specs.declared.line.LineReader.{LineReader}
+use Rattle.mt_lines.specs.declared.stream.Input.{Ghosts}
 use Rattle.mt_skel.specs.Keyed.{rises}
 use Rattle.mt_skel.specs.Rising.{is_above}
 use Rattle.mt_skel.proofs.MiddleLaws.{and-true, and_first, and_second, each_last}
@@ -15,6 +17,8 @@ use Rattle.mt_info.proofs.RowLineLaws.{line-injective}
 use Rattle.mt_client.specs.Reading.{texts, HasRead, NoneFirst}
 use Rattle.mt_client.specs.Awaited.{IsRowAbove, AreRowLines}
 use Rattle.mt_client.specs.Replies.{IsRowOf}
+use Rattle.mt_client.specs.Calls.{AreRead}
+use Rattle.mt_client.proofs.CallLaws.{read_both}
 use Rattle.mt_client.proofs.RelayLaws.{first_alike}
 
 -- a row behind these keeps them rising exactly where its ID is above the last one
@@ -44,6 +48,29 @@ follows_more (x ∷ xs) r k up = go (nat_lt r.id k.id) refl (follows_more xs r k
 -- one row more
 pub follows_next : (last : Option ℕ) (rows : List Row) (r : Row) → Follows last rows → is_above last r.id ≡ true → Follows (Some r.id) (rows ++ r ∷ [])
 follows_next last rows r follows above k = follows_more rows r k (follows r ∙ above)
+
+-- a line of a row with no ID above the last one is the line of none that has
+pub none_above : (last : Option ℕ) (seen : List ℕ) (r k : Row) → IsRow r → IsRow k → seen ≡ line r → is_above last r.id ≡ false → is_above last k.id ≡ true → seen ≢ line k
+none_above last seen r k p q is below above same =
+    let alike = line-injective r k p q (sym is ∙ same) in
+    let both : false ≡ true = sym below ∙ ap (λ (x : Row). is_above last x.id) alike ∙ above in
+    cc
+
+-- one row more was read
+pub many_more : (n : ℕ) (rows new : List Row) (r : Row) → new ≡ rows ++ r ∷ [] → length rows ≡ n → length new ≡ n + 1
+many_more n rows new r is many = let l = length-append rows (r ∷ []) in ap length is ∙ omega (arith, l, many)
+
+pub valid_more : (rows new : List Row) (r : Row) → new ≡ rows ++ r ∷ [] → AllByRecursion IsRow rows → IsRow r → AllByRecursion IsRow new
+valid_more rows new r is valid row = subst (λ rs. AllByRecursion IsRow rs) (sym is) (each_last IsRow rows r valid row)
+
+pub rising_more : (last : Option ℕ) (rows new : List Row) (r : Row) → new ≡ rows ++ r ∷ [] → Follows last rows → is_above last r.id ≡ true → IsTrue (rises row_id new)
+rising_more last rows new r is follows above = ap (λ rs. rises row_id rs) is ∙ follows r ∙ above
+
+pub follows_read : (last : Option ℕ) (rows new : List Row) (r : Row) → new ≡ rows ++ r ∷ [] → Follows last rows → is_above last r.id ≡ true → Follows (Some r.id) new
+follows_read last rows new r is follows above = subst (λ rs. Follows (Some r.id) rs) (sym is) (follows_next last rows r follows above)
+
+pub read_more : {R : Type 0} {g : Ghosts R} {a b c : LineReader R g} (rows new : List Row) (r : Row) → new ≡ rows ++ r ∷ [] → AreRead (map line rows) a b → AreRead (line r ∷ []) b c → AreRead (map line new) a c
+read_more {R} {g} {a} {b} {c} rows new r is read one = subst (λ ls. AreRead ls a c) (sym (map-append line rows (r ∷ [])) ∙ ap (λ rs. map line rs) (sym is)) (read_both read one)
 
 -- rows that were read are the first of those that come first
 came_front : (xs ys : List Row) (middle later : List Item) → AllByRecursion IsRow xs → AllByRecursion IsRow ys → length xs ≤ length ys → texts (map line xs) ++ middle ≡ texts (map line ys) ++ later

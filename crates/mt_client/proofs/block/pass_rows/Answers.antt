@@ -1,3 +1,5 @@
+use Rattle.std.proofs.Common.{◌≡◌, rules, subst}
+use Rattle.mt_client.specs.Awaited.{AreRowLines}
 use Rattle.mt_client.proofs.RowLaws.{no_rows, rows_join, rows_ended}
 use Rattle.mt_client.proofs.CallLaws.{handed_on, passes_as, passes_read, passes_nothing, passes_both, pass_fault_behind}
 use Rattle.mt_client.proofs.block.pass_rows.Goals as goal
@@ -14,4 +16,6 @@ returns-in_err-pass_row-clause-fault g c =
     handed_on _ _ _ c.from_residual.ensures.1 (pass_fault_behind p.read p.out (λ t. rows_ended c.rows._row c.args.count c.rows.last _ _ (passes_read p t) c.rows-test.true) c.in_err-pass_row.ensures.fault)
 
 pub returns-clause-passed : goal.returns-clause-passed
-returns-clause-passed g c = passes_as (λ ls k. k.0) c.rows.invariant.passed
+returns-clause-passed g c =
+    let whole : c.rows._row ≡ c.args.count = search rules in
+    passes_as (λ ls k. subst (λ n. AreRowLines n ls) whole k.0) c.rows.invariant.passed
