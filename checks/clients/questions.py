@@ -200,6 +200,14 @@ def check_refused(program, mountctl):
     print(f"{len(said) - 1} allocations of a question refused in turn", flush=True)
 
 
+def answered(mountctl, names, line, answers):
+    """A question to a server that answers this: the connection fault of its door, what was sent, and what came of it."""
+    with Door() as door, concurrent.futures.ThreadPoolExecutor(1) as pool:
+        running = pool.submit(run, mountctl, b"", door.path, "what-if", *names, "--", *line)
+        sent = door.answers(answers)
+        return connection_fault(door.path), sent, running.result()
+
+
 def check_cut(program, mountctl):
     """Where the connection ends before all answers have come, this is said, and what was printed before is whole."""
     line = ["setattr", "1", "/", "rec", "set=ro"]
@@ -212,14 +220,12 @@ def check_cut(program, mountctl):
         lines, plain = whole.splitlines(keepends=True), asked(program, mountctl, names, line)
         cuts = [sum(map(len, lines[:begun])), *range(whole.index(b"\nspace "), len(whole) + 1)]
         printed = {b"".join(plain[1].splitlines(keepends=True)[:count]) for count in (0, 1, 3)}
-        with concurrent.futures.ThreadPoolExecutor(1) as pool:
-            for cut in cuts:
-                with Door() as door:
-                    running = pool.submit(run, mountctl, b"", door.path, "what-if", *names, "--", *line)
-                    sent = door.answers(whole[:cut])
-                    found = running.result()
-                good = found == plain if cut == len(whole) else (found[0], found[2]) == (3, connection_fault(door.path)) and found[1] in printed
-                check(f"a question whose answers are cut at byte {cut}", good and sent.startswith(b"\n".join([*asked_first, *commands])), repr(found))
+        for cut in cuts:
+            fault, sent, found = answered(mountctl, names, line, whole[:cut])
+            good = found == plain if cut == len(whole) else (found[0], found[2]) == (3, fault) and found[1] in printed
+            check(f"a question whose answers are cut at byte {cut}", good and sent.startswith(b"\n".join([*asked_first, *commands])), repr(found))
+        fault, sent, found = answered(mountctl, names, line, re.sub(rb"\nok (\d+)\nevent", rb"\nx \1\nevent", whole))
+        check("a question whose posts are counted behind another word", found == (3, b"ok\n", fault), repr(found))
     print(f"{len(cuts)} cuts of the answers to a question", flush=True)
 
 

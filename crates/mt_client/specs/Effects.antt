@@ -6,11 +6,10 @@ use Rattle.mt_lines.specs.Lines.{Item, Text}
 use Rattle.mt_events.specs.Posts.{PostView, post_text, ended}
 use Rattle.mt_events.specs.Mirrors.{MirrorView}
 use Rattle.mt_events.specs.declared.opening.Scope.TheVariants.{All}
-use Rattle.mt_protocol.specs.declared.form.Form.TheVariants.{Posts}
 use Rattle.mt_client.specs.declared.named.NamedTelling.{NamedTelling}
 use Rattle.mt_client.specs.declared.fault.ClientFault.{ClientFault}
 use Rattle.mt_protocol.specs.Verbs.{form_of}
-use Rattle.mt_client.specs.Requests.{lines_behind}
+use Rattle.mt_client.specs.Requests.{waiting_count}
 use Rattle.mt_client.specs.Reading.{HasPassed, IsBroken}
 use Rattle.mt_client.specs.Replies.{IsAnswer}
 use Rattle.mt_client.specs.Mirroring.{HasRefused}
@@ -30,7 +29,7 @@ pub record HasToldTaken (named : NamedTelling) (old : List MirrorView) (before a
   pub count : ℕ
   pub new : List MirrorView
   pub read : before ≡ Text first ∷ middle
-  pub counted : lines_behind Posts true first ≡ Some count
+  pub counted : waiting_count first ≡ Some count
   pub told : HasToldLines named count old new middle after begun done
 
 -- the request for the posts that wait, the most that one may ask for

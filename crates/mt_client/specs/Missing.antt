@@ -6,9 +6,8 @@ use Rattle.mt_lines.specs.Lines.{Item}
 use Rattle.mt_events.specs.Posts.{PostView, IsPost, post_lines}
 use Rattle.mt_events.specs.Mirrors.{MirrorView}
 use Rattle.mt_events.specs.declared.opening.Scope.TheVariants.{All}
-use Rattle.mt_protocol.specs.declared.form.Form.TheVariants.{Posts}
 use Rattle.mt_protocol.specs.Verbs.{form_of}
-use Rattle.mt_client.specs.Requests.{lines_behind}
+use Rattle.mt_client.specs.Requests.{waiting_count}
 use Rattle.mt_client.specs.Reading.{texts, HasRead, NoneFirst}
 use Rattle.mt_client.specs.Replies.{IsAnswer}
 use Rattle.mt_client.specs.Awaited.{IsOneRefusal, IsRefusedOr}
@@ -29,7 +28,7 @@ pub record IsWaiting (mirrors : List MirrorView) (lines : List (List ℕ)) : Typ
   pub others : List (List ℕ)
   pub count : ℕ
   pub all : lines ≡ first ∷ others
-  pub counted : lines_behind Posts true first ≡ Some count
+  pub counted : waiting_count first ≡ Some count
   pub posts : AreDueLines count mirrors others
 
 -- no lines of this kind come first, or a request did not go out and no refusal comes first

@@ -80,6 +80,10 @@ behind_first (word ∷ words) = words
 abbrev pub lines_behind : Form → Bool → List ℕ → Option ℕ
 lines_behind form told line = if told then lines_said form (behind_first (words line)) else (if is_refusal line then Some 0 else None)
 
+-- how many lines the posts are that wait, if a line is `ok` and their count
+abbrev pub waiting_count : List ℕ → Option ℕ
+waiting_count line = if has_first line (codes "ok") then lines_behind Posts true line else None
+
 -- how many lines stand behind the first line of a post: the fourth of its words, of which the first is `event`
 abbrev pub event_count : List (List ℕ) → Option ℕ
 event_count (first ∷ second ∷ third ∷ fourth ∷ words) = if bytes_eq first (codes "event") then number_in_text fourth else None

@@ -1,7 +1,7 @@
 //! What the first line of an answer tells.
 ghost use Rattle.std.specs.Prelude.{◌≡◌};
 ghost use Rattle.mt_client.specs.Limits.{at_most};
-ghost use Rattle.mt_client.specs.Requests.{verdict, is_refusal, lone_number, placed_number, table_count, lines_said, lines_behind};
+ghost use Rattle.mt_client.specs.Requests.{verdict, is_refusal, lone_number, placed_number, table_count, lines_said, lines_behind, waiting_count};
 
 use crate::opening::{MOST_LINES, MOST_ROWS};
 use mt_lines::words::{Words, number, words};
@@ -113,6 +113,17 @@ pub(crate) fn lines_behind(form: Form, told: bool, line: &[u8]) -> Option<u64>
         lines_said(form, &mut words)
     } else if is_refusal(line) {
         Some(0)
+    } else {
+        None
+    }
+}
+
+/// How many lines the posts are that wait: None where a line is not `ok` and their count.
+pub(crate) fn waiting_count(line: &[u8]) -> Option<u64>
+    ensures { result ≡ waiting_count line.now }
+{
+    if first_word(line) == b"ok".as_slice() {
+        lines_behind(Form::Posts, true, line)
     } else {
         None
     }

@@ -15,7 +15,7 @@ ghost use Rattle.mt_client.specs.Effects.{taking_text, effects_text, HasToldLine
 ghost use Rattle.mt_client.specs.Missing.{AreDueLines, IsWaiting, IsMissing, IsMissingAnswer, IsMissingEffect, IsOnlyCounted};
 ghost use Rattle.mt_events.specs.declared.opening.Scope.TheVariants.{All};
 
-use crate::answer::{is_refusal, lines_behind};
+use crate::answer::{is_refusal, waiting_count};
 use crate::fault::ClientFault;
 use crate::named::NamedTelling;
 use crate::posts::{lines_of_event, read_posted};
@@ -28,7 +28,7 @@ use mt_events::mirror::Mirror;
 use mt_events::opening::Scope;
 use mt_lines::line::LineReader;
 use mt_lines::stream::{Input, Output};
-use mt_protocol::form::{Form, form_of};
+use mt_protocol::form::form_of;
 use std::alloc::Global;
 
 /// Tells the next post: how many lines stood behind its first one.
@@ -116,7 +116,7 @@ fn tell_taken<R: Input + Drop, O: Output>(
         print_line(out, lines.line())?;
         return Ok(false);
     }
-    let Some(count) = lines_behind(Form::Posts, true, lines.line()) else {
+    let Some(count) = waiting_count(lines.line()) else {
         return Err(ClientFault::Connection);
     };
     tell_lines(alloc, lines, count, named, mirrors, out)?;
