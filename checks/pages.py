@@ -172,6 +172,7 @@ PUT_TOGETHER = {
         "FILE: line N is no row of a mountinfo",
         "FILE: REASON",
         "SOCKET: not a new server",
+        "SOCKET: changes were lost, or others made some",
         "table N: mount ID is left out: REASON",
     ],
 }

@@ -18,6 +18,7 @@ from clients.answers import check_answers
 from clients.crowds import check_crowds
 from clients.hosts import check_hosts
 from clients.imports import check_import
+from clients.limits import check_limits
 from clients.lines import check_reading
 from clients.monitor import check_telling
 from clients.mountctl import (
@@ -35,7 +36,9 @@ from clients.python import check_python
 from clients.questions import check_questions
 from clients.reasons import check_reasons
 from clients.starts import check_starts
+from clients.terminals import check_terminals
 from clients.worlds import check_worlds
+from clients.writes import check_writes
 from harness.protocol import Broken
 from harness.runs import check, failures
 from servers import blocked, bounds, cases, connections, lines, losses, paths, stops
@@ -82,9 +85,12 @@ CLIENT_PARTS = {
     "comments": check_comments,
     "refused": check_refused,
     "answers": check_answers,
+    "limits": check_limits,
+    "writes": check_writes,
     "reading": check_reading,
     "reasons": check_reasons,
     "starts": check_starts,
+    "terminals": check_terminals,
     "retold": check_retold,
     "pictures": check_pictures,
     "objects": check_objects,

@@ -156,6 +156,17 @@ namespace 2
 ID  TARGET SOURCE            FSTYPE OPTIONS            PROPAGATION
 200 /      /dev/x[/a\\040b/c] tmpfs  ro,nosuid,relatime private
 """
+# A target of 61 characters, and one of 60: a column is as wide as the widest cell, but for those of more than 60.
+LONG_TARGETS = b"""1 1 0:1 / / rw,relatime - rootfs none rw
+2 1 0:1 / /%b rw,relatime - rootfs none rw
+3 1 0:1 / /%b rw,relatime - rootfs none rw
+""" % (b"m" * 58, b"n" * 57)
+TREE_OF_LONG_TARGETS = b"""namespace 1
+ID TARGET%b SOURCE FSTYPE OPTIONS     PROPAGATION
+1  /%b none   rootfs rw,relatime private
+2  |-/%b none   rootfs rw,relatime private
+3  `-/%b none   rootfs rw,relatime private
+""" % (b" " * 54, b" " * 59, b"m" * 58, b"n" * 57)
 NO_TREES = b"""namespace 1
 ID TARGET SOURCE FSTYPE OPTIONS PROPAGATION
 
@@ -225,6 +236,7 @@ PICTURES = (
     Exchange("tree", ALL, opening(*WIDTHS), TREES_OF_WIDTHS, 0),
     Exchange("tree", ALL, opening(*WIDE), TREES_OF_WIDE, 0),
     Exchange("tree", ALL, opening(b"", b""), NO_TREES, 0),
+    Exchange("tree --ascii", ALL, opening(LONG_TARGETS), TREE_OF_LONG_TARGETS, 0),
     Exchange("dot", ALL, opening(*RINGS), GRAPH, 0),
     Exchange("tree all --ascii", ALL, opening(TWO, ONE), TREES, 0),
     Exchange("dot all", ALL, opening(*RINGS), GRAPH, 0),

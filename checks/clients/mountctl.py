@@ -23,9 +23,14 @@ def without_comments(case):
     return case._replace(turns=[turn for turn in case.turns if turn.sent()[:1] not in (b"\n", b"#")])
 
 
+# Characters that turn the direction of text, separators of lines and paragraphs, and a byte order mark.
+HIDDEN = {*"\u061c\u200e\u200f\u2028\u2029\u202a\u202b\u202c\u202d\u202e\u2066\u2067\u2068\u2069\ufeff"}
+
+
 def is_obeyed(character):
     """Whether a terminal obeys a character, or it stands for a byte that is of none."""
-    return ord(character) < 32 or 127 <= ord(character) <= 159 or 0xDC80 <= ord(character) <= 0xDCFF
+    code = ord(character)
+    return code < 32 or 127 <= code <= 159 or 0xDC80 <= code <= 0xDCFF or character in HIDDEN
 
 
 def printable(line):

@@ -4,6 +4,7 @@ Each object is written here as well, of the rows that `show` answers, by what mo
 it finds the same fields in the same rows. The texts are read by the reader of Python.
 """
 import collections
+import concurrent.futures
 import datetime
 import json
 import os
@@ -18,11 +19,17 @@ from clients.pictures import LARGE, tables_of, world_of
 from harness.protocol import row_of, unescaped
 from harness.runs import MOST_SECONDS, check, run, shown
 from harness.scripts import Author
-from harness.servers import START, Server
+from harness.servers import START, Door, Server
 from sessions import cases
 
 # How many random worlds are looked at.
 WORLDS = 20
+
+# How many generations of mounts stand within each other below a top one.
+MOST_GENERATIONS = 100
+
+# As deep as readers of JSON that stop early go, objects and arrays.
+MOST_DEPTH = 256
 
 # The columns of findmnt that an object of a mount has under the same name.
 COLUMNS = "id", "parent", "maj:min", "fsroot", "target", "options", "propagation", "fstype", "source"
@@ -82,14 +89,21 @@ def object_of(row):
 
 
 def nested(rows):
-    """The objects of rows, each within that of its parent."""
-    objects, below, tops = {row.id: object_of(row) for row in rows}, collections.defaultdict(list), []
+    """The objects of rows, each within that of its parent, but for those that are too deep, in the order of a tree."""
+    objects, below, tops, deep = {row.id: object_of(row) for row in rows}, collections.defaultdict(list), [], []
     for row in rows:
         is_top = row.parent == row.id or row.parent not in objects
         (tops if is_top else below[row.parent]).append(objects[row.id])
-    for parent, children in below.items():
-        objects[parent]["children"] = children
-    return tops
+    left = [(one, 0) for one in reversed(tops)]
+    while left:
+        one, above = left.pop()
+        children = below[one["id"]]
+        left += [(child, above + 1) for child in reversed(children)]
+        if above > MOST_GENERATIONS:
+            deep.append(one)
+        elif children and above < MOST_GENERATIONS:
+            one["children"] = children
+    return tops + deep
 
 
 def asked(mountctl, path, *words):
@@ -203,6 +217,43 @@ def check_odd(program, mountctl):
             check(f"{words} without a namespace", found == (1, [{"refusal": "NoNamespace"}], b""), repr(found))
 
 
+def depth_of(line):
+    """How deep the objects and arrays of a text of JSON without such characters in its names are."""
+    depth = most = 0
+    for one in line:
+        depth += (one in b"{[") - (one in b"}]")
+        most = max(most, depth)
+    return most
+
+
+def check_deep(mountctl):
+    """Mounts that stand on each other, up to as many as there may be: each is there once, no deeper than readers go."""
+    for count in MOST_GENERATIONS + 1, MOST_GENERATIONS + 2, 4_096:
+        rows = [b"%d %d 0:1 / %b rw,relatime - tmpfs none rw" % (at, max(1, at - 1), b"/m" if at > 1 else b"/") for at in range(1, count + 1)]
+        text = b"\n".join([b"ok %d" % (count + 1), b"space 1 0 %d" % count, *rows, b""])
+        with Door() as door, concurrent.futures.ThreadPoolExecutor(1) as pool:
+            running = pool.submit(run, mountctl, b"", door.path, "tree", "--json")
+            door.answers(text)
+            status, found, complaint = running.result()
+        wanted = [{"namespace": 1, "filesystems": nested([*map(row_of, rows)])}]
+        good = (status, complaint) == (0, b"") and depth_of(found) < MOST_DEPTH and [*map(json.loads, found.splitlines())] == wanted
+        check(f"{count} mounts on each other as JSON", good, found[:300].decode())
+
+
+def check_moved(mountctl):
+    """A mount that makes way stands on another mount then, at the same path: it has moved."""
+    rows = [b"1 1 0:1 / / rw,relatime - tmpfs none rw", b"2 1 0:2 / /m rw,relatime - ext4 d rw"]
+    after = [b"2 3 0:2 / /m ro,relatime - ext4 d rw", b"3 1 0:2 / /m rw,relatime - ext4 d rw"]
+    text = b"\n".join([b"ok 3", b"space 1 0 2", *rows, b"event 1 1 2", *(b"= " + row for row in after), b"no Stopped", b""])
+    with Door() as door, concurrent.futures.ThreadPoolExecutor(1) as pool:
+        running = pool.submit(run, mountctl, b"", door.path, "monitor", "1", "--json")
+        door.answers(text)
+        status, found, complaint = running.result()
+    old, moved, new = map(object_of, map(row_of, [rows[1], *after]))
+    wanted = [{"event": "move", "namespace": 1, "old": old, **moved}, {"event": "mount", "namespace": 1, **new}, {"refusal": "Stopped"}]
+    check("a mount on another parent", (status, [*map(json.loads, found.splitlines())], complaint) == (1, wanted, b""), repr(found))
+
+
 def is_within(time, begun, ended):
     """Whether a time is one of RFC 3339, in UTC, between two others."""
     told = datetime.datetime.fromisoformat(time.replace("Z", "+00:00"))
@@ -282,5 +333,7 @@ def check_objects(program, mountctl):
     check_cases(program, mountctl)
     check_random(program, mountctl)
     check_odd(program, mountctl)
+    check_deep(mountctl)
+    check_moved(mountctl)
     for options in ["--json"], ["--time"], ["--json", "--time"], ["--time", "--json"]:
         check_events(program, mountctl, options)

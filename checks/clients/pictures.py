@@ -21,6 +21,9 @@ from sessions import cases
 # Worlds of more mounts are left out.
 MOST_MOUNTS = 200
 
+# How many characters wide a column is at most: what is wider pushes the cells behind it to the right.
+MOST_WIDTH = 60
+
 # How long the largest world may take, in seconds.
 MOST_DRAWING = 5
 
@@ -79,10 +82,10 @@ def width(cell):
 def drawn_part(space, mounts, pieces):
     """The tree of one namespace."""
     rows = [HEADER, *drawn_rows(mounts, pieces)]
-    widths = [max(map(width, column)) for column in zip(*rows)]
+    widths = [min(MOST_WIDTH, max(map(width, column))) for column in zip(*rows)]
     text = b"namespace %d\n" % space
     for *row, last in rows:
-        text += b"".join(cell + b" " * (most + 1 - width(cell)) for cell, most in zip(row, widths)) + last + b"\n"
+        text += b"".join(cell + b" " * (max(0, most - width(cell)) + 1) for cell, most in zip(row, widths)) + last + b"\n"
     return text
 
 

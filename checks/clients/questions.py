@@ -149,6 +149,41 @@ def check_by_hand(program, mountctl):
         server.stop()
 
 
+def check_used(program, mountctl):
+    """A server that has accepted anything is no new one. What its namespaces tell, and filesystems of other names, stay."""
+    histories = (
+        [b"mkfs a tmpfs none"],
+        [b"mkfs 0:1 tmpfs none"],
+        [b"mkfs a tmpfs none", b"newns a"],
+        [b"mkfs a tmpfs none", b"newns a", b"newns a", b"dropns 1"],
+        [b"mkfs a tmpfs none", b"newns a", b"dropns 1"],
+    )
+    for history in histories:
+        with files_of([TABLE[:2]]) as names, Server(program) as server, server.free() as client:
+            for line in history:
+                client.ask(line)
+            before = client.ask(b"watch all"), client.ask(b"close")
+            found = run(mountctl, b"", server.path, "what-if", *names, "--", "mkdir", "0:1", "/x")
+            after = client.ask(b"watch all"), client.ask(b"take 9")
+            good = found == (1, b"", f"mountctl: {server.path}: not a new server\n".encode()) and before[0] == after[0]
+            check(f"a question behind {shown(b', '.join(history))}", good, repr((found, before, after)))
+            if before[0] != [b"ok 0"] or history == histories[1]:
+                check("and no filesystem more", client.ask(b"mkfs z tmpfs none") == [b"ok 2"], shown(b", ".join(history)))
+
+
+def check_lost(program, mountctl):
+    """Where the queue of the watcher is too short for what a line changes, that is said."""
+    table = TABLE[:2]
+    with files_of([table, [row.replace(b"shared:1", b"master:1") for row in table]]) as names:
+        for queue, count in (1, 1), (2, 2):
+            with Server(program, "--queue", str(queue)) as server:
+                found = run(mountctl, b"", server.path, "what-if", *names, "--", "mkfs", "usb", "vfat", "none", "--", "mount", "1", "usb", "/b")
+                said = f"mountctl: {server.path}: changes were lost, or others made some\n".encode()
+                good = (found[0], found[2]) == ((0, b"") if queue > 1 else (3, said)) and found[1].count(b"\n+ ") == count
+                check(f"a question over a queue of {queue}", good, repr(found))
+                server.stop()
+
+
 def check_refused(program, mountctl):
     """Each allocation of a question is refused in turn, each at a server of its own."""
     with tempfile.TemporaryDirectory() as folder, files_of([TABLE[:2]]) as names:
@@ -165,24 +200,32 @@ def check_refused(program, mountctl):
     print(f"{len(said) - 1} allocations of a question refused in turn", flush=True)
 
 
+def answered(mountctl, names, line, answers):
+    """A question to a server that answers this: the connection fault of its door, what was sent, and what came of it."""
+    with Door() as door, concurrent.futures.ThreadPoolExecutor(1) as pool:
+        running = pool.submit(run, mountctl, b"", door.path, "what-if", *names, "--", *line)
+        sent = door.answers(answers)
+        return connection_fault(door.path), sent, running.result()
+
+
 def check_cut(program, mountctl):
     """Where the connection ends before all answers have come, this is said, and what was printed before is whole."""
     line = ["setattr", "1", "/", "rec", "set=ro"]
     with files_of([TABLE[:2]]) as names:
         commands = [row for row in run(mountctl, b"", "import", *names)[1].splitlines() if not row.startswith(b"#")]
-        whole = session(program, [b"show 1", *commands, b"watch all", " ".join(line).encode(), b"close"])[1]
+        asked_first = [b"watch all", b"close"]
+        lines_sent = [*asked_first, *commands, b"watch all", " ".join(line).encode(), b"take 1024", b"take 1"]
+        whole = session(program, lines_sent)[1]
         begun = whole.count(b"\n", 0, whole.index(b"\nspace ")) - 1
         lines, plain = whole.splitlines(keepends=True), asked(program, mountctl, names, line)
         cuts = [sum(map(len, lines[:begun])), *range(whole.index(b"\nspace "), len(whole) + 1)]
         printed = {b"".join(plain[1].splitlines(keepends=True)[:count]) for count in (0, 1, 3)}
-        with concurrent.futures.ThreadPoolExecutor(1) as pool:
-            for cut in cuts:
-                with Door() as door:
-                    running = pool.submit(run, mountctl, b"", door.path, "what-if", *names, "--", *line)
-                    sent = door.answers(whole[:cut])
-                    found = running.result()
-                good = found == plain if cut == len(whole) else (found[0], found[2]) == (3, connection_fault(door.path)) and found[1] in printed
-                check(f"a question whose answers are cut at byte {cut}", good and sent.startswith(b"show 1\n" + b"\n".join(commands)), repr(found))
+        for cut in cuts:
+            fault, sent, found = answered(mountctl, names, line, whole[:cut])
+            good = found == plain if cut == len(whole) else (found[0], found[2]) == (3, fault) and found[1] in printed
+            check(f"a question whose answers are cut at byte {cut}", good and sent.startswith(b"\n".join([*asked_first, *commands])), repr(found))
+        fault, sent, found = answered(mountctl, names, line, re.sub(rb"\nok (\d+)\nevent", rb"\nx \1\nevent", whole))
+        check("a question whose posts are counted behind another word", found == (3, b"ok\n", fault), repr(found))
     print(f"{len(cuts)} cuts of the answers to a question", flush=True)
 
 
@@ -199,6 +242,8 @@ def check_words(mountctl):
 def check_questions(program, mountctl):
     check_words(mountctl)
     check_by_hand(program, mountctl)
+    check_used(program, mountctl)
+    check_lost(program, mountctl)
     check_refused(program, mountctl)
     check_cut(program, mountctl)
     check_random(program, mountctl)

@@ -14,10 +14,12 @@ mod kept;
 mod lines;
 mod marked;
 mod messages;
+mod newness;
 mod options;
 mod places;
 mod provide;
 mod quiet;
+mod screen;
 mod script;
 mod sources;
 mod spaces;
@@ -35,6 +37,7 @@ use crate::lines::run_line;
 use crate::marked::Marked;
 use crate::messages::NAME;
 use crate::quiet::Quiet;
+use crate::screen::standard_output;
 use crate::script::{SCRIPT_LIMIT, run_script};
 use crate::spaces::list_spaces;
 use crate::tables::import_files;
@@ -77,7 +80,7 @@ fn run_lines<R: Input + Drop, W: Output, O: Output>(
     let alloc = rt.alloc();
     if matches!(task, Task::Script) {
         let mut input = LineReader::new(alloc, Reading::new(rt.reader()), SCRIPT_LIMIT)?;
-        return run_script(rt, alloc, strict, &mut input, lines, writer, out);
+        return run_script(rt, alloc, strict, 0, &mut input, lines, writer, out);
     }
     let line = line_of(alloc, words)?;
     run_line(rt, alloc, line.as_slice(), lines, writer, out)
@@ -126,7 +129,7 @@ fn run_task(
     manner: Manner,
 ) -> Result<bool, Fault> {
     let alloc = rt.alloc();
-    let mut out = Writing::new(io::writer(rt));
+    let mut out = standard_output(rt);
     let mut lines = LineReader::new(alloc, Reading::new(stream), LINE_LIMIT)?;
     let mut writer = Writing::new(stream);
     let strict = manner.strict;
@@ -162,7 +165,7 @@ fn run_words(rt: &HostRuntime, socket: &str, words: &[&str], manner: Manner) -> 
 fn import_input(rt: &HostRuntime) -> Result<(), ImportFault> {
     let alloc = rt.alloc();
     let mut input = LineReader::new(alloc, Reading::new(rt.reader()), ROW_LIMIT)?;
-    let mut out = Writing::new(io::writer(rt));
+    let mut out = standard_output(rt);
     import(alloc, &mut input, &mut out)
 }
 

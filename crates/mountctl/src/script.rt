@@ -30,7 +30,7 @@ enum Outcome {
 }
 
 /// Whether a line is for the reader of a script alone: it is empty, or begins with `#`.
-fn is_comment(line: &[u8]) -> bool {
+pub(crate) fn is_comment(line: &[u8]) -> bool {
     match line.first() {
         Some(byte) => *byte == b'#',
         None => true,
@@ -84,11 +84,12 @@ fn refuse_line<E: Eprint, O: Output>(
 
 /// Sends the lines of an input but for its comments, one after another, and prints what answers each: whether each was
 /// answered `ok`. Each refusal is told on standard error too, with the number of its line; where the script is `strict`,
-/// it ends with the first one.
+/// it ends with the first one. So many lines of the script came before those of the input.
 pub(crate) fn run_script<E: Eprint, I: Input + Drop, R: Input + Drop, W: Output, O: Output>(
     rt: &E,
     alloc: Global,
     strict: bool,
+    done: u64,
     input: &mut LineReader<I>,
     lines: &mut LineReader<R>,
     writer: &mut W,
@@ -98,7 +99,7 @@ pub(crate) fn run_script<E: Eprint, I: Input + Drop, R: Input + Drop, W: Output,
     ensures fresh { OnOk result (fault_of lines.new ≡ None) }
 {
     let mut all = true;
-    'lines: for before in 0..MOST_LINES {
+    'lines: for before in done..MOST_LINES {
         let number = before + 1;
         match input.next() {
             Ok(Line::Text) => {

@@ -4,6 +4,7 @@ use crate::PROGRAM;
 use crate::fault::Fault;
 use crate::import::{ImportFault, ROW_LIMIT, read_rows};
 use crate::messages::NAME;
+use crate::screen::standard_output;
 use crate::sources::{SourceFault, files_of};
 use crate::task::WordFault;
 use mt_import::fault::Fault as Refusal;
@@ -11,7 +12,7 @@ use mt_import::host_mount::HostMount;
 use mt_import::import::script_of;
 use mt_import::script::Script;
 use mt_lines::line::LineReader;
-use mt_lines::stream::{Reading, Writing, send};
+use mt_lines::stream::{Reading, send};
 use mt_terminal::message::Shown;
 use std::alloc::{AllocError, AllocFailed};
 use std::fmt::{Display, Formatter};
@@ -129,7 +130,7 @@ pub(crate) fn script_of_files(rt: &HostRuntime, files: &[String]) -> Result<Scri
 
 /// Prints a script.
 fn print_script(rt: &HostRuntime, script: &Script) -> ExitCode {
-    let mut out = Writing::new(io::writer(rt));
+    let mut out = standard_output(rt);
     match send(&mut out, script.text()) {
         Ok(()) => ExitCode::SUCCESS,
         Err(_) => PROGRAM.fail(rt, Fault::Output.message()),

@@ -6,8 +6,10 @@ use crate::connection::{connected, status_of};
 use crate::fault::Fault;
 use crate::lines::{tell_bad, tell_refused_line};
 use crate::messages::{NAME, tell_left_out};
+use crate::newness::{Begun, begin_script};
 use crate::provide::provide;
 use crate::quiet::Quiet;
+use crate::screen::standard_output;
 use crate::script::{SCRIPT_LIMIT, run_script};
 use crate::tables::{named_files, script_of_files};
 use crate::task::{WordFault, parted};
@@ -23,7 +25,6 @@ use mt_lines::words::{Pieces, number, words};
 use mt_render::telling::Telling;
 use mt_terminal::message::Shown;
 use std::alloc::{AllocError, Global};
-use std::io;
 use std::io::Eprint;
 use std::os::unix::net::UnixStream;
 use std::process::ExitCode;
@@ -33,8 +34,10 @@ use std::process::ExitCode;
 pub(crate) enum Effects {
     /// The answer to the line was printed: whether it is `ok`.
     Told(bool),
-    /// The server has namespaces already.
+    /// The server had accepted something before.
     NotNew,
+    /// The answer to the line was printed, and not all that it changes was told.
+    Lost,
 }
 
 /// Which table a comment of a script says is which namespace, by their numbers.
@@ -94,19 +97,6 @@ fn names_of<'a, E: Eprint>(
     Ok(names)
 }
 
-/// Whether a server has no namespace yet.
-fn is_new<R: Input + Drop, W: Output>(
-    alloc: Global,
-    lines: &mut LineReader<R>,
-    writer: &mut W,
-) -> Result<bool, Fault>
-    requires fresh { fault_of lines.old ≡ None }
-    ensures fresh { OnOk result (fault_of lines.new ≡ None) }
-{
-    let there = ask_line(alloc, lines, writer, b"show 1", &mut Quiet)?;
-    Ok(!there && lines.line() == b"no NoNamespace".as_slice())
-}
-
 /// The line of these words, each with its escapes. Fails for want of memory alone.
 pub(crate) fn line_of(alloc: Global, words: &[&str]) -> Result<Vec<u8>, AllocError> {
     let mut line = Vec::new(alloc);
@@ -164,6 +154,46 @@ fn prepare_all<'a, E: Eprint, R: Input + Drop, W: Output>(
     Ok(Some(line))
 }
 
+/// Whether a watcher of which the posts were taken lost none: no more have come, and none was left out since its queue
+/// was full.
+fn has_all<R: Input + Drop, W: Output>(
+    alloc: Global,
+    lines: &mut LineReader<R>,
+    writer: &mut W,
+) -> Result<bool, Fault>
+    requires fresh { fault_of lines.old ≡ None }
+{
+    if ask_line(alloc, lines, writer, b"take 1", &mut Quiet)? {
+        return Ok(lines.line() == b"ok 0".as_slice());
+    }
+    Ok(lines.line() == b"no Stopped".as_slice())
+}
+
+/// Sends a line, and tells its answer and what it changes in the namespaces of these names.
+fn tell_line<R: Input + Drop, W: Output, O: Output>(
+    alloc: Global,
+    names: &[SpaceName<'_>],
+    line: &[u8],
+    lines: &mut LineReader<R>,
+    writer: &mut W,
+    out: &mut O,
+) -> Result<Effects, Fault>
+    requires fresh { fault_of lines.old ≡ None }
+{
+    let named = NamedTelling {
+        telling: Telling::Words,
+        names,
+    };
+    if !tell_effects(alloc, lines, writer, line, &named, out)? {
+        return Ok(Effects::Told(false));
+    }
+    if has_all(alloc, lines, writer)? {
+        Ok(Effects::Told(true))
+    } else {
+        Ok(Effects::Lost)
+    }
+}
+
 /// Sends the script of the tables of files to a new server, and then lines, of which the last one's answer and changes are
 /// told. Words have `--` between lines.
 pub(crate) fn tell_what_if<E: Eprint, R: Input + Drop, W: Output, O: Output>(
@@ -178,12 +208,14 @@ pub(crate) fn tell_what_if<E: Eprint, R: Input + Drop, W: Output, O: Output>(
 ) -> Result<Effects, Fault>
     requires fresh { fault_of lines.old ≡ None }
 {
-    if !is_new(alloc, lines, writer)? {
-        return Ok(Effects::NotNew);
-    }
+    let (done, rest) = match begin_script(rt, alloc, script, lines, writer, out)? {
+        Begun::New(done, rest) => (done, rest),
+        Begun::Used => return Ok(Effects::NotNew),
+        Begun::Refused => return Ok(Effects::Told(false)),
+    };
     let names = names_of(rt, alloc, script, files)?;
-    let mut input = LineReader::new(alloc, Reading::new(script), SCRIPT_LIMIT)?;
-    if !run_script(rt, alloc, true, &mut input, lines, writer, &mut Quiet)? {
+    let mut input = LineReader::new(alloc, Reading::new(rest), SCRIPT_LIMIT)?;
+    if !run_script(rt, alloc, true, done, &mut input, lines, writer, &mut Quiet)? {
         return Ok(Effects::Told(false));
     }
     let Some(words) = prepare_all(rt, alloc, words, lines, writer)? else {
@@ -192,12 +224,7 @@ pub(crate) fn tell_what_if<E: Eprint, R: Input + Drop, W: Output, O: Output>(
     provide(alloc, script, words.as_slice(), lines, writer)?;
     let line = line_of(alloc, words.as_slice())?;
     tell_bad(rt, alloc, None, line.as_slice())?;
-    let named = NamedTelling {
-        telling: Telling::Words,
-        names: names.as_slice(),
-    };
-    let told = tell_effects(alloc, lines, writer, line.as_slice(), &named, out)?;
-    Ok(Effects::Told(told))
+    tell_line(alloc, names.as_slice(), line.as_slice(), lines, writer, out)
 }
 
 /// Asks a new server over a connection what lines change in the namespaces of a script.
@@ -209,7 +236,7 @@ fn ask_what_if(
     words: &[&str],
 ) -> Result<Effects, Fault> {
     let alloc = rt.alloc();
-    let mut out = Writing::new(io::writer(rt));
+    let mut out = standard_output(rt);
     let mut lines = LineReader::new(alloc, Reading::new(stream), LINE_LIMIT)?;
     let mut writer = Writing::new(stream);
     tell_what_if(
@@ -242,6 +269,11 @@ fn answer_what_if(
             let socket = Shown(socket.as_bytes());
             let _ = eprintln!(rt; "{NAME}: {socket}: not a new server");
             Ok(ExitCode::from(1))
+        }
+        Ok(Effects::Lost) => {
+            let socket = Shown(socket.as_bytes());
+            let _ = eprintln!(rt; "{NAME}: {socket}: changes were lost, or others made some");
+            Ok(ExitCode::from(PROGRAM.failed))
         }
         Err(fault) => Ok(status_of(rt, socket, Err(fault))),
     }

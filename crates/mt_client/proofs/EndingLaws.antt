@@ -1,6 +1,6 @@
 -- Rows, namespaces and posts that were passed on, also up to the line that ends them, what cannot come first where one
 -- is refused, and a refusal in the place of an answer.
-use Rattle.std.proofs.Common.{◌≡◌, ◌≢◌, ℕ, ◌+◌, ◌<◌, ◌^◌, Bool, List, [], ◌∷◌, ◌++◌, length, refl, sym, ap, subst, ◌∙◌, arith, append-nil, length-append, Some, None, true, false, codes, if◌then◌else◌, ◌⊎◌, IsTrue, Result, Ok, Err, OnOk, OnErr}
+use Rattle.std.proofs.Common.{◌≡◌, ◌≢◌, ℕ, ◌+◌, ◌<◌, ◌≤◌, ◌^◌, Bool, List, [], ◌∷◌, ◌++◌, length, refl, sym, ap, subst, ◌∙◌, arith, append-nil, length-append, Some, None, true, false, codes, if◌then◌else◌, ◌⊎◌, IsTrue, Result, Ok, Err, OnOk, OnErr}
 use Rattle.std.proofs.lemmas.List.{map-append, length-map}
 use Rattle.std.proofs.lemmas.Grind.{flat_map-append}
 use Rattle.std.specs.List.{flat_map, join_with_byte, AllByRecursion}
@@ -15,13 +15,15 @@ use Rattle.mt_protocol.specs.declared.form.Form.{Form}
 use Rattle.mt_client.specs.declared.block.Block.{Block}
 use Rattle.mt_client.specs.declared.block.Block.TheVariants.{Namespace, Post}
 use Rattle.mt_client.specs.declared.opening.Heading.{Heading}
+use Rattle.mt_client.specs.Limits.{most_rows}
 use Rattle.mt_client.specs.Requests.{verdict, lines_behind, event_count, refuses, is_refusal}
 use Rattle.mt_client.specs.Reading.{texts, printed, HasRead, NoneFirst, AreSoMany, HasPassed, IsSentPart}
 use Rattle.mt_client.specs.Mirroring.{heading_words, HasRefused}
-use Rattle.mt_client.specs.Awaited.{IsRowLine, AreRowLines, IsPostBehind}
+use Rattle.mt_client.specs.Awaited.{AreRowLines, IsPostBehind}
 use Rattle.mt_client.specs.Replies.{IsPartLines, IsPostLines, IsBlock, IsBlockOf, AreBlocks, AreBlockLines, AreBehind, IsHeaded, most_posts, IsEnding, IsFollowAnswer, IsAnswer}
 use Rattle.mt_client.proofs.FollowLaws.{post_counted, printed_post, HasReadMore}
-use Rattle.mt_client.proofs.OpeningLaws.{first_taken, needs_line, heading_tells, rows_cut}
+use Rattle.mt_client.proofs.OpeningLaws.{first_taken, needs_line, heading_tells, few}
+use Rattle.mt_client.proofs.RowLaws.{no_rows}
 use Rattle.mt_client.proofs.SeriesLaws.{Series, IsSeries, Came, came_cut, in_lines, are_in_lines, groups}
 use Rattle.mt_client.proofs.RelayLaws.{sent_whole, lines_alike}
 use Rattle.std.specs.Str.{bytes_eq}
@@ -33,46 +35,37 @@ use Rattle.mt_lines.specs.declared.stream.Output.{Ghosts as OutputGhosts}
 use Rattle.mt_client.specs.Calls.{IsOut, IsOutInPart}
 
 -- rows
-pub no_rows : AreRowLines 0 []
-no_rows = record { rows = []; valid = tt; many = refl; all = refl }
-
-pub rows_join : (n : ℕ) (ls ms : List (List ℕ)) → AreRowLines n ls → IsRowLine ms → AreRowLines (n + 1) (ls ++ ms)
-rows_join n ls ms a r =
-    let l = length-append a.rows (r.0 ∷ []) in
-    let m = a.many in
-    record {
-      rows = a.rows ++ r.0 ∷ [];
-      valid = each_last IsRow a.rows r.0 a.valid r.1;
-      many = omega (arith, l, m);
-      all = (λ i. a.all i ++ r.2 i) ∙ sym (map-append line a.rows (r.0 ∷ []));
-    }
-
--- so many rows do not come first where behind fewer of them no row comes
-pub rows_ended : (n count : ℕ) (before middle : List Item) → HasRead (AreRowLines n) before middle → n < count → NoneFirst IsRowLine middle → NoneFirst (AreRowLines count) before
-rows_ended n count before middle h lt none = rows_cut n count h.1.rows before middle (h.2 ∙ ap (λ ls. texts ls ++ middle) h.1.all) h.1.many lt h.1.valid none
-
 rows_many : (n : ℕ) (ls : List (List ℕ)) → AreRowLines n ls → length ls ≡ n
 rows_many n ls a = ap length a.all ∙ length-map a.rows line ∙ a.many
 
 -- namespaces
-pub part_made : (h : Heading) (seen : List ℕ) (rows : List (List ℕ)) → seen ≡ join_with_byte 32 (heading_words h.space h.number h.count) → (h.space < 2 ^ 64) × (h.number < 2 ^ 64) × (h.count < 2 ^ 64) → AreRowLines h.count rows → IsBlockOf Namespace h.count (seen ∷ rows)
+pub part_made : (h : Heading) (seen : List ℕ) (rows : List (List ℕ)) → seen ≡ join_with_byte 32 (heading_words h.space h.number h.count) → (h.space < 2 ^ 64) × (h.number < 2 ^ 64) × (h.count ≤ most_rows) → AreRowLines h.count rows → IsBlockOf Namespace h.count (seen ∷ rows)
 part_made h seen rows is small valid =
     let m = rows_many h.count rows valid in (
       record { space = h.space; number = h.number; count = h.count; rows = rows; small = small; all = ap (λ l. l ∷ rows) is; valid = valid },
       omega (arith, m),
     )
 
-pub part_joined : (h : Heading) (seen : List ℕ) → seen ≡ join_with_byte 32 (heading_words h.space h.number h.count) → (h.space < 2 ^ 64) × (h.number < 2 ^ 64) × (h.count < 2 ^ 64) → (ls ms : List (List ℕ)) → ls ≡ seen ∷ [] → AreRowLines h.count ms → IsBlockOf Namespace h.count (ls ++ ms)
+pub part_joined : (h : Heading) (seen : List ℕ) → seen ≡ join_with_byte 32 (heading_words h.space h.number h.count) → (h.space < 2 ^ 64) × (h.number < 2 ^ 64) × (h.count ≤ most_rows) → (ls ms : List (List ℕ)) → ls ≡ seen ∷ [] → AreRowLines h.count ms → IsBlockOf Namespace h.count (ls ++ ms)
 part_joined h seen is small ls ms one valid = subst (λ x. IsBlockOf Namespace h.count (x ++ ms)) (sym one) (part_made h seen ms is small valid)
 
 pub part_needs_heading : (seen : List ℕ) (middle : List Item) → ((space number count : ℕ) → space < 2 ^ 64 → number < 2 ^ 64 → count < 2 ^ 64 → seen ≢ join_with_byte 32 (heading_words space number count)) → NoneFirst IsPartLines (Text seen ∷ middle)
-part_needs_heading seen middle none lines later k e = none k.space k.number k.count k.small.0 k.small.1 k.small.2 (sym (first_taken later refl k.all e).0)
+part_needs_heading seen middle none lines later k e = none k.space k.number k.count k.small.0 k.small.1 (few k.count k.small.2) (sym (first_taken later refl k.all e).0)
+
+-- nor one with more rows than there may be
+pub part_needs_few : (h : Heading) (seen : List ℕ) (middle : List Item) → seen ≡ join_with_byte 32 (heading_words h.space h.number h.count) → (h.space < 2 ^ 64) × (h.number < 2 ^ 64) × (h.count < 2 ^ 64) → most_rows < h.count → NoneFirst IsPartLines (Text seen ∷ middle)
+part_needs_few h seen middle is small many lines later k e =
+    let t = first_taken later refl k.all e in
+    let w = heading_tells k.space k.number k.count h.space h.number h.count k.small.0 k.small.1 (few k.count k.small.2) small.0 small.1 small.2 (t.0 ∙ is) in
+    let same = w.2 in
+    let le = k.small.2 in
+    omega (arith, same, le, many)
 
 pub part_needs_rows : (h : Heading) (seen : List ℕ) (middle : List Item) → seen ≡ join_with_byte 32 (heading_words h.space h.number h.count) → (h.space < 2 ^ 64) × (h.number < 2 ^ 64) × (h.count < 2 ^ 64) → NoneFirst (AreRowLines h.count) middle
     → NoneFirst IsPartLines (Text seen ∷ middle)
 part_needs_rows h seen middle is small none lines later k e =
     let t = first_taken later refl k.all e in
-    let w = heading_tells k.space k.number k.count h.space h.number h.count k.small.0 k.small.1 k.small.2 small.0 small.1 small.2 (t.0 ∙ is) in
+    let w = heading_tells k.space k.number k.count h.space h.number h.count k.small.0 k.small.1 (few k.count k.small.2) small.0 small.1 small.2 (t.0 ∙ is) in
     none k.rows later (subst (λ n. AreRowLines n k.rows) w.2 k.valid) t.1
 
 -- posts
@@ -127,7 +120,7 @@ group_only alike xs middle after is read g later other e =
 parts_alike : Alike IsPartLines
 parts_alike g h middle later p q e =
     let t = first_taken later refl q.all (sym (ap (λ ls. texts ls ++ middle) p.all) ∙ e) in
-    let w = heading_tells q.space q.number q.count p.space p.number p.count q.small.0 q.small.1 q.small.2 p.small.0 p.small.1 p.small.2 t.0 in
+    let w = heading_tells q.space q.number q.count p.space p.number p.count q.small.0 q.small.1 (few q.count q.small.2) p.small.0 p.small.1 (few p.count p.small.2) t.0 in
     let first = ap length p.all in
     let second = ap length q.all in
     let same = rows_many p.count p.rows p.valid ∙ sym w.2 ∙ sym (rows_many q.count q.rows q.valid) in
@@ -279,7 +272,7 @@ refusal_answers : (form : Form) (line : List ℕ) → is_refusal line ≡ true �
 refusal_answers Done line e = headed_refusal Done line (refl, refl) e
 refusal_answers Number line e = headed_refusal Number line (refl, refl) e
 refusal_answers Place line e = headed_refusal Place line (refl, refl) e
-refusal_answers Table line e = headed_refusal Table line no_rows e
+refusal_answers Table line e = headed_refusal Table line no_rows.0 e
 refusal_answers Opening line e = headed_refusal Opening line (record { blocks = []; each = tt; all = refl }, refl) e
 refusal_answers Posts line e = headed_refusal Posts line (record { blocks = []; each = tt; all = refl }, refl) e
 refusal_answers Followed line e = record { posts = []; last = line; each = tt; all = refl; tells = refusal_tells line e; ends = e; bounded = omega arith }

@@ -1,6 +1,7 @@
 pub mod RelayLaws
 pub mod CallLaws
 pub mod OpeningLaws
+pub mod RowLaws
 pub mod SeriesLaws
 pub mod FollowLaws
 pub mod EndingLaws

@@ -20,9 +20,8 @@ use Rattle.mt_client.proofs.RelayLaws.{texts_split, first_alike}
 use Rattle.std.proofs.lemmas.Option.{same_Some}
 use Rattle.mt_lines.specs.Words.{words}
 use Rattle.mt_events.specs.declared.opening.Scope.TheVariants.{All}
-use Rattle.mt_protocol.specs.declared.form.Form.TheVariants.{Posts}
-use Rattle.mt_client.specs.Requests.{is_refusal, lines_behind, event_count}
-use Rattle.mt_client.specs.Missing.{AreDueLines, IsClosing, IsMissing, IsMissingAnswer, IsOnlyCounted}
+use Rattle.mt_client.specs.Requests.{is_refusal, waiting_count, event_count}
+use Rattle.mt_client.specs.Missing.{AreDueLines, IsWaiting, IsMissing, IsMissingAnswer, IsOnlyCounted}
 
 -- posts that are due, up to their end
 abbrev pub due_posts : (count : ℕ) (scope : Scope) (mirrors : List MirrorView) (lines : List (List ℕ)) → AreDuePosts count scope mirrors lines → IsSeries (up_to (due_to scope) (counted_line count) count) mirrors lines
@@ -119,19 +118,19 @@ pub due_lines : (count : ℕ) (mirrors : List MirrorView) (lines : List (List �
 due_lines count mirrors lines d = are_in_lines posts_due count mirrors d.posts lines (d.valid, d.due) d.many d.all
 
 -- the answer of a watcher that is closed
-pub closing_needs_count : (mirrors : List MirrorView) (seen : List ℕ) (before middle : List Item) → before ≡ Text seen ∷ middle → is_refusal seen ≡ false → None ≡ lines_behind Posts true seen → NoneFirst (IsRefusedOr (IsClosing mirrors)) before
+pub closing_needs_count : (mirrors : List MirrorView) (seen : List ℕ) (before middle : List Item) → before ≡ Text seen ∷ middle → is_refusal seen ≡ false → None ≡ waiting_count seen → NoneFirst (IsRefusedOr (IsWaiting mirrors)) before
 closing_needs_count mirrors seen before middle there tells counts =
     unrefused_or (no_refusal there tells) (λ lines later k e.
     let t = first_taken later there k.all e in
-    let no : None ≡ Some k.count = counts ∙ ap (lines_behind Posts true) (sym t.0) ∙ k.counted in
+    let no : None ≡ Some k.count = counts ∙ ap waiting_count (sym t.0) ∙ k.counted in
     cc)
 
-pub closing_needs_posts : (count : ℕ) (mirrors : List MirrorView) (seen : List ℕ) (before middle : List Item) → before ≡ Text seen ∷ middle → is_refusal seen ≡ false → Some count ≡ lines_behind Posts true seen → NoneFirst (AreDueLines count mirrors) middle
-    → NoneFirst (IsRefusedOr (IsClosing mirrors)) before
+pub closing_needs_posts : (count : ℕ) (mirrors : List MirrorView) (seen : List ℕ) (before middle : List Item) → before ≡ Text seen ∷ middle → is_refusal seen ≡ false → Some count ≡ waiting_count seen → NoneFirst (AreDueLines count mirrors) middle
+    → NoneFirst (IsRefusedOr (IsWaiting mirrors)) before
 closing_needs_posts count mirrors seen before middle there tells counts none =
     unrefused_or (no_refusal there tells) (λ lines later k e.
     let t = first_taken later there k.all e in
-    let same : count ≡ k.count = same_Some count k.count (counts ∙ ap (lines_behind Posts true) (sym t.0) ∙ k.counted) in
+    let same : count ≡ k.count = same_Some count k.count (counts ∙ ap waiting_count (sym t.0) ∙ k.counted) in
     none k.others later (subst (λ n. AreDueLines n mirrors k.others) (sym same) k.posts) t.1)
 
 -- what is missing, where more calls of a writer failed

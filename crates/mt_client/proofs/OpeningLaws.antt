@@ -16,9 +16,10 @@ use Rattle.mt_info.specs.declared.row.Row.{Row}
 use Rattle.mt_info.proofs.RowLineLaws.{line-injective}
 use Rattle.mt_events.proofs.PostLaws.{second, third, fourth}
 use Rattle.mt_client.specs.Requests.{is_refusal}
+use Rattle.mt_client.specs.Limits.{most_rows, most_opening_lines}
 use Rattle.mt_client.specs.Reading.{texts, NoneFirst, AreSoMany, printed}
 use Rattle.mt_client.specs.Mirroring.{counted_line, heading_words, IsShown, heading_line, part_lines, opening_lines, opening_with, HasOpened}
-use Rattle.mt_client.specs.Awaited.{IsOneRefusal, IsRefusedOr, IsRowLine, AreRowLines, IsOpening}
+use Rattle.mt_client.specs.Awaited.{IsOneRefusal, IsRefusedOr, AreRowLines, IsOpening}
 use Rattle.mt_client.proofs.RelayLaws.{printed-append, KnownByLines, items_alike, items_cut, first_alike}
 use Rattle.mt_info.specs.Table.{row_id}
 use Rattle.mt_skel.specs.Rising.{is_above, rises_after}
@@ -86,15 +87,12 @@ heading_tells space number count space_2 number_2 count_2 a b d a_2 b_2 d_2 e =
 abbrev pub row_items : KnownByLines
 row_items = record { X = Row; IsValid = IsRow; lines_of = λ row. line row ∷ []; all = map line; none = refl; both = λ row rows. refl; some = λ row. omega arith; alike = λ r n middle later p q e. let f = first_alike e in (line-injective r n p q f.0, f.1) }
 
-pub rows_cut : (n count : ℕ) (rows : List Row) (before middle : List Item) → before ≡ texts (map line rows) ++ middle → length rows ≡ n → n < count → AllByRecursion IsRow rows → NoneFirst IsRowLine middle → NoneFirst (AreRowLines count) before
-rows_cut n count rows before middle came many lt valid none lines later k e =
-    let a = length-map rows line in
-    let b = length-map k.rows line in
-    let m = k.many in
-    items_cut row_items rows k.rows middle later valid k.valid (omega (arith, a, b, m, many, lt)) (sym came ∙ e ∙ ap (λ ls. texts ls ++ later) k.all) (λ row rest is within. none (line row ∷ []) rest (row, is, refl))
+pub few : (n : ℕ) → n ≤ most_rows → n < 2 ^ 64
+few n le = omega (arith, le)
 
-pub few : (n : ℕ) → 1 + n < 2 ^ 64 → n < 2 ^ 64
-few n lt = omega (arith, lt)
+-- so does the number of its lines
+few_lines : (n : ℕ) → n ≤ most_opening_lines → n < 2 ^ 64
+few_lines n le = omega (arith, le)
 
 -- the text of an opening
 rows_text : (rows : List Row) → printed (map line rows) ≡ flat_map whole_line rows
@@ -170,28 +168,38 @@ within_needs_room left h seen before middle there is small over lines later k e 
     let within = k.within in
     omega (arith, same, within, over)
 
+-- nor where its first line tells more rows than there may be
+pub within_needs_few : (left : ℕ) (h : Heading) (seen : List ℕ) (before middle : List Item) → before ≡ Text seen ∷ middle → seen ≡ join_with_byte 32 (heading_words h.space h.number h.count)
+    → (h.space < 2 ^ 64) × (h.number < 2 ^ 64) × (h.count < 2 ^ 64) → most_rows < h.count → NoneFirst (IsPartWithin left) before
+within_needs_few left h seen before middle there is small many lines later k e =
+    let t = within_told left h seen before middle later lines there is small k e in
+    let same = t.0 in
+    let few = k.shown.counted in
+    omega (arith, same, few, many)
+
 -- no namespace comes first where fewer rows stand behind its first line than it tells
 pub within_needs_rows : (left : ℕ) (h : Heading) (seen : List ℕ) (before middle : List Item) → before ≡ Text seen ∷ middle → seen ≡ join_with_byte 32 (heading_words h.space h.number h.count)
     → (h.space < 2 ^ 64) × (h.number < 2 ^ 64) × (h.count < 2 ^ 64) → NoneFirst (AreRowLines h.count) middle → NoneFirst (IsPartWithin left) before
 within_needs_rows left h seen before middle there is small none lines later k e =
     let t = within_told left h seen before middle later lines there is small k e in
-    none (map line k.found.rows) later (record { rows = k.found.rows; valid = k.shown.rows; many = sym t.0; all = refl }) t.1
-
--- nor where the rows behind it do not stand by rising ID
-pub within_needs_rising : (left : ℕ) (h : Heading) (seen : List ℕ) (rows : List Row) (before middle after : List Item) → before ≡ Text seen ∷ middle → seen ≡ join_with_byte 32 (heading_words h.space h.number h.count)
-    → (h.space < 2 ^ 64) × (h.number < 2 ^ 64) × (h.count < 2 ^ 64) → middle ≡ texts (map line rows) ++ after → length rows ≡ h.count → AllByRecursion IsRow rows → (IsTrue (rises row_id rows) → ⊥)
-    → NoneFirst (IsPartWithin left) before
-within_needs_rising left h seen rows before middle after there is small came many valid falls lines later k e =
-    let t = within_told left h seen before middle later lines there is small k e in
-    let same = items_alike row_items rows k.found.rows after later valid k.shown.rows (length-map rows line ∙ many ∙ t.0 ∙ sym (length-map k.found.rows line)) (sym came ∙ t.1) in
-    falls (subst (λ rs. IsTrue (rises row_id rs)) (sym same.0) k.shown.rising)
+    none (map line k.found.rows) later (record { rows = k.found.rows; valid = k.shown.rows; rising = k.shown.rising; many = sym t.0; all = refl }) t.1
 
 -- how many lines come for the namespaces, and what is behind the first line, where the lines of an opening come first
 finding_told : (scope : Scope) (count : ℕ) (seen : List ℕ) (before middle later : List Item) (lines : List (List ℕ)) → before ≡ Text seen ∷ middle → seen ≡ counted_line count → count < 2 ^ 64 → (k : IsFinding scope lines) → before ≡ texts lines ++ later
     → (length (parts_lines k.found) ≡ count) × (middle ≡ texts (parts_lines k.found) ++ later)
 finding_told scope count seen before middle later lines there is small k e =
     let t = first_taken later there k.all e in
-    (counted_tells (length (parts_lines k.found)) count k.shown.counted small (t.0 ∙ is), t.1)
+    (counted_tells (length (parts_lines k.found)) count (few_lines (length (parts_lines k.found)) k.shown.counted) small (t.0 ∙ is), t.1)
+
+-- an opening has no more lines than there may be
+pub finding_needs_few : (scope : Scope) (count : ℕ) (seen : List ℕ) (before middle : List Item) → before ≡ Text seen ∷ middle → is_refusal seen ≡ false → seen ≡ counted_line count → count < 2 ^ 64 → most_opening_lines < count
+    → NoneFirst (IsRefusedOr (IsFinding scope)) before
+finding_needs_few scope count seen before middle there tells is small many =
+    unrefused_or (no_refusal there tells) (λ lines later k e.
+    let t = finding_told scope count seen before middle later lines there is small k e in
+    let same = t.0 in
+    let few = k.shown.counted in
+    omega (arith, same, few, many))
 
 pub finding_needs_parts : (scope : Scope) (count : ℕ) (seen : List ℕ) (before middle : List Item) → before ≡ Text seen ∷ middle → is_refusal seen ≡ false → seen ≡ counted_line count → count < 2 ^ 64 → NoneFirst (ArePartLines count) middle
     → NoneFirst (IsRefusedOr (IsFinding scope)) before
@@ -212,7 +220,7 @@ finding_needs_scope scope count seen parts before middle after there tells is sm
 pub found_alike : (scope : Scope) (before middle later : List Item) (parts news : List MirrorView) → HasFound scope before middle parts → AreShown scope news → before ≡ texts (found_lines news) ++ later → (parts ≡ news) × (middle ≡ later)
 found_alike scope before middle later parts news f s e =
     let t = first_taken {others = parts_lines news} later f.read refl e in
-    let n = counted_tells (length (parts_lines news)) (length (parts_lines parts)) s.counted f.shown.counted t.0 in
+    let n = counted_tells (length (parts_lines news)) (length (parts_lines parts)) (few_lines (length (parts_lines news)) s.counted) (few_lines (length (parts_lines parts)) f.shown.counted) t.0 in
     items_alike part_items parts news middle later f.shown.each s.each (sym n) t.1
 
 -- the text of an opening

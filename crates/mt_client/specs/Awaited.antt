@@ -1,10 +1,13 @@
 -- Which lines a mirror waits for: an opening of one namespace, posts that follow it, and their end; or a refusal in the place of a line.
 -- A word with no source is this project's rule.
-use Rattle.std.specs.Prelude.{◌≡◌, ℕ, ◌≤◌, Bool, true, List, [], ◌∷◌, ◌++◌, map, length, ◌⊎◌}
+use Rattle.std.specs.Prelude.{◌≡◌, ℕ, ◌≤◌, Bool, true, List, [], ◌∷◌, ◌++◌, map, length, Option, IsTrue, ◌⊎◌}
 use Rattle.std.specs.List.{flat_map, AllByRecursion}
+use Rattle.mt_skel.specs.Keyed.{rises}
+use Rattle.mt_skel.specs.Rising.{is_above}
 use Rattle.mt_lines.specs.Lines.{Item}
 use Rattle.mt_info.specs.Laws.{IsRow}
 use Rattle.mt_info.specs.RowLine.{line}
+use Rattle.mt_info.specs.Table.{row_id}
 use Rattle.mt_info.specs.declared.row.Row.{Row}
 use Rattle.mt_events.specs.Posts.{PostView, IsPost, post_lines}
 use Rattle.mt_events.specs.Mirrors.{MirrorView, are_next}
@@ -19,14 +22,15 @@ IsOneRefusal lines = (refusal : List ℕ) × IsRefusal refusal × (lines ≡ ref
 abbrev pub IsRefusedOr : (List (List ℕ) → Type 0) → List (List ℕ) → Type 0
 IsRefusedOr kind lines = IsOneRefusal lines ⊎ kind lines
 
--- the line of a row
-abbrev pub IsRowLine : List (List ℕ) → Type 0
-IsRowLine lines = (row : Row) × IsRow row × (lines ≡ line row ∷ [])
+-- the line of a row with an ID above the last one, if there was one
+abbrev pub IsRowAbove : Option ℕ → List (List ℕ) → Type 0
+IsRowAbove last lines = (row : Row) × IsRow row × (is_above last row.id ≡ true) × (lines ≡ line row ∷ [])
 
--- the lines of so many rows
+-- the lines of so many rows, by rising ID
 pub record AreRowLines (count : ℕ) (lines : List (List ℕ)) : Type 0 where
   pub rows : List Row
   pub valid : AllByRecursion IsRow rows
+  pub rising : IsTrue (rises row_id rows)
   pub many : length rows ≡ count
   pub all : lines ≡ map line rows
 

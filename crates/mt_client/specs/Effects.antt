@@ -1,4 +1,4 @@
--- What a line changes, told: its answer, and the posts that the watcher had when it was closed.
+-- What a line changes, told: its answer, and the posts that the watcher has then.
 -- A word with no source is this project's rule.
 use Rattle.std.specs.Prelude.{◌≡◌, ℕ, true, false, List, ◌∷◌, ◌++◌, length, Some, codes, ◌⊎◌}
 use Rattle.std.specs.List.{flat_map}
@@ -6,11 +6,10 @@ use Rattle.mt_lines.specs.Lines.{Item, Text}
 use Rattle.mt_events.specs.Posts.{PostView, post_text, ended}
 use Rattle.mt_events.specs.Mirrors.{MirrorView}
 use Rattle.mt_events.specs.declared.opening.Scope.TheVariants.{All}
-use Rattle.mt_protocol.specs.declared.form.Form.TheVariants.{Posts}
 use Rattle.mt_client.specs.declared.named.NamedTelling.{NamedTelling}
 use Rattle.mt_client.specs.declared.fault.ClientFault.{ClientFault}
 use Rattle.mt_protocol.specs.Verbs.{form_of}
-use Rattle.mt_client.specs.Requests.{lines_behind}
+use Rattle.mt_client.specs.Requests.{waiting_count}
 use Rattle.mt_client.specs.Reading.{HasPassed, IsBroken}
 use Rattle.mt_client.specs.Replies.{IsAnswer}
 use Rattle.mt_client.specs.Mirroring.{HasRefused}
@@ -24,18 +23,22 @@ pub record HasToldLines (named : NamedTelling) (count : ℕ) (old new : List Mir
   pub many : length told.lines ≡ count
 
 -- a line was read that says how many lines posts are, and then these posts, which were told
-pub record HasToldClosed (named : NamedTelling) (old : List MirrorView) (before after : List Item) (begun done : List ℕ) : Type 0 where
+pub record HasToldTaken (named : NamedTelling) (old : List MirrorView) (before after : List Item) (begun done : List ℕ) : Type 0 where
   pub first : List ℕ
   pub middle : List Item
   pub count : ℕ
   pub new : List MirrorView
   pub read : before ≡ Text first ∷ middle
-  pub counted : lines_behind Posts true first ≡ Some count
+  pub counted : waiting_count first ≡ Some count
   pub told : HasToldLines named count old new middle after begun done
 
--- the requests: of a watcher, the line, and the end of the watcher
+-- the request for the posts that wait, the most that one may ask for
+abbrev pub taking_text : List ℕ
+taking_text = codes "take 1024"
+
+-- the requests: of a watcher, the line, and that for the posts
 abbrev pub effects_text : List ℕ → List ℕ
-effects_text line = ended (watch_text All) ++ ended line ++ ended (codes "close")
+effects_text line = ended (watch_text All) ++ ended line ++ ended taking_text
 
 -- what a watcher of all namespaces finds was read, and an answer to a line that is `ok`, which was printed, and then what had changed since, which was told
 pub record HasEffects (named : NamedTelling) (line : List ℕ) (before after : List Item) (begun done : List ℕ) : Type 0 where
@@ -45,7 +48,7 @@ pub record HasEffects (named : NamedTelling) (line : List ℕ) (before after : L
   pub between : List ℕ
   pub watched : HasFound All before opened found
   pub answer : HasPassed (λ lines. IsAnswer (form_of line) lines true) opened answered begun between
-  pub changes : HasToldClosed named found answered after between done
+  pub changes : HasToldTaken named found answered after between done
 
 -- a refusal was read, and printed
 abbrev pub IsRefusedOut : List Item → List Item → List ℕ → List ℕ → Type 0
@@ -74,8 +77,8 @@ pub record IsToldShort (named : NamedTelling) (fault : ClientFault) (old : List 
   pub stopped : IsStopped named fault All made middle between done
 
 -- up to a fault nothing was told, or posts behind a first line
-abbrev pub IsClosedShort : NamedTelling → ClientFault → List MirrorView → List Item → List ℕ → List ℕ → Type 0
-IsClosedShort named fault old before begun done =
+abbrev pub IsTakenShort : NamedTelling → ClientFault → List MirrorView → List Item → List ℕ → List ℕ → Type 0
+IsTakenShort named fault old before begun done =
     IsUnsaid fault before begun done
     ⊎ ((first : List ℕ) × (middle : List Item) × (before ≡ Text first ∷ middle) × IsToldShort named fault old middle begun done)
 
@@ -83,7 +86,7 @@ IsClosedShort named fault old before begun done =
 abbrev pub IsAnsweredShort : NamedTelling → ClientFault → List ℕ → List MirrorView → List Item → List ℕ → List ℕ → Type 0
 IsAnsweredShort named fault line found opened begun done =
     IsBroken fault opened begun done
-    ⊎ ((answered : List Item) × (between : List ℕ) × HasPassed (λ lines. IsAnswer (form_of line) lines true) opened answered begun between × IsClosedShort named fault found answered between done)
+    ⊎ ((answered : List Item) × (between : List ℕ) × HasPassed (λ lines. IsAnswer (form_of line) lines true) opened answered begun between × IsTakenShort named fault found answered between done)
 
 -- the same, or nothing was printed, since what a watcher finds did not come
 abbrev pub IsEffectShort : NamedTelling → ClientFault → List ℕ → List Item → List ℕ → List ℕ → Type 0

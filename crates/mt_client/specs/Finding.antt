@@ -1,6 +1,6 @@
 -- What a watcher finds: the namespaces of its scope, each with the number of its last post and its table.
 -- A word with no source is this project's rule.
-use Rattle.std.specs.Prelude.{◌≡◌, ℕ, ◌+◌, ◌≤◌, ◌<◌, ◌^◌, List, [], ◌∷◌, ◌++◌, map, length, IsTrue, codes}
+use Rattle.std.specs.Prelude.{◌≡◌, ℕ, ◌+◌, ◌≤◌, List, [], ◌∷◌, ◌++◌, map, length, IsTrue, codes}
 use Rattle.std.specs.List.{flat_map, AllByRecursion}
 use Rattle.mt_skel.specs.Keyed.{rises}
 use Rattle.mt_lines.specs.Lines.{Item}
@@ -10,6 +10,7 @@ use Rattle.mt_events.specs.declared.opening.Part.{Part}
 use Rattle.mt_events.specs.declared.opening.Scope.{Scope}
 use Rattle.mt_events.specs.declared.opening.Scope.TheVariants.{One, All}
 use Rattle.mt_events.specs.Texts.{opening_text}
+use Rattle.mt_client.specs.Limits.{most_opening_lines}
 use Rattle.mt_client.specs.Requests.{numbered_text}
 use Rattle.mt_client.specs.Reading.{texts, printed}
 use Rattle.mt_client.specs.Mirroring.{IsShown, counted_line, part_lines}
@@ -36,10 +37,10 @@ abbrev pub AreOf : Scope → List MirrorView → Type 0
 AreOf (One space) parts = map mirror_space parts ≡ space ∷ []
 AreOf All parts = IsTrue (rises mirror_space parts)
 
--- namespaces that a server can show to a watcher of this scope, with a number of 64 bits for their lines
+-- namespaces that a server can show to a watcher of this scope, of no more lines than there may be
 pub record AreShown (scope : Scope) (parts : List MirrorView) : Type 0 where
   pub each : AllByRecursion IsShown parts
-  pub counted : length (parts_lines parts) < 2 ^ 64
+  pub counted : length (parts_lines parts) ≤ most_opening_lines
   pub of : AreOf scope parts
 
 -- a namespace as a server tells it to a watcher

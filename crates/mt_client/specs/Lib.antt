@@ -1,3 +1,4 @@
+pub mod Limits
 pub mod Requests
 pub mod Reading
 pub mod Calls
@@ -9,3 +10,4 @@ pub mod Due
 pub mod Replies
 pub mod Effects
 pub mod Missing
+pub mod Laws

@@ -13,6 +13,7 @@ use Rattle.mt_events.specs.Mirrors.{MirrorView, are_next, mirrored_by}
 use Rattle.mt_events.specs.declared.opening.Opening.{Opening}
 use Rattle.mt_events.specs.declared.opening.Scope.TheVariants.{One}
 use Rattle.mt_events.specs.Texts.{count_text, opening_text, followed_text}
+use Rattle.mt_client.specs.Limits.{most_rows}
 use Rattle.mt_client.specs.Requests.{is_refusal, numbered_text, event_count}
 use Rattle.mt_client.specs.Reading.{texts, printed}
 
@@ -43,11 +44,11 @@ opening_with m = record { scope = One m.space; parts = record { space = m.space;
 abbrev pub IsRefusal : List ℕ → Type 0
 IsRefusal line = is_refusal line ≡ true
 
--- what is true of every namespace that a server shows: numbers of 64 bits, that of its lines too, and rows by rising ID
+-- what is true of every namespace that a server shows: numbers of 64 bits, and no more rows than there may be, by rising ID
 pub record IsShown (m : MirrorView) : Type 0 where
   pub space : m.space < 2 ^ 64
   pub number : m.number < 2 ^ 64
-  pub counted : 1 + length m.rows < 2 ^ 64
+  pub counted : length m.rows ≤ most_rows
   pub rows : AllByRecursion IsRow m.rows
   pub rising : IsTrue (rises row_id m.rows)
 

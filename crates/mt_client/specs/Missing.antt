@@ -1,4 +1,4 @@
--- Which lines are missing where the effects of a line are not told: what a watcher finds, an answer, or the posts of a watcher that is closed.
+-- Which lines are missing where the effects of a line are not told: what a watcher finds, an answer, or the posts of the watcher.
 -- A word with no source is this project's rule.
 use Rattle.std.specs.Prelude.{◌≡◌, ℕ, ◌+◌, Bool, true, List, ◌∷◌, ◌++◌, length, Some, ◌⊎◌}
 use Rattle.std.specs.List.{flat_map, AllByRecursion}
@@ -6,9 +6,8 @@ use Rattle.mt_lines.specs.Lines.{Item}
 use Rattle.mt_events.specs.Posts.{PostView, IsPost, post_lines}
 use Rattle.mt_events.specs.Mirrors.{MirrorView}
 use Rattle.mt_events.specs.declared.opening.Scope.TheVariants.{All}
-use Rattle.mt_protocol.specs.declared.form.Form.TheVariants.{Posts}
 use Rattle.mt_protocol.specs.Verbs.{form_of}
-use Rattle.mt_client.specs.Requests.{lines_behind}
+use Rattle.mt_client.specs.Requests.{waiting_count}
 use Rattle.mt_client.specs.Reading.{texts, HasRead, NoneFirst}
 use Rattle.mt_client.specs.Replies.{IsAnswer}
 use Rattle.mt_client.specs.Awaited.{IsOneRefusal, IsRefusedOr}
@@ -23,24 +22,24 @@ pub record AreDueLines (count : ℕ) (mirrors : List MirrorView) (lines : List (
   pub many : length lines ≡ count
   pub all : lines ≡ flat_map post_lines posts
 
--- the lines of what a watcher has when it is closed: how many they are, and then those of posts
-pub record IsClosing (mirrors : List MirrorView) (lines : List (List ℕ)) : Type 0 where
+-- the lines of the posts that wait: how many they are, and then those of posts
+pub record IsWaiting (mirrors : List MirrorView) (lines : List (List ℕ)) : Type 0 where
   pub first : List ℕ
   pub others : List (List ℕ)
   pub count : ℕ
   pub all : lines ≡ first ∷ others
-  pub counted : lines_behind Posts true first ≡ Some count
+  pub counted : waiting_count first ≡ Some count
   pub posts : AreDueLines count mirrors others
 
 -- no lines of this kind come first, or a request did not go out and no refusal comes first
 abbrev pub IsMissing : Type 0 → (List (List ℕ) → Type 0) → List Item → Type 0
 IsMissing unsent kind before = NoneFirst kind before ⊎ (unsent × NoneFirst IsOneRefusal before)
 
--- no answer to a line comes first, or nothing of a closed watcher behind it
+-- no answer to a line comes first, or no posts that wait behind it
 abbrev pub IsMissingAnswer : Type 0 → List ℕ → List MirrorView → List Item → Type 0
 IsMissingAnswer unsent line mirrors opened =
     IsMissing unsent (λ lines. (told : Bool) × IsAnswer (form_of line) lines told) opened
-    ⊎ ((answered : List Item) × HasRead (λ lines. IsAnswer (form_of line) lines true) opened answered × IsMissing unsent (IsRefusedOr (IsClosing mirrors)) answered)
+    ⊎ ((answered : List Item) × HasRead (λ lines. IsAnswer (form_of line) lines true) opened answered × IsMissing unsent (IsRefusedOr (IsWaiting mirrors)) answered)
 
 -- the same, or nothing that a watcher of all namespaces finds comes first
 abbrev pub IsMissingEffect : Type 0 → List ℕ → List Item → Type 0

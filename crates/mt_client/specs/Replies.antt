@@ -1,25 +1,34 @@
 -- Whole answers: a first line of the request's form or a refusal, and the rows, namespaces and posts that come with it.
 -- A word with no source is this project's rule.
-use Rattle.std.specs.Prelude.{◌≡◌, ℕ, ◌+◌, ◌<◌, ◌^◌, Bool, true, false, List, [], ◌∷◌, ◌++◌, length, Some}
+use Rattle.std.specs.Prelude.{◌≡◌, ℕ, ◌+◌, ◌<◌, ◌≤◌, ◌^◌, Bool, true, false, List, [], ◌∷◌, ◌++◌, length, Option, Some}
 use Rattle.std.specs.List.{flat_map, join_with_byte, AllByRecursion}
+use Rattle.mt_skel.specs.Rising.{is_above}
 use Rattle.mt_lines.specs.Words.{words}
+use Rattle.mt_info.specs.Laws.{IsRow}
+use Rattle.mt_info.specs.RowLine.{line}
+use Rattle.mt_info.specs.declared.row.Row.{Row}
 use Rattle.mt_events.specs.Posts.{PostView, IsPost, post_text}
 use Rattle.mt_protocol.specs.declared.form.Form.{Form}
 use Rattle.mt_protocol.specs.declared.form.Form.TheVariants.{Table, Opening, Posts, Followed}
 use Rattle.mt_client.specs.declared.block.Block.{Block}
 use Rattle.mt_client.specs.declared.block.Block.TheVariants.{Namespace, Post}
+use Rattle.mt_client.specs.Limits.{most_rows}
 use Rattle.mt_client.specs.Requests.{verdict, is_refusal, lines_behind, event_count}
 use Rattle.mt_client.specs.Reading.{printed}
 use Rattle.mt_client.specs.Mirroring.{counted_line, heading_words}
 use Rattle.mt_client.specs.Awaited.{AreRowLines}
 
--- the lines of a namespace: its number, that of its last post and how many rows it has, and then so many rows
+-- the line of the row of this ID, which is above the last one, if there was one
+abbrev pub IsRowOf : Option ℕ → ℕ → List (List ℕ) → Type 0
+IsRowOf last id lines = (row : Row) × IsRow row × (is_above last row.id ≡ true) × (row.id ≡ id) × (lines ≡ line row ∷ [])
+
+-- the lines of a namespace: its number, that of its last post and how many rows it has, no more than there may be, and then so many rows
 pub record IsPartLines (lines : List (List ℕ)) : Type 0 where
   pub space : ℕ
   pub number : ℕ
   pub count : ℕ
   pub rows : List (List ℕ)
-  pub small : (space < 2 ^ 64) × (number < 2 ^ 64) × (count < 2 ^ 64)
+  pub small : (space < 2 ^ 64) × (number < 2 ^ 64) × (count ≤ most_rows)
   pub all : lines ≡ join_with_byte 32 (heading_words space number count) ∷ rows
   pub valid : AreRowLines count rows
 

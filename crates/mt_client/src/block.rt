@@ -2,18 +2,17 @@
 ghost use Rattle.std.specs.Prelude.{◌≡◌, ◌≢◌, [], ◌∷◌, None, Err, IfOk, IfErr, OnOk};
 ghost use Rattle.mt_lines.specs.Reading.{fault_of, last_line};
 ghost use Rattle.mt_client.specs.Calls.{IsPassFault, PassesOn};
-ghost use Rattle.mt_client.specs.Awaited.{IsRowLine, AreRowLines};
-ghost use Rattle.mt_client.specs.Replies.{IsPartLines, IsPostLines, IsBlock, IsBlockOf, AreBlockLines, AreBehind};
+ghost use Rattle.mt_client.specs.Awaited.{IsRowAbove, AreRowLines};
+ghost use Rattle.mt_client.specs.Replies.{IsRowOf, IsPartLines, IsPostLines, IsBlock, IsBlockOf, AreBlockLines, AreBehind};
 
 use crate::fault::ClientFault;
-use crate::opening::read_heading;
+use crate::opening::{MOST_ROWS, is_beyond, read_heading, row_above};
 use crate::posts::{lines_of_event, push_line, push_lines, read_text};
 use crate::relay::{next_text, print, print_line};
-use mt_info::read::read_row;
 use mt_lines::line::LineReader;
 use mt_lines::stream::{Input, Output};
+use mt_mounts::mount::MountId;
 use mt_protocol::form::Form;
-use mt_skel::fault::Fault;
 use std::alloc::Global;
 
 /// What the lines behind the first line of an answer are.
@@ -25,35 +24,35 @@ pub enum Block {
     Post,
 }
 
-/// Whether a text is the line of a row: refused as `Connection` where it is none, and else as `NoMemory`.
-fn check_row(alloc: Global, text: &[u8]) -> Result<(), ClientFault>
-    ensures row { OnOk result (IsRowLine (text.now ∷ [])) }
-    ensures refused { result ≡ Err ClientFault.Connection → IsRowLine (text.now ∷ []) → ⊥ }
+/// The ID of the row of which a text is the line, where it is above the last one: refused as `Connection` where the text
+/// is the line of none such, and else as `NoMemory`.
+fn id_above(alloc: Global, text: &[u8], last: Option<MountId>) -> Result<MountId, ClientFault>
+    ensures row { IfOk result (λ id. IsRowOf last id (text.now ∷ [])) }
+    ensures refused { result ≡ Err ClientFault.Connection → IsRowAbove last (text.now ∷ []) → ⊥ }
     ensures kind { result ≢ Err ClientFault.Output }
 {
-    match read_row(alloc, text) {
-        Ok(_) => Ok(()),
-        Err(Fault::NoMemory) => Err(ClientFault::NoMemory),
-        Err(_) => Err(ClientFault::Connection),
-    }
+    let row = row_above(alloc, text, last)?;
+    Ok(row.id)
 }
 
-/// Reads the line of a row and prints it.
+/// Reads the line of a row with an ID above the last one, and prints it: its ID.
 fn pass_row<R: Input + Drop, O: Output>(
     alloc: Global,
     lines: &mut LineReader<R>,
+    last: Option<MountId>,
     out: &mut O,
-) -> Result<(), ClientFault>
+) -> Result<MountId, ClientFault>
     requires fresh { fault_of lines.old ≡ None }
-    ensures passed { OnOk result (PassesOn O.Output [] IsRowLine lines.old lines.new out.old out.new) }
-    ensures fault { IfErr result (λ fault. IsPassFault O.Output fault IsRowLine [] lines.old lines.new out.old out.new) }
+    ensures passed { IfOk result (λ id. PassesOn O.Output [] (IsRowOf last id) lines.old lines.new out.old out.new) }
+    ensures fault { IfErr result (λ fault. IsPassFault O.Output fault (IsRowAbove last) [] lines.old lines.new out.old out.new) }
 {
     next_text(lines)?;
-    check_row(alloc, lines.line())?;
-    print_line(out, lines.line())
+    let id = id_above(alloc, lines.line(), last)?;
+    print_line(out, lines.line())?;
+    Ok(id)
 }
 
-/// Reads the lines of so many rows, and prints each.
+/// Reads the lines of so many rows, by rising ID, and prints each.
 fn pass_rows<R: Input + Drop, O: Output>(
     alloc: Global,
     lines: &mut LineReader<R>,
@@ -64,8 +63,9 @@ fn pass_rows<R: Input + Drop, O: Output>(
     ensures passed { OnOk result (PassesOn O.Output [] (AreRowLines count) lines.old lines.new out.old out.new) }
     ensures fault { IfErr result (λ fault. IsPassFault O.Output fault (AreRowLines count) [] lines.old lines.new out.old out.new) }
 {
+    let mut last = None;
     'rows: for _row in 0..count {
-        pass_row(alloc, lines, out)?;
+        last = Some(pass_row(alloc, lines, last, out)?);
     }
     Ok(())
 }
@@ -83,6 +83,9 @@ fn pass_part<R: Input + Drop, O: Output>(
     let Some(heading) = read_heading(lines.line()) else {
         return Err(ClientFault::Connection);
     };
+    if is_beyond(heading.count, MOST_ROWS) {
+        return Err(ClientFault::Connection);
+    }
     print_line(out, lines.line())?;
     pass_rows(alloc, lines, heading.count, out)?;
     Ok(heading.count)

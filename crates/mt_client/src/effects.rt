@@ -1,5 +1,5 @@
 //! What a line changes, told.
-ghost use Rattle.std.specs.Prelude.{◌≡◌, ℕ, ◌+◌, ◌⊎◌, List, [], ◌++◌, true, false, None, Ok, Err, IfOk, IfErr, OnOk, IsTrue, codes};
+ghost use Rattle.std.specs.Prelude.{◌≡◌, ℕ, ◌+◌, ◌⊎◌, List, [], ◌++◌, true, false, None, Ok, Err, IfOk, IfErr, OnOk, IsTrue};
 ghost use Rattle.mt_skel.specs.Keyed.{rises};
 ghost use Rattle.mt_lines.specs.Reading.{failed_calls, last_faults, fault_of, limit_of};
 ghost use Rattle.mt_lines.specs.Lines.{Item};
@@ -11,15 +11,16 @@ ghost use Rattle.mt_client.specs.Calls.{ReadsOn, WritesOn, IsOut, IsTellFault, I
 ghost use Rattle.mt_client.specs.Awaited.{IsRefusedOr, IsSuchPost};
 ghost use Rattle.mt_client.specs.Finding.{mirror_space};
 ghost use Rattle.mt_client.specs.Telling.{is_due, IsStopped};
-ghost use Rattle.mt_client.specs.Effects.{effects_text, HasToldLines, HasToldClosed, HasEffects, IsRefusedOut, IsRefusedLine, IsRefusedEffect, IsToldShort, IsClosedShort, IsAnsweredShort, IsEffectShort};
-ghost use Rattle.mt_client.specs.Missing.{AreDueLines, IsClosing, IsMissing, IsMissingAnswer, IsMissingEffect, IsOnlyCounted};
+ghost use Rattle.mt_client.specs.Effects.{taking_text, effects_text, HasToldLines, HasToldTaken, HasEffects, IsRefusedOut, IsRefusedLine, IsRefusedEffect, IsToldShort, IsTakenShort, IsAnsweredShort, IsEffectShort};
+ghost use Rattle.mt_client.specs.Missing.{AreDueLines, IsWaiting, IsMissing, IsMissingAnswer, IsMissingEffect, IsOnlyCounted};
 ghost use Rattle.mt_events.specs.declared.opening.Scope.TheVariants.{All};
 
-use crate::answer::{is_refusal, lines_behind};
+use crate::answer::{is_refusal, waiting_count};
 use crate::fault::ClientFault;
 use crate::named::NamedTelling;
 use crate::posts::{lines_of_event, read_posted};
 use crate::relay::{next_text, pass_answer, print_line};
+use crate::request::ended_line;
 use crate::sending::send_request;
 use crate::telling::tell_due;
 use crate::watch::watch;
@@ -27,7 +28,7 @@ use mt_events::mirror::Mirror;
 use mt_events::opening::Scope;
 use mt_lines::line::LineReader;
 use mt_lines::stream::{Input, Output};
-use mt_protocol::form::{Form, form_of};
+use mt_protocol::form::form_of;
 use std::alloc::Global;
 
 /// Tells the next post: how many lines stood behind its first one.
@@ -90,8 +91,8 @@ fn tell_lines<R: Input + Drop, O: Output>(
     Ok(())
 }
 
-/// Reads the answer of a watcher that is closed, and tells its posts: false where it is a refusal, which is printed.
-fn tell_closed<R: Input + Drop, O: Output>(
+/// Reads the answer to the request for the posts that wait, and tells them: false where it is a refusal, which is printed.
+fn tell_taken<R: Input + Drop, O: Output>(
     alloc: Global,
     lines: &mut LineReader<R>,
     named: &NamedTelling<'_>,
@@ -101,28 +102,28 @@ fn tell_closed<R: Input + Drop, O: Output>(
     requires fresh { fault_of lines.old ≡ None }
     requires rising { IsTrue (rises mirror_space mirrors.old.items) }
     ensures told { result ≡ Ok true → IsTrue R.tells → IsTrue O.tells
-        → HasToldClosed named.now mirrors.old.items (lines_left lines.old) (lines_left lines.new) (O.written out.old) (O.written out.new) }
+        → HasToldTaken named.now mirrors.old.items (lines_left lines.old) (lines_left lines.new) (O.written out.old) (O.written out.new) }
     ensures refused { result ≡ Ok false → IsTrue R.tells → IsTrue O.tells
         → IsRefusedOut (lines_left lines.old) (lines_left lines.new) (O.written out.old) (O.written out.new) }
     ensures broken { IsTrue R.tells → IsTrue O.tells → IfErr result
-        (λ fault. IsClosedShort named.now fault mirrors.old.items (lines_left lines.old) (O.written out.old) (O.written out.new)) }
+        (λ fault. IsTakenShort named.now fault mirrors.old.items (lines_left lines.old) (O.written out.old) (O.written out.new)) }
     ensures on { OnOk result (ReadsOn lines.old lines.new) }
     ensures prints { OnOk result (WritesOn O.Output out.old out.new) }
-    ensures fault { IfErr result (λ fault. IsTellFault O.Output fault (IsRefusedOr (IsClosing mirrors.old.items)) lines.old lines.new out.old out.new) }
+    ensures fault { IfErr result (λ fault. IsTellFault O.Output fault (IsRefusedOr (IsWaiting mirrors.old.items)) lines.old lines.new out.old out.new) }
 {
     next_text(lines)?;
     if is_refusal(lines.line()) {
         print_line(out, lines.line())?;
         return Ok(false);
     }
-    let Some(count) = lines_behind(Form::Posts, true, lines.line()) else {
+    let Some(count) = waiting_count(lines.line()) else {
         return Err(ClientFault::Connection);
     };
     tell_lines(alloc, lines, count, named, mirrors, out)?;
     Ok(true)
 }
 
-/// Closes the watcher, and tells the posts that it had: false where a refusal was printed.
+/// Takes the posts that wait, and tells them: false where a refusal was printed.
 fn tell_changes<R: Input + Drop, W: Output, O: Output>(
     alloc: Global,
     lines: &mut LineReader<R>,
@@ -134,26 +135,25 @@ fn tell_changes<R: Input + Drop, W: Output, O: Output>(
     requires fresh { fault_of lines.old ≡ None }
     requires rising { IsTrue (rises mirror_space mirrors.old.items) }
     ensures told { result ≡ Ok true → IsTrue R.tells → IsTrue O.tells
-        → HasToldClosed named.now mirrors.old.items (lines_left lines.old) (lines_left lines.new) (O.written out.old) (O.written out.new) }
+        → HasToldTaken named.now mirrors.old.items (lines_left lines.old) (lines_left lines.new) (O.written out.old) (O.written out.new) }
     ensures part { IsTrue W.tells
-        → IsSentPart (ended (codes "close")) (W.written writer.old) (W.written writer.new) }
+        → IsSentPart (ended taking_text) (W.written writer.old) (W.written writer.new) }
     ensures refused { result ≡ Ok false → IsTrue R.tells → IsTrue O.tells
         → IsRefusedOut (lines_left lines.old) (lines_left lines.new) (O.written out.old) (O.written out.new) }
     ensures broken { IsTrue R.tells → IsTrue O.tells → IfErr result
-        (λ fault. IsClosedShort named.now fault mirrors.old.items (lines_left lines.old) (O.written out.old) (O.written out.new)) }
-    ensures sent { result ≡ Ok true → IsOut W.Output (ended (codes "close")) writer.old writer.new }
+        (λ fault. IsTakenShort named.now fault mirrors.old.items (lines_left lines.old) (O.written out.old) (O.written out.new)) }
+    ensures sent { result ≡ Ok true → IsOut W.Output (ended taking_text) writer.old writer.new }
     ensures on { OnOk result (ReadsOn lines.old lines.new) }
     ensures prints { OnOk result (WritesOn O.Output out.old out.new) }
-    ensures fault { IfErr result (λ fault. IsEffectFault W.Output O.Output fault (λ unsent. IsMissing unsent (IsRefusedOr (IsClosing mirrors.old.items)) (lines_left lines.old)) lines.old lines.new writer.old writer.new out.old out.new) }
+    ensures fault { IfErr result (λ fault. IsEffectFault W.Output O.Output fault (λ unsent. IsMissing unsent (IsRefusedOr (IsWaiting mirrors.old.items)) (lines_left lines.old)) lines.old lines.new writer.old writer.new out.old out.new) }
 {
-    if !send_request(lines, writer, b"close", out)? {
+    if !send_request(lines, writer, b"take 1024\n", out)? {
         return Ok(false);
     }
-    tell_closed(alloc, lines, named, mirrors, out)
+    tell_taken(alloc, lines, named, mirrors, out)
 }
 
-/// Sends a line and prints its answer, closes the watcher, and tells the posts that it had: false where a refusal was
-/// printed.
+/// Sends a line and prints its answer, takes the posts that wait, and tells them: false where a refusal was printed.
 fn tell_answered<R: Input + Drop, W: Output, O: Output>(
     alloc: Global,
     lines: &mut LineReader<R>,
@@ -167,19 +167,20 @@ fn tell_answered<R: Input + Drop, W: Output, O: Output>(
     requires rising { IsTrue (rises mirror_space mirrors.old.items) }
     ensures told { result ≡ Ok true → IsTrue R.tells → IsTrue O.tells → (answered : List Item) × (between : List ℕ)
         × HasPassed (λ all. IsAnswer (form_of line.now) all true) (lines_left lines.old) answered (O.written out.old) between
-        × HasToldClosed named.now mirrors.old.items answered (lines_left lines.new) between (O.written out.new) }
+        × HasToldTaken named.now mirrors.old.items answered (lines_left lines.new) between (O.written out.new) }
     ensures refused { result ≡ Ok false → IsTrue R.tells → IsTrue O.tells
         → IsRefusedLine line.now (lines_left lines.old) (lines_left lines.new) (O.written out.old) (O.written out.new) }
     ensures broken { IsTrue R.tells → IsTrue O.tells → IfErr result
         (λ fault. IsAnsweredShort named.now fault line.now mirrors.old.items (lines_left lines.old) (O.written out.old) (O.written out.new)) }
-    ensures sent { result ≡ Ok true → IsOut W.Output (ended line.now ++ ended (codes "close")) writer.old writer.new }
+    ensures sent { result ≡ Ok true → IsOut W.Output (ended line.now ++ ended taking_text) writer.old writer.new }
     ensures part { IsTrue W.tells
-        → IsSentPart (ended line.now ++ ended (codes "close")) (W.written writer.old) (W.written writer.new) }
+        → IsSentPart (ended line.now ++ ended taking_text) (W.written writer.old) (W.written writer.new) }
     ensures on { OnOk result (ReadsOn lines.old lines.new) }
     ensures prints { OnOk result (WritesOn O.Output out.old out.new) }
     ensures fault { IfErr result (λ fault. IsEffectFault W.Output O.Output fault (λ unsent. IsMissingAnswer unsent line.now mirrors.old.items (lines_left lines.old)) lines.old lines.new writer.old writer.new out.old out.new) }
 {
-    if !send_request(lines, writer, line, out)? {
+    let request = ended_line(alloc, line)?;
+    if !send_request(lines, writer, request.as_slice(), out)? {
         return Ok(false);
     }
     if !pass_answer(alloc, lines, form_of(line), out)? {
@@ -189,7 +190,8 @@ fn tell_answered<R: Input + Drop, W: Output, O: Output>(
 }
 
 /// Watches all namespaces, sends a line and prints its answer, and then tells what has changed since, in this manner: each
-/// post that the watcher had when it was closed.
+/// post that waits then, up to 1,024, which is more than a line has. The watcher stays, and says by `take` whether it has
+/// lost some of them.
 ///
 /// The reader has met no fault, and serves what comes over the connection. The line is none that is about its session, as
 /// `close` and `quit`. What the watcher found is read and not printed; a namespace that comes later begins with the empty
@@ -211,7 +213,7 @@ pub fn tell_effects<R: Input + Drop, W: Output, O: Output>(
     requires fresh { fault_of lines.old ≡ None }
 
     // The lines that were read are what a watcher of all namespaces finds, a whole answer to the line, which was printed,
-    // and the posts that the watcher had, which were told.
+    // and the posts that waited behind it, which were told.
     ensures told { result ≡ Ok true → IsTrue R.tells → IsTrue O.tells
         → HasEffects named.now line.now (lines_left lines.old) (lines_left lines.new) (O.written out.old) (O.written out.new) }
 
@@ -226,16 +228,16 @@ pub fn tell_effects<R: Input + Drop, W: Output, O: Output>(
     ensures broken { IsTrue R.tells → IsTrue O.tells → IfErr result
         (λ fault. IsEffectShort named.now fault line.now (lines_left lines.old) (O.written out.old) (O.written out.new)) }
 
-    // The request of the watcher went out, then the line, and then the end of the watcher; or a part of these, and
-    // nothing else.
+    // The request of the watcher went out, then the line, and then that for the posts; or a part of these, and nothing
+    // else.
     ensures sent { result ≡ Ok true → IsTrue W.tells
         → W.written writer.new ≡ W.written writer.old ++ effects_text line.now }
     ensures part { IsTrue W.tells
         → IsSentPart (effects_text line.now) (W.written writer.old) (W.written writer.new) }
 
     // `Connection` only where calls of the reader failed, or the lines do not begin with what a watcher of all namespaces
-    // finds, or behind that with an answer to the line, or behind that with the posts of a watcher that is closed, nor with a
-    // refusal in the place of one of these; or where calls of the writer failed, and no refusal comes there.
+    // finds, or behind that with an answer to the line, or behind that with the posts that wait, nor with a refusal in the
+    // place of one of these; or where calls of the writer failed, and no refusal comes there.
     ensures connection { result ≡ Err ClientFault.Connection → IsTrue R.tells → IsTrue R.counts → IsTrue W.counts
         → HasBroken (failed_calls lines.old) (failed_calls lines.new) (last_faults lines.old) (last_faults lines.new)
         ⊎ IsMissingEffect (HasBroken (W.failed writer.old) (W.failed writer.new) (W.faults writer.old) (W.faults writer.new)) line.now (lines_left lines.old) }

@@ -12,6 +12,7 @@ pub mod ask;
 mod block;
 pub mod effects;
 pub mod fault;
+pub mod laws;
 pub mod mirror;
 mod mirrors;
 pub mod named;

@@ -1,13 +1,16 @@
 //! The lines of what a watcher found.
-ghost use Rattle.std.specs.Prelude.{◌≡◌, ◌≢◌, ℕ, ◌<◌, ◌^◌, [], ◌∷◌, map, length, None, IfOk, IfErr, IfSome, MatchOption};
+ghost use Rattle.std.specs.Prelude.{◌≡◌, ◌≢◌, ℕ, ◌<◌, ◌≤◌, ◌^◌, [], ◌∷◌, map, length, true, None, Err, IfOk, IfErr, IfSome, IsTrue, MatchBool, MatchOption};
 ghost use Rattle.std.specs.List.{join_with_byte, AllByRecursion};
+ghost use Rattle.mt_skel.specs.Keyed.{rises};
+ghost use Rattle.mt_skel.specs.Rising.{is_above};
 ghost use Rattle.mt_lines.specs.Reading.{fault_of};
 ghost use Rattle.mt_info.specs.Laws.{IsRow};
 ghost use Rattle.mt_info.specs.RowLine.{line};
+ghost use Rattle.mt_info.specs.Table.{row_id};
 ghost use Rattle.mt_client.specs.Reading.{lines_left};
 ghost use Rattle.mt_client.specs.Calls.{AreRead, IsReadFault};
 ghost use Rattle.mt_client.specs.Mirroring.{counted_line, heading_words};
-ghost use Rattle.mt_client.specs.Awaited.{IsRowLine, AreRowLines};
+ghost use Rattle.mt_client.specs.Awaited.{IsRowAbove, AreRowLines};
 
 use crate::fault::ClientFault;
 use crate::relay::next_text;
@@ -16,9 +19,23 @@ use mt_info::row::Row;
 use mt_lines::line::LineReader;
 use mt_lines::stream::Input;
 use mt_lines::words::{Words, number, words};
-use mt_mounts::mount::SpaceId;
+use mt_mounts::mount::{MountId, SpaceId};
 use mt_skel::fault::Fault;
+use mt_skel::list::is_above;
 use std::alloc::Global;
+
+/// How many rows all namespaces have at most.
+pub(crate) const MOST_ROWS: u64 = 4_096;
+
+/// How many lines an opening has at most behind its first one: these rows, and one line for each of 64 namespaces.
+pub(crate) const MOST_LINES: u64 = 4_160;
+
+/// Whether a line says more of something than a server has.
+pub(crate) fn is_beyond(count: u64, most: u64) -> bool
+    ensures { MatchBool result (most < count) (count ≤ most) }
+{
+    count > most
+}
 
 /// What the first line of a namespace says.
 #[derive(Clone, Copy)]
@@ -74,25 +91,58 @@ pub(crate) fn read_heading(line: &[u8]) -> Option<Heading>
     read_heading_words(&mut words)
 }
 
-/// The row that the next line says.
-fn read_row_line<R: Input + Drop>(
-    alloc: Global,
-    lines: &mut LineReader<R>,
-) -> Result<Row, ClientFault>
-    requires fresh { fault_of lines.old ≡ None }
-    ensures row { IfOk result (λ row. AreRead (line row ∷ []) lines.old lines.new) }
+/// The row of which a text is the line: refused as `Connection` where it is none, and else as `NoMemory`.
+fn row_said(alloc: Global, text: &[u8]) -> Result<Row, ClientFault>
+    ensures row { IfOk result (λ row. text.now ≡ line row) }
     ensures valid { IfOk result (λ row. IsRow row) }
-    ensures fault { IfErr result (λ fault. IsReadFault fault IsRowLine (lines_left lines.old) lines.old lines.new) }
+    ensures refused { result ≡ Err ClientFault.Connection → (row : Row) → IsRow row → text.now ≢ line row }
+    ensures kind { result ≢ Err ClientFault.Output }
 {
-    next_text(lines)?;
-    match read_row(alloc, lines.line()) {
+    match read_row(alloc, text) {
         Ok(row) => Ok(row),
         Err(Fault::NoMemory) => Err(ClientFault::NoMemory),
         Err(_) => Err(ClientFault::Connection),
     }
 }
 
-/// The rows that so many lines say.
+/// The row of which a text is the line, where its ID is above the last one: refused as `Connection` where it is none such,
+/// and else as `NoMemory`.
+pub(crate) fn row_above(
+    alloc: Global,
+    text: &[u8],
+    last: Option<MountId>,
+) -> Result<Row, ClientFault>
+    ensures row { IfOk result (λ row. text.now ≡ line row) }
+    ensures valid { IfOk result (λ row. IsRow row) }
+    ensures above { IfOk result (λ row. is_above last row.id ≡ true) }
+    ensures refused { result ≡ Err ClientFault.Connection → (row : Row) → IsRow row → is_above last row.id ≡ true → text.now ≢ line row }
+    ensures kind { result ≢ Err ClientFault.Output }
+{
+    let row = row_said(alloc, text)?;
+    if is_above(last, row.id) {
+        Ok(row)
+    } else {
+        Err(ClientFault::Connection)
+    }
+}
+
+/// The row that the next line says, with an ID above the last one.
+fn read_row_line<R: Input + Drop>(
+    alloc: Global,
+    lines: &mut LineReader<R>,
+    last: Option<MountId>,
+) -> Result<Row, ClientFault>
+    requires fresh { fault_of lines.old ≡ None }
+    ensures row { IfOk result (λ row. AreRead (line row ∷ []) lines.old lines.new) }
+    ensures valid { IfOk result (λ row. IsRow row) }
+    ensures above { IfOk result (λ row. is_above last row.id ≡ true) }
+    ensures fault { IfErr result (λ fault. IsReadFault fault (IsRowAbove last) (lines_left lines.old) lines.old lines.new) }
+{
+    next_text(lines)?;
+    row_above(alloc, lines.line(), last)
+}
+
+/// The rows that so many lines say, by rising ID.
 pub(crate) fn read_rows<R: Input + Drop>(
     alloc: Global,
     lines: &mut LineReader<R>,
@@ -102,11 +152,15 @@ pub(crate) fn read_rows<R: Input + Drop>(
     ensures rows { IfOk result (λ rows. AreRead (map line rows.items) lines.old lines.new) }
     ensures many { IfOk result (λ rows. length rows.items ≡ count) }
     ensures valid { IfOk result (λ rows. AllByRecursion IsRow rows.items) }
+    ensures rising { IfOk result (λ rows. IsTrue (rises row_id rows.items)) }
     ensures fault { IfErr result (λ fault. IsReadFault fault (AreRowLines count) (lines_left lines.old) lines.old lines.new) }
 {
     let mut rows = Vec::new(alloc);
+    let mut last = None;
     'rows: for _row in 0..count {
-        rows.push(read_row_line(alloc, lines)?)?;
+        let row = read_row_line(alloc, lines, last)?;
+        last = Some(row.id);
+        rows.push(row)?;
     }
     Ok(rows)
 }

@@ -11,7 +11,7 @@ ghost use Rattle.mt_client.specs.Finding.{mirror_space, parts_lines, AreOf, HasF
 
 use crate::answer::is_refusal;
 use crate::fault::ClientFault;
-use crate::opening::{read_count, read_heading, read_rows};
+use crate::opening::{MOST_LINES, MOST_ROWS, is_beyond, read_count, read_heading, read_rows};
 use crate::relay::next_text;
 use mt_events::mirror::Mirror;
 use mt_events::opening::Scope;
@@ -41,11 +41,11 @@ fn read_next<R: Input + Drop>(
     if heading.count >= left {
         return Err(ClientFault::Connection);
     }
-    let rows = read_rows(alloc, lines, heading.count)?;
-    match Table::from_rows(rows) {
-        Some(table) => Ok(Mirror::new(heading.space, heading.number, table)),
-        None => Err(ClientFault::Connection),
+    if is_beyond(heading.count, MOST_ROWS) {
+        return Err(ClientFault::Connection);
     }
+    let rows = read_rows(alloc, lines, heading.count)?;
+    Ok(Mirror::new(heading.space, heading.number, Table::new(rows)))
 }
 
 /// The namespaces that so many lines show.
@@ -127,6 +127,9 @@ pub(crate) fn read_found<R: Input + Drop>(
     let Some(count) = read_count(lines.line()) else {
         return Err(ClientFault::Connection);
     };
+    if is_beyond(count, MOST_LINES) {
+        return Err(ClientFault::Connection);
+    }
     let parts = read_parts(alloc, lines, count)?;
     if are_of(scope, parts.as_slice()) {
         Ok(Some(parts))

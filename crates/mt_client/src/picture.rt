@@ -73,8 +73,6 @@ pub fn draw<R: Input + Drop, W: Output, O: Output>(
     // The request went out, or calls of the writer failed, and then a part of it did; and nothing else.
     ensures sent { result ≡ Ok true → IsTrue W.tells
         → W.written writer.new ≡ W.written writer.old ++ ended (watch_text scope) }
-    ensures unsent { result ≡ Ok false → IsTrue W.tells → IsTrue W.counts
-        → (W.written writer.new ≡ W.written writer.old ++ ended (watch_text scope)) ⊎ HasBroken (W.failed writer.old) (W.failed writer.new) (W.faults writer.old) (W.faults writer.new) }
     ensures part { IsTrue W.tells
         → IsSentPart (ended (watch_text scope)) (W.written writer.old) (W.written writer.new) }
 

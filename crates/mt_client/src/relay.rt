@@ -10,9 +10,8 @@ use crate::answer::{is_refusal, lines_behind, verdict};
 use crate::block::{pass_behind, pass_post};
 use crate::fault::ClientFault;
 use crate::mirror::is_end;
-use crate::request::send_line;
 use mt_lines::line::{Line, LineReader, ReadFault};
-use mt_lines::stream::{Input, Output, send};
+use mt_lines::stream::{Cut, Input, Output, send};
 use mt_protocol::form::Form;
 use std::alloc::Global;
 
@@ -67,6 +66,16 @@ pub(crate) fn print<O: Output>(out: &mut O, text: &[u8]) -> Result<(), ClientFau
         Ok(()) => Ok(()),
         Err(_) => Err(ClientFault::Output),
     }
+}
+
+/// Sends a line and its line end. After a cut, a part of them went out, and not all.
+fn send_line<W: Output>(writer: &mut W, line: &[u8]) -> Result<(), Cut>
+    ensures out { OnOk result (IsOut W.Output (ended line.now) writer.old writer.new) }
+    ensures part { OnErr result (IsOutInPart W.Output (ended line.now) writer.old writer.new) }
+{
+    send(writer, line)?;
+    send(writer, b"\n")?;
+    Ok(())
 }
 
 /// Prints a line and its line end.

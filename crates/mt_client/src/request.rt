@@ -1,13 +1,11 @@
-//! The lines of requests, and sending them.
-ghost use Rattle.std.specs.Prelude.{◌≡◌, ◌++◌, ◌∷◌, map, IfOk, OnOk, OnErr};
+//! The lines of requests.
+ghost use Rattle.std.specs.Prelude.{◌≡◌, ◌++◌, ◌∷◌, map, IfOk, OnOk};
 ghost use Rattle.std.specs.List.{flat_map};
 ghost use Rattle.mt_skel.specs.Escapes.{escaped};
 ghost use Rattle.mt_events.specs.Posts.{ended};
 ghost use Rattle.mt_client.specs.Requests.{request_text, numbered_text};
-ghost use Rattle.mt_client.specs.Calls.{IsOut, IsOutInPart};
 
 use mt_info::print::push_number;
-use mt_lines::stream::{Cut, Output, send};
 use mt_skel::escape::push_escaped;
 use std::alloc::{AllocError, Global};
 
@@ -44,27 +42,28 @@ pub fn request_line(alloc: Global, words: &[&[u8]]) -> Result<Vec<u8>, AllocErro
     Ok(line)
 }
 
-/// The line of a request that is a word and a number, without its line end. Fails for want of memory alone.
+/// The line of a request that is a word and a number, with its line end. Fails for want of memory alone.
 pub(crate) fn numbered_line(
     alloc: Global,
     command: &[u8],
     number: u64,
 ) -> Result<Vec<u8>, AllocError>
-    ensures { IfOk result (λ line. line.items ≡ numbered_text command.now number) }
+    ensures { IfOk result (λ line. line.items ≡ ended (numbered_text command.now number)) }
 {
     let mut line = Vec::new(alloc);
     line.extend_from_slice(command)?;
     line.extend_from_slice(b" ")?;
     push_number(&mut line, number)?;
+    line.extend_from_slice(b"\n")?;
     Ok(line)
 }
 
-/// Sends a line and its line end. After a cut, a part of them went out, and not all.
-pub(crate) fn send_line<W: Output>(writer: &mut W, line: &[u8]) -> Result<(), Cut>
-    ensures out { OnOk result (IsOut W.Output (ended line.now) writer.old writer.new) }
-    ensures part { OnErr result (IsOutInPart W.Output (ended line.now) writer.old writer.new) }
+/// A line with its line end. Fails for want of memory alone.
+pub(crate) fn ended_line(alloc: Global, line: &[u8]) -> Result<Vec<u8>, AllocError>
+    ensures { IfOk result (λ text. text.items ≡ ended line.now) }
 {
-    send(writer, line)?;
-    send(writer, b"\n")?;
-    Ok(())
+    let mut text = Vec::new(alloc);
+    text.extend_from_slice(line)?;
+    text.extend_from_slice(b"\n")?;
+    Ok(text)
 }

@@ -4,17 +4,15 @@
 //! cannot send its request any more, but it can still read why.
 ghost use Rattle.std.specs.Prelude.{◌≡◌, ◌≢◌, [], true, false, None, Ok, Err, IfErr, OnOk, OnErr, IsTrue};
 ghost use Rattle.mt_lines.specs.Reading.{fault_of};
-ghost use Rattle.mt_events.specs.Posts.{ended};
 ghost use Rattle.mt_client.specs.Reading.{HasBroken, IsSentPart};
-ghost use Rattle.mt_client.specs.Calls.{ReadsOn, WritesOn, IsOut, IsPassFault, PassesRefusal};
+ghost use Rattle.mt_client.specs.Calls.{ReadsOn, WritesOn, IsOut, IsOutInPart, IsPassFault, PassesRefusal};
 ghost use Rattle.mt_client.specs.Awaited.{IsOneRefusal};
 
 use crate::answer::is_refusal;
 use crate::fault::ClientFault;
 use crate::relay::{next_text, print_line};
-use crate::request::send_line;
 use mt_lines::line::LineReader;
-use mt_lines::stream::{Input, Output};
+use mt_lines::stream::{Cut, Input, Output, send};
 
 /// Reads a line that is a refusal, and prints it.
 fn pass_refusal<R: Input + Drop, O: Output>(
@@ -34,18 +32,26 @@ fn pass_refusal<R: Input + Drop, O: Output>(
     print_line(out, lines.line())
 }
 
-/// Sends the line of a request and its line end: true where all of it went out. Where it does not go out, a refusal
-/// that was sent before is read and printed: false then.
+/// Sends a text. After a cut, a part of it went out, and not all.
+fn send_whole<W: Output>(writer: &mut W, text: &[u8]) -> Result<(), Cut>
+    ensures out { OnOk result (IsOut W.Output text.now writer.old writer.new) }
+    ensures part { OnErr result (IsOutInPart W.Output text.now writer.old writer.new) }
+{
+    send(writer, text)
+}
+
+/// Sends a request, which is a line with its line end, in one call of the writer if that takes all of it: true where it
+/// went out whole. Where it does not, a refusal that was sent before is read and printed: false then.
 pub(crate) fn send_request<R: Input + Drop, W: Output, O: Output>(
     lines: &mut LineReader<R>,
     writer: &mut W,
-    line: &[u8],
+    request: &[u8],
     out: &mut O,
 ) -> Result<bool, ClientFault>
     requires fresh { fault_of lines.old ≡ None }
-    ensures sent { result ≡ Ok true → IsOut W.Output (ended line.now) writer.old writer.new }
+    ensures sent { result ≡ Ok true → IsOut W.Output request.now writer.old writer.new }
     ensures part { IsTrue W.tells
-        → IsSentPart (ended line.now) (W.written writer.old) (W.written writer.new) }
+        → IsSentPart request.now (W.written writer.old) (W.written writer.new) }
     // Nothing was read or printed where the request went out, and else a refusal was.
     ensures unread { result ≡ Ok true → lines.new ≡ lines.old }
     ensures unprinted { result ≡ Ok true → out.new ≡ out.old }
@@ -59,7 +65,7 @@ pub(crate) fn send_request<R: Input + Drop, W: Output, O: Output>(
     ensures kept { OnErr result (result ≢ Err ClientFault.Output → IsTrue O.tells
         → O.written out.new ≡ O.written out.old) }
 {
-    if send_line(writer, line).is_ok() {
+    if send_whole(writer, request).is_ok() {
         return Ok(true);
     }
     pass_refusal(lines, out)?;

@@ -19,15 +19,15 @@ use mt_lines::line::LineReader;
 use mt_lines::stream::{Input, Output};
 use std::alloc::{AllocError, Global};
 
-/// The line of the request of a watcher, without its line end. Fails for want of memory alone.
+/// The line of the request of a watcher, with its line end. Fails for want of memory alone.
 fn watch_line(alloc: Global, scope: Scope) -> Result<Vec<u8>, AllocError>
-    ensures { IfOk result (λ line. line.items ≡ watch_text scope) }
+    ensures { IfOk result (λ line. line.items ≡ ended (watch_text scope)) }
 {
     match scope {
         Scope::One(space) => numbered_line(alloc, b"watch", space),
         Scope::All => {
             let mut line = Vec::new(alloc);
-            line.extend_from_slice(b"watch all")?;
+            line.extend_from_slice(b"watch all\n")?;
             Ok(line)
         }
     }

@@ -1,5 +1,5 @@
 -- No object of a mount has a float, so that each has one text.
-use Rattle.std.proofs.Common.{◌≡◌, ℕ, zero, suc, List, [], ◌∷◌, ◌++◌, map, length, codes, decimal, false, Option, Some, None, Ordering, Less, Equal, Greater, nat_cmp, refl}
+use Rattle.std.proofs.Common.{◌≡◌, ℕ, zero, suc, List, [], ◌∷◌, ◌++◌, map, codes, decimal, false, Option, Some, None, Ordering, Less, Equal, Greater, nat_cmp, refl}
 use Rattle.std.proofs.lemmas.Bool.{or_parts}
 use Rattle.std.specs.Cmp.Lexicographic.{slice_cmp}
 use Rattle.std.specs.List.{filter, join_with_byte}
@@ -9,9 +9,9 @@ use Rattle.serde_json.specs.View.{items_of}
 use Rattle.serde_json.specs.Written.{has_float, items_have_float, members_have_float}
 use Rattle.mt_info.specs.declared.row.Row.{Row}
 use Rattle.mt_info.specs.RowLine.{option_words}
-use Rattle.mt_render.specs.Forest.{BranchView, is_top, child_rows, strays}
+use Rattle.mt_render.specs.Forest.{BranchView, is_top, child_rows, tree, strays}
 use Rattle.mt_render.specs.Members.{text_data, number_data, path_bytes, source_bytes, kinds_text, with_standing, with_shown, with_kinds, with_group, with_groups, with_mount}
-use Rattle.mt_render.specs.Objects.{with_children, node_with, flat_node, node, tree_nodes, listing}
+use Rattle.mt_render.specs.Objects.{with_children, node_with, flat_node, node, most_generations, is_deep, tree_nodes, listing}
 
 put_free_at : (o : Ordering) (k l : List ℕ) (d e : Data) (ms : Members) → has_float d ≡ false → has_float e ≡ false → members_have_float ms ≡ false → members_have_float (put k d ms) ≡ false
     → members_have_float (match_ordering o (member k d (member l e ms)) (member l d ms) (member l e (put k d ms))) ≡ false
@@ -95,10 +95,13 @@ flat_listing_free n rows = listing_free n (map flat_node rows) (all_free flat_no
 
 pub nested_listing_free : (n : ℕ) (rows : List Row) → has_float (object (listing n (tree_nodes rows))) ≡ false
 nested_listing_free n rows =
-    let tops = map (node rows (length rows)) (filter (is_top rows) rows) in
-    let others = map (λ (b : BranchView). flat_node b.row) (strays rows) in
-    listing_free n (tops ++ others)
-    (both_free tops others (all_free (node rows (length rows)) (node_free rows (length rows)) (filter (is_top rows) rows)) (all_free (λ (b : BranchView). flat_node b.row) (λ b. flat_free b.row) (strays rows)))
+    let tops = map (node rows most_generations) (filter (is_top rows) rows) in
+    let flat = λ (b : BranchView). flat_node b.row in
+    let deep = map flat (filter is_deep (tree rows)) in
+    let others = map flat (strays rows) in
+    listing_free n (tops ++ (deep ++ others))
+    (both_free tops (deep ++ others) (all_free (node rows most_generations) (node_free rows most_generations) (filter (is_top rows) rows))
+    (both_free deep others (all_free flat (λ b. flat_free b.row) (filter is_deep (tree rows))) (all_free flat (λ b. flat_free b.row) (strays rows))))
 
 pub place_listing_free : (n : ℕ) (directory : List ℕ) (r : Row) → has_float (object (put (codes "directory") (text_data directory) (listing n (flat_node r ∷ [])))) ≡ false
 place_listing_free n directory r = put_free (codes "directory") (text_data directory) (listing n (flat_node r ∷ [])) refl (flat_listing_free n (r ∷ []))

@@ -1,6 +1,6 @@
--- Columns of text: cells with spaces behind them up to the widest one of their column (the form: findmnt(8)).
+-- Columns of text: cells with spaces behind them up to the widest one of their column, which is at most 60 wide (the form: findmnt(8)).
 -- A word with no source is this project's rule.
-use Rattle.std.specs.Prelude.{ℕ, ◌-◌, max, List, ◌++◌, replicate, codes, refl}
+use Rattle.std.specs.Prelude.{ℕ, ◌-◌, max, min, List, ◌++◌, replicate, codes, refl}
 use Rattle.std.specs.Coded.{Coded, code_by, coded×, coded_ℕ, coded_list}
 use Rattle.mt_terminal.specs.Terminal.{cells_of_text}
 use Rattle.mt_render.specs.declared.columns.Widths.{Widths}
@@ -25,17 +25,25 @@ cells_code =
 abbrev pub no_widths : Widths
 no_widths = record { id = 0; target = 0; source = 0; kind = 0; options = 0 }
 
--- columns that are wide enough for these cells too
+-- how wide a column is at most
+abbrev pub most_width : ℕ
+most_width = 60
+
+-- how wide a column is for a cell
+abbrev pub width_for : List ℕ → ℕ
+width_for cell = min (cells_of_text cell) most_width
+
+-- columns that are wide enough for these cells too, as far as a column may be
 abbrev pub widened : Widths → CellsView → Widths
 widened w c = record {
-  id = max w.id (cells_of_text c.id);
-  target = max w.target (cells_of_text c.target);
-  source = max w.source (cells_of_text c.source);
-  kind = max w.kind (cells_of_text c.kind);
-  options = max w.options (cells_of_text c.options);
+  id = max w.id (width_for c.id);
+  target = max w.target (width_for c.target);
+  source = max w.source (width_for c.source);
+  kind = max w.kind (width_for c.kind);
+  options = max w.options (width_for c.options);
 }
 
--- a cell that others follow: spaces up to the width of its column, and one more
+-- a cell that others follow: spaces up to the width of its column, and one more; one that is wider pushes them to the right
 abbrev pub padded : ℕ → List ℕ → List ℕ
 padded w cell = cell ++ (replicate (w - cells_of_text cell) 32 ++ codes " ")
 

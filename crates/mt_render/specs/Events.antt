@@ -1,6 +1,6 @@
 -- Posts as JSON: an object a line for each mount (RFC 8259; the keys of a mount and the words mount, umount, move and remount: findmnt(8)).
 -- A word with no source is this project's rule.
-use Rattle.std.specs.Prelude.{ℕ, cond, List, [], ◌∷◌, ◌++◌, codes}
+use Rattle.std.specs.Prelude.{ℕ, Bool, ◌&&◌, ◌==◌, cond, List, [], ◌∷◌, ◌++◌, codes}
 use Rattle.std.specs.List.{flat_map}
 use Rattle.std.specs.Option.{option_map_or}
 use Rattle.serde_json.specs.Data.{object, Members, no_members, put}
@@ -37,9 +37,13 @@ left_event rows name n i = event_line (codes "umount") name n (left_members rows
 unfoldable pub new_event : List ℕ → ℕ → Row → List ℕ
 new_event name n r = event_line (codes "mount") name n (with_mount r no_members)
 
+-- a mount stands where it stood: at the same path, and on the same mount
+abbrev pub stands_as_before : Row → Row → Bool
+stands_as_before r s = path_eq r.point s.point && (r.parent == s.parent)
+
 -- what happened to a mount that was there before: it stands elsewhere, or else has other attributes, or else is not as it was
 abbrev pub change_event : Row → Row → List ℕ
-change_event r s = cond (path_eq r.point s.point) (cond (attrs_eq r.attrs s.attrs) (codes "change") (codes "remount")) (codes "move")
+change_event r s = cond (stands_as_before r s) (cond (attrs_eq r.attrs s.attrs) (codes "change") (codes "remount")) (codes "move")
 
 -- a mount that was there before, as it is, and as it was
 abbrev pub changed_members : Row → Row → Members

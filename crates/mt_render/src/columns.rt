@@ -1,7 +1,7 @@
-//! Columns: cells that are padded with spaces to the widest one below each other.
+//! Columns: cells that are padded with spaces to the widest one below each other, up to 60 cells of a line.
 ghost use Rattle.std.specs.Prelude.{◌≡◌, ◌++◌, OnOk, replicate};
 ghost use Rattle.std.specs.List.{fold, flat_map};
-ghost use Rattle.mt_render.specs.Columns.{no_widths, widened, padded, cells_line};
+ghost use Rattle.mt_render.specs.Columns.{no_widths, width_for, widened, padded, cells_line};
 
 use mt_terminal::terminal::cells_of_text;
 use std::alloc::AllocError;
@@ -36,6 +36,16 @@ pub(crate) struct Widths {
     source: usize,
     kind: usize,
     options: usize,
+}
+
+/// How wide a column is at most, in cells of a line: what is wider pushes the cells behind it to the right.
+const MOST_WIDTH: usize = 60;
+
+/// How wide a column is for a cell.
+fn width_for(cell: &[u8]) -> usize
+    ensures { result ≡ width_for cell.now }
+{
+    cells_of_text(cell).min(MOST_WIDTH)
 }
 
 /// Appends so many spaces.
@@ -80,16 +90,16 @@ impl Cells {
         }
     }
 
-    /// Columns that are wide enough for these cells too.
+    /// Columns that are wide enough for these cells too, as far as a column may be.
     fn widened(&self, widths: Widths) -> Widths
         ensures { result ≡ widened widths self.now }
     {
         Widths {
-            id: widths.id.max(cells_of_text(&self.id)),
-            target: widths.target.max(cells_of_text(&self.target)),
-            source: widths.source.max(cells_of_text(&self.source)),
-            kind: widths.kind.max(cells_of_text(&self.kind)),
-            options: widths.options.max(cells_of_text(&self.options)),
+            id: widths.id.max(width_for(&self.id)),
+            target: widths.target.max(width_for(&self.target)),
+            source: widths.source.max(width_for(&self.source)),
+            kind: widths.kind.max(width_for(&self.kind)),
+            options: widths.options.max(width_for(&self.options)),
         }
     }
 
@@ -123,7 +133,7 @@ impl Widths {
         }
     }
 
-    /// Columns that are wide enough for the cells of these lines too.
+    /// Columns that are wide enough for the cells of these lines too, as far as a column may be.
     pub(crate) fn widened(self, lines: &[Cells]) -> Widths
         ensures { result ≡ fold widened self lines.now }
     {

@@ -8,7 +8,7 @@ ghost use Rattle.mt_skel.specs.Keyed.{rises};
 ghost use Rattle.mt_info.specs.Table.{row_id};
 ghost use Rattle.mt_info.specs.SameRow.{atime_eq, attrs_eq, bool_eq};
 ghost use Rattle.mt_render.specs.Members.{number_data, with_mount};
-ghost use Rattle.mt_render.specs.Events.{with_name, event_line, left_members, left_event, new_event, change_event, changed_members, changed_event, row_event, post_events};
+ghost use Rattle.mt_render.specs.Events.{with_name, event_line, left_members, left_event, new_event, stands_as_before, change_event, changed_members, changed_event, row_event, post_events};
 
 use crate::members::{Members, put_number, put_row, put_text};
 use crate::objects::{flat_node, push_value};
@@ -134,11 +134,18 @@ fn are_same(left: Attrs, right: Attrs) -> bool
         && are_times_kept(left.atime, right.atime)
 }
 
+/// Whether a mount stands where it stood: at the same path, and on the same mount.
+fn stands_as_before(before: &Row, after: &Row) -> bool
+    ensures { result ≡ stands_as_before before.now after.now }
+{
+    before.point.is_same(&after.point) && before.parent == after.parent
+}
+
 /// What happened to a mount that was there before.
 fn change_event(before: &Row, after: &Row) -> &'static str
     ensures { result.now ≡ change_event before.now after.now }
 {
-    if !before.point.is_same(&after.point) {
+    if !stands_as_before(before, after) {
         "move"
     } else if !are_same(before.attrs, after.attrs) {
         "remount"

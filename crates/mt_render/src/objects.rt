@@ -1,12 +1,12 @@
 //! Tables and places as JSON, an object a line.
-ghost use Rattle.std.specs.Prelude.{◌≡◌, ◌++◌, false, map, length, OnOk, IfOk, IsTrue};
+ghost use Rattle.std.specs.Prelude.{◌≡◌, ◌++◌, false, map, OnOk, IfOk, IsTrue};
 ghost use Rattle.std.specs.List.{filter, flat_map};
 ghost use Rattle.serde_json.specs.View.{view, members_view};
 ghost use Rattle.serde_json.specs.Written.{has_float};
 ghost use Rattle.mt_skel.specs.Keyed.{rises};
 ghost use Rattle.mt_info.specs.Table.{row_id};
 ghost use Rattle.mt_render.specs.Forest.{is_top};
-ghost use Rattle.mt_render.specs.Objects.{value_line, with_children, node_with, flat_node, node, tree_nodes, listing, flat_line, nested_line, place_line};
+ghost use Rattle.mt_render.specs.Objects.{value_line, with_children, node_with, flat_node, node, most_generations, is_deep, tree_nodes, listing, flat_line, nested_line, place_line};
 
 use crate::forest::{Branch, is_child, is_top, strays, tree};
 use crate::members::{Members, put_number, put_row, put_text};
@@ -14,15 +14,20 @@ use mt_events::mirror::Mirror;
 use mt_info::row::Row;
 use mt_info::table::Table;
 use mt_mounts::mount::SpaceId;
+use mt_terminal::json::quoted_text;
 use serde_json::{Map, Value, push, put};
 use std::alloc::{AllocError, Global};
 
-/// A value as a line of its own.
+/// How many generations of mounts stand within each other below a top row, this project's rule. With what stands around
+/// them that is less than 256 objects and arrays within each other, which common readers take.
+const MOST_GENERATIONS: usize = 100;
+
+/// A value as a line of its own, with no character that a terminal obeys.
 pub(crate) fn value_line(alloc: Global, value: &Value) -> Result<Vec<u8>, AllocError>
     requires { has_float (view value.now) ≡ false }
     ensures { IfOk result (λ line. line.items ≡ value_line (view value.now)) }
 {
-    let mut line = value.to_vec(alloc)?;
+    let mut line = quoted_text(alloc, &value.to_vec(alloc)?)?;
     line.push(b'\n')?;
     Ok(line)
 }
@@ -82,18 +87,30 @@ fn node(alloc: Global, rows: &[Row], generations: usize, row: &Row) -> Result<Va
     node_with(alloc, row, children)
 }
 
-/// Each top row as an object with all below it.
+/// Each top row as an object, with so many generations below it as stand within each other.
 fn top_nodes(alloc: Global, rows: &[Row]) -> Result<Vec<Value>, AllocError>
     requires { IsTrue (rises row_id rows.now) }
-    ensures { IfOk result (λ values. map view values.items ≡ map (node rows.now (length rows.now)) (filter (is_top rows.now) rows.now)) }
+    ensures { IfOk result (λ values. map view values.items ≡ map (node rows.now most_generations) (filter (is_top rows.now) rows.now)) }
 {
     let mut values = Vec::new(alloc);
     'rows: for row in rows {
         if is_top(rows, row) {
-            push(&mut values, node(alloc, rows, rows.len(), row)?)?;
+            push(&mut values, node(alloc, rows, MOST_GENERATIONS, row)?)?;
         }
     }
     Ok(values)
+}
+
+/// Appends the objects of rows of trees that stand too deep to stand within their parents.
+fn push_deep(values: &mut Vec<Value>, alloc: Global, drawn: &[Branch<'_>]) -> Result<(), AllocError>
+    ensures { OnOk result (map view values.new.items ≡ map view values.old.items ++ map (λ b. flat_node b.row) (filter is_deep drawn.now)) }
+{
+    'drawn: for branch in drawn {
+        if branch.lasts().len() > MOST_GENERATIONS {
+            push(values, flat_node(alloc, branch.row())?)?;
+        }
+    }
+    Ok(())
 }
 
 /// Appends the objects of rows that are in no tree.
@@ -110,13 +127,14 @@ fn push_strays(
     Ok(())
 }
 
-/// The rows of a table as objects, each within its parent's.
+/// The rows of a table as objects, each within its parent's, but for those that stand too deep.
 fn tree_nodes(table: &Table) -> Result<Vec<Value>, AllocError>
     ensures { IfOk result (λ values. map view values.items ≡ tree_nodes table.now) }
 {
     let drawn = tree(table)?;
     let others = strays(table, &drawn)?;
     let mut values = top_nodes(table.allocator(), table.rows())?;
+    push_deep(&mut values, table.allocator(), &drawn)?;
     push_strays(&mut values, table.allocator(), &others)?;
     Ok(values)
 }

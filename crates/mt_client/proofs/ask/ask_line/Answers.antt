@@ -9,7 +9,7 @@ pub returns-then-not-branch-clause-answer : goal.returns-then-not-branch-clause-
 returns-then-not-branch-clause-answer g c t u = let p = c.send_request.ensures.passed (search rules) in refused_passed _ _ _ _ _ _ (refused_of p t) (p.out.went u)
 
 pub returns-in_err-send_request-clause-connection : goal.returns-in_err-send_request-clause-connection
-returns-in_err-send_request-clause-connection g c is t u v = inl (c.send_request.ensures.cause (search rules) v, c.in_err-send_request.ensures.fault.cut (same_fault _ _ _ c.from_residual.ensures.1 is) t u)
+returns-in_err-send_request-clause-connection g c is t u v = inl (c.send_request.ensures.cause (search rules) v, c.in_err-send_request.ensures.fault.cut (same_fault _ _ _ c.from_residual-in_err-send_request.ensures.1 is) t u)
 
 pub returns-clause-answer : goal.returns-clause-answer
 returns-clause-answer g c =

@@ -1,22 +1,21 @@
 use Rattle.std.proofs.Common.{Err, [], ◌∷◌, ap, sym}
-use Rattle.std.proofs.lemmas.Result.{IfErr-weaker, on_ok_weaker}
 use Rattle.mt_client.proofs.OpeningLaws.{first_taken, needs_line}
 use Rattle.mt_client.proofs.CallLaws.{line_text, handed_on, fault_as, fault_checked, passes_line, pass_unprinted, pass_fault_printing}
 use Rattle.mt_client.proofs.block.pass_row.Goals as goal
 
 pub returns-in_err-next_text-clause-fault : goal.returns-in_err-next_text-clause-fault
-returns-in_err-next_text-clause-fault g c = handed_on _ _ _ c.from_residual.ensures.1 (pass_unprinted (fault_as (λ t. needs_line (λ _ k. (_, _, k.2))) (λ b. b) c.in_err-next_text.ensures.fault))
+returns-in_err-next_text-clause-fault g c = handed_on _ _ _ c.from_residual.ensures.1 (pass_unprinted (fault_as (λ t. needs_line (λ _ k. (_, _, k.3))) (λ b. b) c.in_err-next_text.ensures.fault))
 
-pub returns-in_err-check_row-clause-fault : goal.returns-in_err-check_row-clause-fault
-returns-in_err-check_row-clause-fault g c =
-    handed_on _ _ _ c.from_residual-in_err-check_row.ensures.1
+pub returns-in_err-id-clause-fault : goal.returns-in_err-id-clause-fault
+returns-in_err-id-clause-fault g c =
+    handed_on _ _ _ c.from_residual-in_err-id.ensures.1
     (pass_unprinted (fault_checked c.in_ok-next_text.ensures.read.on.limit
-    (λ e t lines later k is. let no = rw c.line.ensures at (c.in_err-check_row.ensures.refused (ap Err e)) in no (k.0, k.1, ap (λ l. l ∷ []) (sym (first_taken later (c.in_ok-next_text.ensures.read.came t) k.2 is).0)))
-    (λ e. c.in_err-check_row.ensures.kind (ap Err e))))
+    (λ e t lines later k is. let no = rw c.line.ensures at (c.in_err-id.ensures.refused (ap Err e)) in no (k.0, k.1, k.2, ap (λ l. l ∷ []) (sym (first_taken later (c.in_ok-next_text.ensures.read.came t) k.3 is).0)))
+    (λ e. c.in_err-id.ensures.kind (ap Err e))))
 
 pub returns-clause-passed : goal.returns-clause-passed
 returns-clause-passed g c =
-    on_ok_weaker c.print_line.result (λ out. passes_line c.in_ok-next_text.ensures.read (line_text _ _ c.line-2.ensures) out (rw c.line.ensures at c.in_ok-check_row.ensures.row)) c.print_line.ensures.out
+    passes_line c.in_ok-next_text.ensures.read (line_text _ _ c.line-2.ensures) c.in_ok-print_line.ensures.out (rw c.line.ensures at c.in_ok-id.ensures.row)
 
-pub returns-clause-fault : goal.returns-clause-fault
-returns-clause-fault g c = IfErr-weaker c.print_line.result _ _ (λ f part. pass_fault_printing c.in_ok-next_text.ensures.read (line_text _ _ c.line-2.ensures) part) c.print_line.ensures.part
+pub returns-in_err-print_line-clause-fault : goal.returns-in_err-print_line-clause-fault
+returns-in_err-print_line-clause-fault g c = handed_on _ _ _ c.from_residual-in_err-print_line.ensures.1 (pass_fault_printing c.in_ok-next_text.ensures.read (line_text _ _ c.line-2.ensures) c.in_err-print_line.ensures.part)

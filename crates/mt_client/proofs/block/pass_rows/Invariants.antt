@@ -1,8 +1,8 @@
 use Rattle.std.proofs.Common.{[]}
 use Rattle.mt_client.specs.Calls.{PassesOn}
-use Rattle.mt_client.specs.Awaited.{AreRowLines}
+use Rattle.mt_client.proofs.RowLaws.{AreRowsTo}
 use Rattle.mt_client.proofs.block.pass_rows.Given as goal
 
 -- so many rows were passed on
 abbrev pub invariant-rows : goal.invariant-rows
-invariant-rows g l = record { passed : PassesOn g.O.Output [] (AreRowLines l._row) l.initial.lines l.lines l.initial.out l.out }
+invariant-rows g l = record { passed : PassesOn g.O.Output [] (AreRowsTo l._row l.last) l.initial.lines l.lines l.initial.out l.out }

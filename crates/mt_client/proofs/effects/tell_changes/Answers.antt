@@ -17,9 +17,9 @@ returns-in_err-send_request-clause-fault g c =
     (fault_as (λ t none v. inr (c.send_request.ensures.cause (search rules) v, none)) (λ b. b) (as_fault c.in_err-send_request.ensures.fault))
 
 pub returns-clause-broken : goal.returns-clause-broken
-returns-clause-broken g c t u = rw (c.send_request.ensures.unread (search rules), c.send_request.ensures.unprinted (search rules)) at (c.tell_closed.ensures.broken t u)
+returns-clause-broken g c t u = rw (c.send_request.ensures.unread (search rules), c.send_request.ensures.unprinted (search rules)) at (c.tell_taken.ensures.broken t u)
 
 pub returns-clause-fault : goal.returns-clause-fault
 returns-clause-fault g c =
-    IfErr-weaker c.tell_closed.result _ _ (λ f q. fault_as (λ t none v. inl none) (λ b. b) q)
-    (rw (c.send_request.ensures.unread (search rules), c.send_request.ensures.unprinted (search rules)) at c.tell_closed.ensures.fault)
+    IfErr-weaker c.tell_taken.result _ _ (λ f q. fault_as (λ t none v. inl none) (λ b. b) q)
+    (rw (c.send_request.ensures.unread (search rules), c.send_request.ensures.unprinted (search rules)) at c.tell_taken.ensures.fault)

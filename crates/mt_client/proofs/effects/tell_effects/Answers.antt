@@ -6,6 +6,7 @@ use Rattle.mt_events.specs.Posts.{ended}
 use Rattle.mt_events.specs.declared.opening.Scope.TheVariants.{All}
 use Rattle.mt_client.specs.Reading.{lines_left}
 use Rattle.mt_client.specs.Finding.{watch_text}
+use Rattle.mt_client.specs.Effects.{taking_text}
 use Rattle.mt_client.proofs.TellingLaws.{unsaid_of}
 use Rattle.mt_client.proofs.CallLaws.{either, out_both, handed_on}
 use Rattle.mt_client.proofs.MissingLaws.{answer_later}
@@ -13,7 +14,7 @@ use Rattle.mt_client.proofs.RelayLaws.{part_first, part_second, broken_later, sa
 use Rattle.mt_client.proofs.effects.tell_effects.Goals as goal
 
 pub returns-in_err-mirrors-clause-part : goal.returns-in_err-mirrors-clause-part
-returns-in_err-mirrors-clause-part g c u = part_first (ended (watch_text All)) (ended c.args.line.now ++ ended (codes "close")) _ _ (c.watch.ensures.part u)
+returns-in_err-mirrors-clause-part g c u = part_first (ended (watch_text All)) (ended c.args.line.now ++ ended taking_text) _ _ (c.watch.ensures.part u)
 
 pub returns-in_err-mirrors-clause-broken : goal.returns-in_err-mirrors-clause-broken
 returns-in_err-mirrors-clause-broken g c t u =
@@ -27,7 +28,7 @@ pub returns-in_err-mirrors-clause-output : goal.returns-in_err-mirrors-clause-ou
 returns-in_err-mirrors-clause-output g c is u = c.in_err-mirrors.ensures.fault.cause (same_fault _ _ _ c.from_residual.ensures.1 is) u
 
 pub returns-in_default-clause-part : goal.returns-in_default-clause-part
-returns-in_default-clause-part g c u = part_first (ended (watch_text All)) (ended c.args.line.now ++ ended (codes "close")) _ _ (c.watch.ensures.part u)
+returns-in_default-clause-part g c u = part_first (ended (watch_text All)) (ended c.args.line.now ++ ended taking_text) _ _ (c.watch.ensures.part u)
 
 pub returns-in_default-clause-refused : goal.returns-in_default-clause-refused
 returns-in_default-clause-refused g c is t u = let a = c.watch.ensures.refused (search rules) in inl (last_line c.watch.new.lines, a.refused t, a.out.went u)
@@ -45,7 +46,7 @@ returns g c =
       refused = λ is t u. inr (c.in-Some.mirrors.items, lines_left c.watch.new.lines, found t, rw same at (c.tell_answered.ensures.refused is t u));
       broken = λ t u. IfErr-weaker c.tell_answered.result _ _ (λ f q. inr (c.in-Some.mirrors.items, lines_left c.watch.new.lines, found t, q)) (rw same at (c.tell_answered.ensures.broken t u));
       sent = λ is u. let all = out_both sent (c.tell_answered.ensures.sent is) in all.went u;
-      part = λ u. part_second (ended (watch_text All)) (ended c.args.line.now ++ ended (codes "close")) _ _ _ (sent.went u) (c.tell_answered.ensures.part u);
+      part = λ u. part_second (ended (watch_text All)) (ended c.args.line.now ++ ended taking_text) _ _ _ (sent.went u) (c.tell_answered.ensures.part u);
       connection = λ is t u v.
           let fault = IfErr-at_err _ is c.tell_answered.ensures.fault in
           either (broken_later (on.counted u) (on.reads u)) (λ m. inr (c.in-Some.mirrors.items, lines_left c.watch.new.lines, found t, answer_later c.args.line.now c.in-Some.mirrors.items (lines_left c.watch.new.lines) (broken_later (sent.on.counted v) (sent.on.serves v)) (m v))) (fault.cut refl t u);

@@ -1,7 +1,22 @@
-use Rattle.mt_client.proofs.OpeningLaws.{rows_cut}
+use Rattle.mt_client.proofs.RowLaws.{follows_none, rows_cut, many_more, valid_more, rising_more, follows_read, read_more}
 use Rattle.mt_client.proofs.CallLaws.{handed_on, fault_behind}
 use Rattle.mt_client.proofs.opening.read_rows.Goals as goal
 
-pub returns-in_err-read_row_line-clause-fault : goal.returns-in_err-read_row_line-clause-fault
-returns-in_err-read_row_line-clause-fault g c =
-    handed_on _ _ _ c.from_residual.ensures.1 (fault_behind c.rows.invariant.read.on (λ t. rows_cut c.rows._row c.args.count c.rows.rows.items _ _ (c.rows.invariant.read.came t) c.rows.invariant.many c.rows-test.true c.rows.invariant.valid) (λ b. b) c.in_err-read_row_line.ensures.fault)
+pub rows-preserved : goal.rows-preserved
+rows-preserved g c =
+    let rows = c.rows.rows.items in
+    let row = c.in_ok-row.row in
+    let is = c.in_ok-push.ensures.items in
+    let before = c.rows.invariant in
+    record {
+      many = many_more c.rows._row rows _ row is before.many;
+      valid = valid_more rows _ row is before.valid c.in_ok-row.ensures.valid;
+      rising = rising_more c.rows.last rows _ row is before.follows c.in_ok-row.ensures.above;
+      follows = follows_read c.rows.last rows _ row is before.follows c.in_ok-row.ensures.above;
+      read = read_more rows _ row is before.read c.in_ok-row.ensures.row;
+    }
+
+pub returns-in_err-row-clause-fault : goal.returns-in_err-row-clause-fault
+returns-in_err-row-clause-fault g c =
+    handed_on _ _ _ c.from_residual.ensures.1
+    (fault_behind c.rows.invariant.read.on (λ t. rows_cut c.rows._row c.args.count c.rows.last c.rows.rows.items _ _ (c.rows.invariant.read.came t) c.rows.invariant.many c.rows-test.true c.rows.invariant.valid c.rows.invariant.follows) (λ b. b) c.in_err-row.ensures.fault)

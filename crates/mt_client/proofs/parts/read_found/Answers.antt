@@ -1,11 +1,16 @@
 use Rattle.std.proofs.Common.{rules, sym, subst, ◌∙◌}
 use Rattle.mt_client.specs.Finding.{AreOf}
-use Rattle.mt_client.proofs.OpeningLaws.{needs_line, refused_some, finding_needs_parts, finding_needs_scope, rises_of}
+use Rattle.mt_client.proofs.OpeningLaws.{needs_line, refused_some, finding_needs_few, finding_needs_parts, finding_needs_scope, rises_of}
 use Rattle.mt_client.proofs.CallLaws.{handed_on, fault_as, fault_behind, fault_refused}
 use Rattle.mt_client.proofs.parts.read_found.Goals as goal
 
 pub returns-in_err-next_text-clause-fault : goal.returns-in_err-next_text-clause-fault
 returns-in_err-next_text-clause-fault g c = handed_on _ _ _ c.from_residual.ensures.1 (fault_as (λ t. needs_line (refused_some (λ _ k. (_, _, k.all)))) (λ b. b) c.in_err-next_text.ensures.fault)
+
+pub returns-then-is_beyond-clause-fault : goal.returns-then-is_beyond-clause-fault
+returns-then-is_beyond-clause-fault g c =
+    fault_refused c.in_ok-next_text.ensures.read.on.limit
+    (λ t. finding_needs_few c.args.scope c.in-Some.count _ _ _ (c.in_ok-next_text.ensures.read.came t) (search rules) (rw c.line-2.ensures at c.in-Some.ensures.count) c.in-Some.ensures.small c.if-is_beyond.ensures)
 
 pub returns-in_err-parts-clause-fault : goal.returns-in_err-parts-clause-fault
 returns-in_err-parts-clause-fault g c =

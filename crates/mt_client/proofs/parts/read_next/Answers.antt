@@ -1,5 +1,4 @@
-use Rattle.std.proofs.Common.{rules, ◌∙◌}
-use Rattle.mt_client.proofs.OpeningLaws.{needs_line, within_needs_room, within_needs_rows, within_needs_rising}
+use Rattle.mt_client.proofs.OpeningLaws.{needs_line, within_needs_room, within_needs_few, within_needs_rows}
 use Rattle.mt_client.proofs.CallLaws.{handed_on, fault_as, fault_behind, fault_refused}
 use Rattle.mt_client.proofs.parts.read_next.Goals as goal
 
@@ -16,8 +15,7 @@ returns-in_err-rows-clause-fault g c =
     handed_on _ _ _ c.from_residual-in_err-rows.ensures.1
     (fault_behind c.in_ok-next_text.ensures.read.on (λ t. within_needs_rows c.args.left c.in-Some.heading _ _ _ (c.in_ok-next_text.ensures.read.came t) (rw c.line.ensures at c.in-Some.ensures.heading) c.in-Some.ensures.small) (λ b. b) c.in_err-rows.ensures.fault)
 
-pub returns-in-None-clause-fault : goal.returns-in-None-clause-fault
-returns-in-None-clause-fault g c =
-    fault_refused (c.in_ok-rows.ensures.rows.on.limit ∙ c.in_ok-next_text.ensures.read.on.limit)
-    (λ t. within_needs_rising c.args.left c.in-Some.heading _ c.in_ok-rows.rows.items _ _ _ (c.in_ok-next_text.ensures.read.came t) (rw c.line.ensures at c.in-Some.ensures.heading) c.in-Some.ensures.small
-    (c.in_ok-rows.ensures.rows.came t) c.in_ok-rows.ensures.many c.in_ok-rows.ensures.valid (search rules))
+pub returns-then-is_beyond-clause-fault : goal.returns-then-is_beyond-clause-fault
+returns-then-is_beyond-clause-fault g c =
+    fault_refused c.in_ok-next_text.ensures.read.on.limit
+    (λ t. within_needs_few c.args.left c.in-Some.heading _ _ _ (c.in_ok-next_text.ensures.read.came t) (rw c.line.ensures at c.in-Some.ensures.heading) c.in-Some.ensures.small c.if-is_beyond.ensures)

@@ -19,9 +19,6 @@ returns-in_err-parts-clause-kept g c = handed_on _ _ _ c.from_residual.ensures.1
 pub returns-in_default-clause-refused : goal.returns-in_default-clause-refused
 returns-in_default-clause-refused g c is t u = let a = c.watch.ensures.refused (search rules) in (last_line c.watch.new.lines, a.refused t, a.out.went u)
 
-pub returns-in_default-clause-unsent : goal.returns-in_default-clause-unsent
-returns-in_default-clause-unsent g c is u v = let a = c.watch.ensures.refused (search rules) in either (λ o. o.went u) (λ b. b v) a.gone
-
 pub returns-in_default-clause-writes : goal.returns-in_default-clause-writes
 returns-in_default-clause-writes g c v e = let a = c.watch.ensures.refused (search rules) in either (λ o. o.on.serves v e) (λ b. (refl, b v)) a.gone
 

@@ -39,7 +39,7 @@ pub returns-in_default-clause-refused : goal.returns-in_default-clause-refused
 returns-in_default-clause-refused g c is = record {
   refused = λ t. rw (c.send_request.ensures.unread (search rules)) at (MatchOption-at_none {o = c.in_ok-parts.field-0} _ _ (search rules) (c.in_ok-parts.ensures.found t));
   out = out_as (ap ended c.line.ensures) (rw (c.send_request.ensures.unprinted (search rules)) at c.in_ok-print_line.ensures.out);
-  gone = inl (out_as (ap ended (c.as_slice.ensures.value ∙ c.in_ok-line.ensures)) (c.send_request.ensures.sent (search rules)));
+  gone = inl (out_as (c.as_slice.ensures.value ∙ c.in_ok-line.ensures) (c.send_request.ensures.sent (search rules)));
 }
 
 pub returns-clause-found : goal.returns-clause-found
@@ -49,7 +49,7 @@ pub returns-clause-unrefused : goal.returns-clause-unrefused
 returns-clause-unrefused g c t = rw (c.send_request.ensures.unread (search rules)) at (MatchOption-at_some {o = c.in_ok-parts.field-0} _ _ c.in-Some.parts (search rules) (c.in_ok-parts.ensures.unrefused t))
 
 pub returns-clause-sent : goal.returns-clause-sent
-returns-clause-sent g c = out_as (ap ended (c.as_slice.ensures.value ∙ c.in_ok-line.ensures)) (c.send_request.ensures.sent (search rules))
+returns-clause-sent g c = out_as (c.as_slice.ensures.value ∙ c.in_ok-line.ensures) (c.send_request.ensures.sent (search rules))
 
 pub returns-clause-on : goal.returns-clause-on
 returns-clause-on g c = rw (c.send_request.ensures.unread (search rules)) at c.in_ok-parts.ensures.on

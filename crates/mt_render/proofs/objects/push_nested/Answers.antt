@@ -1,7 +1,8 @@
-use Rattle.std.proofs.Common.{◌∙◌, ap}
+use Rattle.std.proofs.Common.{◌∙◌, ◌++◌, ap}
+use Rattle.std.proofs.lemmas.Result.{on_ok_weaker}
 use Rattle.serde_json.specs.Data.{object}
 use Rattle.serde_json.specs.Written.{has_float}
-use Rattle.mt_render.specs.Objects.{listing, tree_nodes}
+use Rattle.mt_render.specs.Objects.{value_line, listing, tree_nodes, nested_line}
 use Rattle.mt_render.proofs.FloatLaws.{nested_listing_free}
 use Rattle.mt_render.proofs.objects.push_nested.Goals as goal
 
@@ -10,3 +11,11 @@ push_value-requires c =
     let m = c.args.part.now in
     let rows = c.in_ok-values.ensures ∙ ap (λ rs. tree_nodes rs) c.table.ensures in
     ap has_float (c.from-value.ensures ∙ ap object c.in_ok-listing.ensures ∙ ap (λ ds. object (listing c.space.result ds)) rows ∙ ap (λ n. object (listing n (tree_nodes m.rows))) c.space.ensures) ∙ nested_listing_free m.space m.rows
+
+pub returns : goal.returns
+unfolding nested_line
+returns c =
+    let m = c.args.part.now in
+    let rows = c.in_ok-values.ensures ∙ ap (λ rs. tree_nodes rs) c.table.ensures in
+    let value = c.from-value.ensures ∙ ap object c.in_ok-listing.ensures ∙ ap (λ ds. object (listing c.space.result ds)) rows ∙ ap (λ n. object (listing n (tree_nodes m.rows))) c.space.ensures in
+    on_ok_weaker c.push_value.result (λ e. e ∙ ap (λ d. c.args.text.now.items ++ value_line d) value) c.push_value.ensures

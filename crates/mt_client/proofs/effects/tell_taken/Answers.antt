@@ -5,7 +5,7 @@ use Rattle.mt_client.proofs.TellingLaws.{unsaid_cut}
 use Rattle.mt_client.proofs.OpeningLaws.{needs_line, refused_some}
 use Rattle.mt_client.proofs.CallLaws.{handed_on, fault_as, fault_behind, fault_refused, fault_printing}
 use Rattle.mt_client.proofs.MissingLaws.{closing_needs_count, closing_needs_posts}
-use Rattle.mt_client.proofs.effects.tell_closed.Goals as goal
+use Rattle.mt_client.proofs.effects.tell_taken.Goals as goal
 
 pub returns-in_err-print_line-clause-broken : goal.returns-in_err-print_line-clause-broken
 returns-in_err-print_line-clause-broken g c t u =

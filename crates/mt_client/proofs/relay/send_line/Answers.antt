@@ -1,6 +1,6 @@
 use Rattle.std.proofs.Common.{[], ◌∷◌}
 use Rattle.mt_client.proofs.RelayLaws.{on_err, cut_first, cut_second, broken_later}
-use Rattle.mt_client.proofs.request.send_line.Goals as goal
+use Rattle.mt_client.proofs.relay.send_line.Goals as goal
 
 pub returns-in_err-send-clause-part : goal.returns-in_err-send-clause-part
 returns-in_err-send-clause-part g c =

@@ -1,0 +1,8 @@
+use Rattle.std.proofs.Common.{◌∙◌}
+use Rattle.mt_render.proofs.NodeLaws.{nodes_joined}
+use Rattle.mt_render.proofs.objects.tree_nodes.Goals as goal
+
+pub returns : goal.returns
+returns c =
+    nodes_joined c.rows.result.now c.args.table.now c.deref-2.result.now c.deref-3.result.now _ _ _ c.in_ok-values.ensures c.in_ok-push_deep.ensures c.in_ok-push_strays.ensures c.rows.ensures.rows (c.deref-2.ensures.value ∙ c.in_ok-drawn.ensures)
+    (c.deref-3.ensures.value ∙ c.in_ok-others.ensures)
