@@ -7,3 +7,4 @@ pub mod TreeLaws
 pub mod ForwardLaws
 pub mod CoverLaws
 pub mod UnmadeLaws
+pub mod FrontLaws

@@ -1,9 +1,9 @@
 -- Tables of which nothing is made.
-use Rattle.std.proofs.Common.{◌≡◌, ℕ, suc, ◌+◌, true, false, ◌&&◌, ◌==◌, List, [], ◌∷◌, ◌++◌, length, map, refl, sym, ap, ◌∙◌, subst, arith}
+use Rattle.std.proofs.Common.{◌≡◌, inl, ℕ, suc, ◌+◌, true, false, ◌&&◌, List, [], ◌∷◌, ◌++◌, length, map, refl, sym, ap, ◌∙◌, subst, arith}
 use Rattle.std.proofs.lemmas.Bool.Decides.{nat_tests}
 use Rattle.std.proofs.lemmas.List.{append-nil}
 use Rattle.std.specs.BTreeMap.{BTreeMap}
-use Rattle.std.specs.List.{flat_map, list_all, AllByRecursion}
+use Rattle.std.specs.List.{flat_map, list_all, list_any, AllByRecursion}
 use Rattle.mt_import.specs.declared.groups.Group.{Group}
 use Rattle.mt_import.specs.declared.space.Space.{Space}
 use Rattle.mt_import.specs.Import.{IsImport}
@@ -41,6 +41,11 @@ ordered table [] all = refl
 ordered table (of ∷ others) (first, rest) =
     ap (λ mounts. stand_on_made of.tree.mounts of.ways.items 0 mounts && list_all is_well_ordered others) first.mounts ∙ ordered (suc table) others rest
 
+-- none of them is shown
+hidden : (table : ℕ) (spaces : List Space) → AreUnmade table spaces → list_any is_shown spaces ≡ false
+hidden table [] all = refl
+hidden table (of ∷ others) (first, rest) = rw (not_shown table of first) (hidden (suc table) others rest)
+
 -- they have no rows that are made
 rowless : (table : ℕ) (spaces : List Space) → AreUnmade table spaces → flat_map rows_made spaces ≡ []
 rowless table [] all = refl
@@ -65,6 +70,7 @@ told_alone groups spaces s0 s1 s2 all e0 e1 e2 trees lines = record {
   trees = trees;
   sound = sound groups spaces all;
   front = [];
+  fronted = inl (hidden 1 spaces all, refl);
   between = [];
   text =
       e2 ∙ ap (λ s. s ++ flat_map space_comments spaces) (e1 ∙ ap (λ s. s ++ flat_map tree_rows spaces) e0)

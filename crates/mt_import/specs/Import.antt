@@ -5,6 +5,7 @@ use Rattle.std.specs.List.{flat_map, AllByRecursion}
 use Rattle.std.specs.BTreeMap.{BTreeMap}
 use Rattle.mt_import.specs.declared.groups.Group.{Group}
 use Rattle.mt_import.specs.declared.space.Space.{Space}
+use Rattle.mt_import.specs.Front.{StandsInFront}
 use Rattle.mt_import.specs.Plans.{is_sound}
 use Rattle.mt_import.specs.Reading.{ToldMount}
 use Rattle.mt_import.specs.Script.{IsScript}
@@ -21,6 +22,7 @@ pub record IsImport (tables : List (List ToldMount)) (script : List ℕ) : Type 
   pub trees : AllByRecursion HasMakingOrder spaces
   pub sound : is_sound groups spaces ≡ true
   pub front : List ℕ
+  pub fronted : StandsInFront groups spaces front
   pub between : List ℕ
   pub text : script ≡ ((flat_map tree_rows spaces ++ flat_map space_comments spaces) ++ front) ++ spaces_text groups spaces between
   pub lines : IsScript script

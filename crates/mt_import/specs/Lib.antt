@@ -14,6 +14,7 @@ pub mod Turns
 pub mod Covers
 pub mod Telling
 pub mod Spaces
+pub mod Front
 pub mod Plans
 pub mod Unmade
 pub mod Import

@@ -1,8 +1,11 @@
 //! What a script makes in front of the namespaces: filesystems, one for each device, their directories, and what is staged: a
 //! mount of each filesystem of which directories are bound, and a member of each peer group from which mounts are bound.
+ghost use Rattle.std.specs.Prelude.{◌≡◌, ◌++◌, map, IfOk, OnOk};
+ghost use Rattle.std.specs.List.{flat_map};
+ghost use Rattle.mt_import.specs.Front.{plain_text, member_path, stage_below_text, member_text, stage_text, IsFronted};
 
 use crate::choice::Candidate;
-use crate::groups::{Group, Staged};
+use crate::groups::{Group, Groups, Staged};
 use crate::host_mount::HostMount;
 use crate::path::{SECOND, STAGE};
 use crate::plan::Plan;
@@ -97,88 +100,67 @@ impl<'a> Plan<'a> {
         self.add_base(device, mount.root, mount.base)
     }
 
-    /// Makes the filesystems of the mounts.
-    fn make_filesystems(&self, script: &mut Script) -> Written {
+    /// What makes the filesystems of the mounts, and tells the rows that tell another type or source than the first one of their
+    /// device.
+    fn filesystems_made(&self) -> Result<Script, Unmade> {
+        let mut script = Script::new(self.alloc);
         for (before, first) in self.filesystems.values().enumerate() {
             let (table, row) = *first;
-            make_filesystem(script, table, row, before.saturating_add(1))?;
+            make_filesystem(&mut script, table, row, before.saturating_add(1))?;
         }
-        Ok(())
-    }
-
-    /// Tells the rows that tell another type or source than the first one of their device.
-    fn tell_others(&self, script: &mut Script) -> Done {
         for other in self.others.iter() {
             let (table, row) = *other;
-            note(
-                script,
-                table,
-                row,
-                b"tells another type or source of its device",
-            )?;
+            let text = b"tells another type or source of its device";
+            note(&mut script, table, row, text)?;
         }
-        Ok(())
+        Ok(script)
     }
 
-    /// Makes the directories, each behind those above it.
-    fn make_directories(&self, script: &mut Script) -> Written {
+    /// What makes the directories, each behind those above it.
+    fn directories_made(&self) -> Result<Script, Unmade> {
+        let mut script = Script::new(self.alloc);
         for directory in self.directories.iter() {
             let text = directory.as_slice();
             if let Some(end) = text.iter().position(|byte| *byte == b'/') {
-                command(script, &[b"mkdir", &text[..end], &text[end..]])?;
+                command(&mut script, &[b"mkdir", &text[..end], &text[end..]])?;
             }
         }
-        Ok(())
+        Ok(script)
     }
 
-    /// Stages the filesystems of which directories are bound.
-    fn stage_plains(&self, script: &mut Script) -> Written {
+    /// The devices of the filesystems of which directories are bound.
+    fn devices(&self) -> Allocated<Vec<&'a [u8]>> {
+        let mut devices = Vec::new(self.alloc);
         for device in self.plains.iter() {
-            let path = one_behind(self.alloc, b"/", device)?;
-            command(script, &[b"mount", b"1", device, path.as_slice()])?;
+            devices.push(*device)?;
         }
-        Ok(())
+        Ok(devices)
     }
 
-    /// Stages members of groups, of those above others first.
-    fn stage_groups(&self, script: &mut Script) -> Written {
+    /// The groups of which a member is staged, those above others first.
+    fn members(&self) -> Allocated<Vec<u64>> {
+        let mut members = Vec::new(self.alloc);
         for staged in self.staged.iter() {
-            if let Some(group) = self.groups.get(staged.1) {
-                self.stage_group(script, staged.1, &group)?;
-            }
+            members.push(staged.1)?;
         }
-        Ok(())
-    }
-
-    /// Stages a member of a group of the tables.
-    fn stage_group(&self, script: &mut Script, number: u64, group: &Group<'_>) -> Written {
-        let path = numbered(self.alloc, number)?;
-        let path = path.as_slice();
-        script.count_group(&self.groups, number, b"")?;
-        group_comment(script, number, group.here)?;
-        self.stage_below(script, group, path)?;
-        command(script, &[b"setattr", b"1", path, SHARED])
-    }
-
-    /// Has a member of a group come from that of its master, as a slave, or else from its filesystem.
-    fn stage_below(&self, script: &mut Script, group: &Group<'_>, path: &[u8]) -> Written {
-        let Some(master) = group.master else {
-            return command(script, &[b"mount", b"1", group.device, path]);
-        };
-        let source = numbered(self.alloc, master)?;
-        command(script, &[b"bind", b"1", source.as_slice(), path])?;
-        command(script, &[b"setattr", b"1", path, SLAVE])
+        Ok(members)
     }
 
     /// Makes all that stands in front of the namespaces.
-    pub(crate) fn make_front(&self, script: &mut Script) -> Written {
-        self.make_filesystems(script)?;
-        self.tell_others(script)?;
+    pub(crate) fn make_front(&self, script: &mut Script) -> Written
+        ensures { OnOk result (IsFronted self.now.groups.all script.old script.new) }
+    {
+        let filesystems = self.filesystems_made()?;
+        let directories = self.directories_made()?;
+        let devices = self.devices()?;
+        let members = self.members()?;
+        script.append(&filesystems)?;
         command(script, &[b"mkfs", STAGE_FS, b"import", b"none"])?;
-        self.make_directories(script)?;
+        script.append(&directories)?;
         command(script, &[b"newns", STAGE_FS])?;
-        self.stage_plains(script)?;
-        self.stage_groups(script)
+        stage_devices(script, devices.as_slice())?;
+        stage_members(script, &self.groups, members.as_slice())?;
+        Ok(())
     }
 
     /// Unmounts the staged members of groups in a namespace, but of those of which no table has one.
@@ -226,8 +208,77 @@ impl<'a> Plan<'a> {
     }
 }
 
+/// Stages the filesystems of devices.
+fn stage_devices(script: &mut Script, devices: &[&[u8]]) -> Written
+    ensures { OnOk result (script.new ≡ script.old ++ flat_map plain_text (map (λ device. device.now) devices.now)) }
+{
+    'devices: for device in devices {
+        stage_device(script, device)?;
+    }
+    Ok(())
+}
+
+/// Stages the filesystem of a device.
+fn stage_device(script: &mut Script, device: &[u8]) -> Written
+    ensures { OnOk result (script.new ≡ script.old ++ plain_text device.now) }
+{
+    let path = one_behind(script.alloc(), b"/", device)?;
+    command(script, &[b"mount", b"1", device, path.as_slice()])
+}
+
+/// Stages members of groups, of those above others first.
+fn stage_members(script: &mut Script, groups: &Groups<'_>, members: &[u64]) -> Written
+    ensures { OnOk result (script.new ≡ script.old ++ flat_map (stage_text groups.now.all) members.now) }
+{
+    'members: for number in members {
+        stage_group(script, groups, *number)?;
+    }
+    Ok(())
+}
+
+/// Stages a member of a group, if the tables name it.
+#[tactic(auto, using(crate::proofs::FrontLaws::group_staged, crate::proofs::FrontLaws::none_staged))]
+fn stage_group(script: &mut Script, groups: &Groups<'_>, number: u64) -> Written
+    ensures { OnOk result (script.new ≡ script.old ++ stage_text groups.now.all number) }
+{
+    let Some(group) = groups.get(number) else {
+        return Ok(());
+    };
+    stage_member(script, groups, number, &group)?;
+    Ok(())
+}
+
+/// Stages a member of a group of the tables.
+#[tactic(auto, unfolding(crate::specs::Front::member_text))]
+fn stage_member(script: &mut Script, groups: &Groups<'_>, number: u64, group: &Group<'_>) -> Written
+    ensures { OnOk result (script.new ≡ script.old ++ member_text number group.now) }
+{
+    let path = numbered(script.alloc(), number)?;
+    let path = path.as_slice();
+    script.count_group(groups, number, b"")?;
+    group_comment(script, number, group.here)?;
+    stage_below(script, group, path)?;
+    command(script, &[b"setattr", b"1", path, SHARED])?;
+    Ok(())
+}
+
+/// Has a member of a group come from that of its master, as a slave, or else from its filesystem.
+fn stage_below(script: &mut Script, group: &Group<'_>, path: &[u8]) -> Written
+    ensures { OnOk result (script.new ≡ script.old ++ stage_below_text group.now.master group.now.device.now path.now) }
+{
+    let Some(master) = group.master else {
+        return command(script, &[b"mount", b"1", group.device, path]);
+    };
+    let source = numbered(script.alloc(), master)?;
+    command(script, &[b"bind", b"1", source.as_slice(), path])?;
+    command(script, &[b"setattr", b"1", path, SLAVE])?;
+    Ok(())
+}
+
 /// The slot of a group.
-fn numbered(alloc: Global, group: u64) -> Text {
+fn numbered(alloc: Global, group: u64) -> Text
+    ensures { IfOk result (λ path. path.items ≡ member_path group) }
+{
     let digits = digits_of(alloc, group)?;
     one_behind(alloc, GROUP, digits.as_slice())
 }

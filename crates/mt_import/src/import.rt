@@ -1,6 +1,9 @@
 //! The script that makes namespaces.
 ghost use Rattle.std.specs.Prelude.{◌≡◌, map, IfOk, IsOkUnless};
+ghost use Rattle.mt_import.specs.Front.{StandsInFront};
+ghost use Rattle.std.specs.List.{list_any};
 ghost use Rattle.mt_import.specs.Import.{IsImport};
+ghost use Rattle.mt_import.specs.Telling.{is_shown};
 
 use crate::host_mount::HostMount;
 use crate::plan::{Plan, plan_with_room};
@@ -63,12 +66,23 @@ fn planned<'a>(alloc: Global, tables: &'a [Vec<HostMount>]) -> Allocated<(Vec<Tr
     Ok((trees, plan))
 }
 
+/// Whether a namespace is made.
+fn is_any_shown(spaces: &[Space<'_>]) -> bool
+    ensures { result ≡ list_any is_shown spaces.now }
+{
+    spaces.iter().any(|space| space.is_shown())
+}
+
 /// What makes the filesystems and their directories, and what is staged, if there is a namespace to make.
-fn front_of(alloc: Global, plan: &Plan<'_>, spaces: &[Space<'_>]) -> Result<Script, Unmade> {
+#[tactic(auto, using(crate::proofs::FrontLaws::none_in_front, crate::proofs::FrontLaws::some_in_front))]
+fn front_of(alloc: Global, plan: &Plan<'_>, spaces: &[Space<'_>]) -> Result<Script, Unmade>
+    ensures { IfOk result (λ front. StandsInFront plan.now.groups.all spaces.now front) }
+{
     let mut script = Script::new(alloc);
-    if spaces.iter().any(|space| space.is_shown()) {
-        plan.make_front(&mut script)?;
+    if !is_any_shown(spaces) {
+        return Ok(script);
     }
+    plan.make_front(&mut script)?;
     Ok(script)
 }
 
