@@ -1,4 +1,4 @@
--- What cannot come first where a telling is cut off, or the posts of a watcher that is closed, and what of it has come.
+-- What cannot come first where a telling is cut off, or the posts that wait for a watcher, and what of it has come.
 use Rattle.std.proofs.Common.{◌≡◌, ℕ, ◌+◌, ◌<◌, ◌≤◌, true, List, [], ◌∷◌, ◌++◌, length, refl, sym, ap, subst, ◌∙◌, arith, inl, inr, false, Some, None}
 use Rattle.std.proofs.lemmas.Grind.{fold-append}
 use Rattle.std.specs.List.{flat_map, fold, AllByRecursion}
@@ -117,17 +117,17 @@ posts_due = post_series (due_to All) (λ n ls. ls ≡ [])
 pub due_lines : (count : ℕ) (mirrors : List MirrorView) (lines : List (List ℕ)) → AreDueLines count mirrors lines → IsSeries (in_lines posts_due) (count, mirrors) lines
 due_lines count mirrors lines d = are_in_lines posts_due count mirrors d.posts lines (d.valid, d.due) d.many d.all
 
--- the answer of a watcher that is closed
-pub closing_needs_count : (mirrors : List MirrorView) (seen : List ℕ) (before middle : List Item) → before ≡ Text seen ∷ middle → is_refusal seen ≡ false → None ≡ waiting_count seen → NoneFirst (IsRefusedOr (IsWaiting mirrors)) before
-closing_needs_count mirrors seen before middle there tells counts =
+-- how many lines the posts are that wait, and these
+pub waiting_needs_count : (mirrors : List MirrorView) (seen : List ℕ) (before middle : List Item) → before ≡ Text seen ∷ middle → is_refusal seen ≡ false → None ≡ waiting_count seen → NoneFirst (IsRefusedOr (IsWaiting mirrors)) before
+waiting_needs_count mirrors seen before middle there tells counts =
     unrefused_or (no_refusal there tells) (λ lines later k e.
     let t = first_taken later there k.all e in
     let no : None ≡ Some k.count = counts ∙ ap waiting_count (sym t.0) ∙ k.counted in
     cc)
 
-pub closing_needs_posts : (count : ℕ) (mirrors : List MirrorView) (seen : List ℕ) (before middle : List Item) → before ≡ Text seen ∷ middle → is_refusal seen ≡ false → Some count ≡ waiting_count seen → NoneFirst (AreDueLines count mirrors) middle
+pub waiting_needs_posts : (count : ℕ) (mirrors : List MirrorView) (seen : List ℕ) (before middle : List Item) → before ≡ Text seen ∷ middle → is_refusal seen ≡ false → Some count ≡ waiting_count seen → NoneFirst (AreDueLines count mirrors) middle
     → NoneFirst (IsRefusedOr (IsWaiting mirrors)) before
-closing_needs_posts count mirrors seen before middle there tells counts none =
+waiting_needs_posts count mirrors seen before middle there tells counts none =
     unrefused_or (no_refusal there tells) (λ lines later k e.
     let t = first_taken later there k.all e in
     let same : count ≡ k.count = same_Some count k.count (counts ∙ ap waiting_count (sym t.0) ∙ k.counted) in

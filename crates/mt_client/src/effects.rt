@@ -190,7 +190,7 @@ fn tell_answered<R: Input + Drop, W: Output, O: Output>(
 }
 
 /// Watches all namespaces, sends a line and prints its answer, and then tells what has changed since, in this manner: each
-/// post that waits then, up to 1,024, which is more than a line has. The watcher stays, and says by `take` whether it has
+/// post that waits then, up to 1,024, which is all that a queue holds. The watcher stays, and says by `take` whether it has
 /// lost some of them.
 ///
 /// The reader has met no fault, and serves what comes over the connection. The line is none that is about its session, as

@@ -4,7 +4,7 @@ use Rattle.mt_client.specs.Reading.{lines_left}
 use Rattle.mt_client.proofs.TellingLaws.{unsaid_cut}
 use Rattle.mt_client.proofs.OpeningLaws.{needs_line, refused_some}
 use Rattle.mt_client.proofs.CallLaws.{handed_on, fault_as, fault_behind, fault_refused, fault_printing}
-use Rattle.mt_client.proofs.MissingLaws.{closing_needs_count, closing_needs_posts}
+use Rattle.mt_client.proofs.MissingLaws.{waiting_needs_count, waiting_needs_posts}
 use Rattle.mt_client.proofs.effects.tell_taken.Goals as goal
 
 pub returns-in_err-print_line-clause-broken : goal.returns-in_err-print_line-clause-broken
@@ -25,11 +25,11 @@ returns-in_err-print_line-clause-fault g c = handed_on _ _ _ c.from_residual-in_
 pub returns-in_default-clause-fault : goal.returns-in_default-clause-fault
 returns-in_default-clause-fault g c =
     fault_refused c.in_ok-next_text.ensures.read.on.limit
-    (λ t. closing_needs_count c.args.mirrors.now.items (last_line c.next_text.new.lines) _ (lines_left c.next_text.new.lines) (c.in_ok-next_text.ensures.read.came t) (search rules) (rw c.line-2.ensures at c.in_default.ensures))
+    (λ t. waiting_needs_count c.args.mirrors.now.items (last_line c.next_text.new.lines) _ (lines_left c.next_text.new.lines) (c.in_ok-next_text.ensures.read.came t) (search rules) (rw c.line-2.ensures at c.in_default.ensures))
 
 pub returns-in_err-tell_lines-clause-fault : goal.returns-in_err-tell_lines-clause-fault
 returns-in_err-tell_lines-clause-fault g c =
     handed_on _ _ _ c.from_residual-in_err-tell_lines.ensures.1
     (fault_behind c.in_ok-next_text.ensures.read.on
-    (λ t. closing_needs_posts c.in-Some.count c.args.mirrors.now.items (last_line c.next_text.new.lines) _ _ (c.in_ok-next_text.ensures.read.came t) (search rules) (rw c.line-2.ensures at c.in-Some.ensures))
+    (λ t. waiting_needs_posts c.in-Some.count c.args.mirrors.now.items (last_line c.next_text.new.lines) _ _ (c.in_ok-next_text.ensures.read.came t) (search rules) (rw c.line-2.ensures at c.in-Some.ensures))
     (λ b. b) c.in_err-tell_lines.ensures.fault)
