@@ -1,8 +1,4 @@
 //! What a plain session writes of bytes in memory, over a reader and a writer of the standard library.
-ghost use Rattle.std.specs.Prelude.{List, ℕ, IfOk, Some};
-ghost use Rattle.mt_floor.specs.Schedule.{FloorView, empty_floor};
-ghost use Rattle.mt_session.specs.Headline.{TranscriptHolds};
-
 use mt_floor::floor::Floor;
 use mt_lines::line::LineReader;
 use mt_lines::stream::{Reading, Writing};
@@ -10,11 +6,8 @@ use mt_session::serving::{End, LINE_LIMIT, serve_plain};
 use std::alloc::{AllocError, Global};
 use std::test::Fail;
 
-/// Serves the lines of some bytes on a new floor, and appends what answers them. What is known of a session is known
-/// of this one: its transcript is that of the bytes, and the headline holds of it.
-pub fn transcript(alloc: Global, bytes: &[u8], out: &mut Vec<u8>) -> Result<End, AllocError>
-    ensures { IfOk result (λ end. (left : List ℕ) × (floor : FloorView) × TranscriptHolds (Some bytes.now) (Some left) (empty_floor 4) floor (Some out.old.items) (Some out.new.items) end) }
-{
+/// Serves the lines of some bytes on a new floor, and appends what answers them.
+fn transcript(alloc: Global, bytes: &[u8], out: &mut Vec<u8>) -> Result<End, AllocError> {
     let mut lines = LineReader::new(alloc, Reading::new(bytes), LINE_LIMIT)?;
     let mut floor = Floor::new(alloc, 4);
     let mut writer = Writing::new(out);
