@@ -9,6 +9,12 @@ kept_and_read (Some xs) None c bs k r = absurd k
 kept_and_read (Some xs) (Some ys) None bs k r = r
 kept_and_read (Some xs) (Some ys) (Some zs) bs k r = sym k ∙ r
 
+-- bytes that are kept, and none of them
+pub kept_and_none : (a b : Option (List ℕ)) (bytes : List ℕ) → Keeps a b → Consumes a b (take 0 bytes)
+kept_and_none None b bytes k = tt
+kept_and_none (Some xs) None bytes k = k
+kept_and_none (Some xs) (Some ys) bytes k = sym k
+
 pub kept_twice : (a b c : Option (List ℕ)) → Keeps a b → Keeps b c → Keeps a c
 kept_twice None b c k l = tt
 kept_twice (Some xs) None c k l = absurd k

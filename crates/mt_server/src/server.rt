@@ -228,7 +228,7 @@ where
 /// which there is no thread or no descriptor, or of which the system bounds no read, reads
 /// `no NoMemory` and its end. Sessions are numbered from 1. When a session ends, its connection is
 /// counted no longer before its client reads the end. One that has sent nothing for `premises.idle` seconds while
-/// it follows nothing, if that is not 0, ends, and so does one whose client has taken nothing
+/// it follows nothing, if that is not 0, ends as at the end of its input, and so does one whose client has taken nothing
 /// for so long of what it is sent, which is cut then.
 ///
 /// At a stop, and at a fault, the desk is stopped and no more connections are accepted. The other
