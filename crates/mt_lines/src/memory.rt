@@ -199,7 +199,7 @@ impl Faltering {
 }
 
 impl Output for Faltering {
-    ghost use Rattle.std.specs.Prelude.{◌≡◌, ◌+◌, ◌<◌, ◌≤◌, [], length, IfOk, Ok, Err, None, true, false};
+    ghost use Rattle.std.specs.Prelude.{◌≡◌, ◌+◌, ◌<◌, ◌≤◌, length, IfOk, Ok, Err, None, true};
     ghost use Rattle.mt_lines.specs.Stream.{failed_writes, faults_after_write, faltering_pending, faltering_failed, faltering_faults, faltering_fault};
 
     ghost counts = { true };
@@ -269,7 +269,7 @@ impl Sink {
 }
 
 impl Output for Sink {
-    ghost use Rattle.std.specs.Prelude.{◌≡◌, ◌-◌, ◌<◌, ◌≤◌, ◌++◌, length, take, min, IfOk, Ok, Err, Some, true, false, []};
+    ghost use Rattle.std.specs.Prelude.{◌≡◌, ◌-◌, ◌<◌, ◌≤◌, length, min, IfOk, Ok, Err, Some, false};
     ghost use Rattle.std.specs.Io.KnownBytes.{WriteAppends};
     ghost use Rattle.mt_lines.specs.Stream.{sink_bytes, sink_most, sink_room};
 

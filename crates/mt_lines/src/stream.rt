@@ -1,5 +1,5 @@
 //! Streams of bytes, and a send that says how much went out.
-ghost use Rattle.std.specs.Prelude.{◌≡◌, ◌↔◌, ℕ, ◌+◌, ◌<◌, ◌≤◌, List, ◌++◌, length, take, Bool, IsTrue, IfOk, IfErr, OnErr, OnOk, Result, ◌⊎◌, false, []};
+ghost use Rattle.std.specs.Prelude.{◌≡◌, ◌↔◌, ℕ, ◌+◌, ◌<◌, ◌≤◌, List, length, take, Bool, IsTrue, IfOk, IfErr, OnErr, OnOk, Result, ◌⊎◌, false, []};
 ghost use Rattle.std.specs.Io.KnownBytes.{Appends, Keeps, WriteAppends};
 ghost use Rattle.std.specs.IoError.{error_kind};
 ghost use Rattle.mt_lines.specs.Stream.{failed_writes, failed_reads, faults_after_read, faults_after_write, HasFailed, IsInterrupted};
