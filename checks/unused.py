@@ -34,7 +34,6 @@ KNOWN = """
 Rattle.mt_import.proofs.TreeLaws.next_root
 Rattle.mt_import.proofs.TreeLaws.no_tree
 Rattle.mt_import.proofs.TreeLaws.row_left
-Rattle.mt_lines.proofs.LineLaws.part_whole
 """
 
 USE = re.compile(r"^((?:unfoldable )?pub )?use (\S+?)\.\{([^}]*)\}", re.M)

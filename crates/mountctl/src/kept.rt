@@ -32,11 +32,7 @@ impl Kept {
 impl Output for Kept {
     ghost use Rattle.std.specs.Prelude.{[], Some, false};
 
-    ghost tells = { false };
-
     ghost counts = { false };
-
-    ghost written = { λ q. [] };
 
     ghost contents = { λ q. Some q.text.items };
 

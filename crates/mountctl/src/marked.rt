@@ -105,11 +105,7 @@ impl<'a, C: Clock, O: Output + Drop> Marked<'a, C, O> {
 impl<'a, C: Clock, O: Output + Drop> Output for Marked<'a, C, O> {
     ghost use Rattle.std.specs.Prelude.{[], None, false};
 
-    ghost tells = { false };
-
     ghost counts = { false };
-
-    ghost written = { λ q. [] };
 
     ghost contents = { λ q. None };
 

@@ -14,11 +14,7 @@ impl Drop for Quiet {
 impl Output for Quiet {
     ghost use Rattle.std.specs.Prelude.{[], None, false};
 
-    ghost tells = { false };
-
     ghost counts = { false };
-
-    ghost written = { λ q. [] };
 
     ghost contents = { λ q. None };
 

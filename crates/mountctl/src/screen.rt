@@ -41,11 +41,7 @@ fn shown_lines(alloc: Global, lines: &[u8]) -> Result<Vec<u8>, AllocError> {
 impl<O: Output + Drop> Output for Screen<O> {
     ghost use Rattle.std.specs.Prelude.{[], None, false};
 
-    ghost tells = { false };
-
     ghost counts = { false };
-
-    ghost written = { λ q. [] };
 
     ghost contents = { λ q. None };
 

@@ -1,4 +1,5 @@
 pub mod LineLaws
+pub mod PassLaws
 pub mod StreamLaws
 pub mod WordLaws
 pub mod NumberLaws

@@ -10,19 +10,18 @@ use Rattle.mt_lines.specs.declared.line.Line.{Line}
 use Rattle.mt_lines.specs.declared.line.Line.TheVariants as line
 use Rattle.mt_lines.specs.declared.line.ReadFault.{ReadFault}
 use Rattle.mt_lines.specs.declared.line.ReadFault.TheVariants as fault
-use Rattle.mt_lines.specs.Reading.{IsNext, IsNextKnown, LosesNoLine}
-use Rattle.std.proofs.Common.{Result, Ok, Err, inl, inr, IsTrue, Option, Some, None, MatchOption, MatchBool, add-one, append_assoc, zero, slice_index, eq-eqb, length-append, ◌≡◌, ℕ, suc, ◌+◌, ◌<◌, ◌≤◌, ◌==◌, if◌then◌else◌, List, [], ◌∷◌, ◌++◌, length, take, drop, refl, ap, sym, ◌∙◌, arith, Bool, true, false, eqb}
+use Rattle.mt_lines.specs.Reading.{IsNext, IsNextKnown}
+use Rattle.std.proofs.Common.{Result, Ok, Err, inl, inr, Option, Some, None, MatchOption, MatchBool, add-one, append_assoc, zero, slice_index, eq-eqb, length-append, ◌≡◌, ℕ, suc, ◌+◌, ◌<◌, ◌≤◌, ◌==◌, if◌then◌else◌, List, [], ◌∷◌, ◌++◌, length, take, drop, refl, ap, sym, ◌∙◌, arith, Bool, true, false, eqb}
 use Rattle.std.proofs.lemmas.Bool.{ne_eqb, eqb-true}
 use Rattle.std.proofs.lemmas.Bool.Decides.{nat_tests}
 use Rattle.mt_lines.specs.Lines.{Item, lines_of, Unbroken, slack, Text, TooLong, Unended, Endless, between_line_ends, items, cons_first, by_length, last_items}
 
 -- a line of which so many bytes were seen, and as many kept as the limit allows
-pub record Consumed (limit seen : ℕ) (kept : List ℕ) (told : Bool) (before after : List ℕ) (from to : Option (List ℕ)) : Type 0 where
+pub record Consumed (limit seen : ℕ) (kept : List ℕ) (from to : Option (List ℕ)) : Type 0 where
   pub text : List ℕ
   pub count : seen ≡ length text
   pub unbroken : Unbroken text
   pub front : kept ≡ take limit text
-  pub split : IsTrue told → before ≡ text ++ after
   pub known : Consumes from to text
 
 -- a first line that is whole is the first piece
@@ -106,13 +105,12 @@ drop-at_ten (b ∷ hay) zero n e = let is : b ≡ 10 = eqb-true b 10 e in ap (λ
 drop-at_ten (b ∷ hay) (suc k) n e = drop-at_ten hay k (omega arith) e
 
 -- the record of a line's front, after one more piece
-pub Consumed-more : (limit seen : ℕ) (kept : List ℕ) (told : Bool) (before after piece later new_kept : List ℕ) (from mid to : Option (List ℕ)) (c : Consumed limit seen kept told before after from mid) → (IsTrue told → after ≡ piece ++ later) → Consumes mid to piece → Unbroken piece → new_kept ≡ take limit (c.text ++ piece) → Consumed limit (seen + length piece) new_kept told before later from to
-Consumed-more limit seen kept told before after piece later new_kept from mid to c split more unbroken front = record {
+pub Consumed-more : (limit seen : ℕ) (kept piece new_kept : List ℕ) (from mid to : Option (List ℕ)) (c : Consumed limit seen kept from mid) → Consumes mid to piece → Unbroken piece → new_kept ≡ take limit (c.text ++ piece) → Consumed limit (seen + length piece) new_kept from to
+Consumed-more limit seen kept piece new_kept from mid to c more unbroken front = record {
   text = c.text ++ piece;
   count = simp length-append (omega (arith, c.count));
   unbroken = Unbroken-append c.text piece c.unbroken unbroken;
   front = front;
-  split = λ t. c.split t ∙ (rw (split t) (sym (append_assoc c.text piece later)));
   known = Consumes-trans from mid to c.text piece c.known more;
 }
 
@@ -158,29 +156,9 @@ finish_next limit (b ∷ text) before after new_kept r u split end within none s
       | inl over ↦ rw (long over, whole, end, lines_of-last limit [] tt) (last ∙ ap (λ x. x ∷ []) (by_length-long limit (length (b ∷ text)) Unended over within))
     ]
 
--- a front of the chunk, its line end, and what is behind it
-pub split_at_end : (before text chunk later behind : List ℕ) (k : ℕ) → before ≡ text ++ (chunk ++ later) → drop k chunk ≡ 10 ∷ drop (k + 1) chunk → behind ≡ drop 1 (drop k chunk) → before ≡ (text ++ take k chunk) ++ 10 ∷ (behind ++ later)
-split_at_end before text chunk later behind k h d e =
-    let rest : behind ≡ drop (k + 1) chunk = e ∙ ap (drop 1) d in
-    let whole : chunk ≡ take k chunk ++ 10 ∷ behind = sym (take-append-drop k chunk) ∙ ap (λ x. take k chunk ++ x) (d ∙ ap (λ x. 10 ∷ x) (sym rest)) in
-    h ∙ ap (λ x. text ++ (x ++ later)) whole ∙ simp append_assoc
-
--- a front of the chunk, and what is behind it
-pub split_at_front : (chunk later behind : List ℕ) (k : ℕ) → behind ≡ drop k chunk → chunk ++ later ≡ take k chunk ++ (behind ++ later)
-split_at_front chunk later behind k e =
-    ap (λ x. x ++ later) (sym (take-append-drop k chunk)) ∙ rw e (append_assoc (take k chunk) (drop k chunk) later)
-
 -- the whole of an unbroken list, as a front
 pub Unbroken-all : (chunk : List ℕ) (k : ℕ) → k ≡ length chunk → Unbroken chunk → Unbroken (take k chunk)
 Unbroken-all chunk k e u = rw (e, take-length chunk) u
-
--- what is left, after a step that changes neither the bytes that were read ahead nor the input
-pub left-same : {A : Type 0} (left : A → List ℕ) (ahead ahead' : List ℕ) (input input' : A) → ahead ≡ ahead' → input ≡ input' → ahead ++ left input ≡ ahead' ++ left input'
-left-same left ahead ahead' input input' e f = rw (e, f) refl
-
--- a front of the bytes, and what is left behind it, told in another way
-pub split-same : (before text rest rest' : List ℕ) → before ≡ text ++ rest → rest' ≡ rest → before ≡ text ++ rest'
-split-same before text rest rest' split same = rw same split
 
 -- a piece of what was read ahead is the front of what is known to be left
 pub ahead_consumed : (piece rest ahead : List ℕ) (later : Option (List ℕ)) → ahead ≡ piece ++ rest → Consumes (prepend_known ahead later) (prepend_known rest later) piece
@@ -203,13 +181,6 @@ pub endless_known : (limit : ℕ) (text : List ℕ) (before after : Option (List
 endless_known limit text None after kept u long split = tt
 endless_known limit text (Some xs) None kept u long split = absurd split
 endless_known limit text (Some xs) (Some ys) kept u long split = let e = lines_of-endless limit text ys u long in (e.0, rw split e.1)
-
--- no whole line was taken where a fault of the input ended the call
-pub part_whole : (e : ReadFault) (before after : Option (List ℕ)) (part : List ℕ) → Unbroken part → Consumes before after part → LosesNoLine (Err e) before after
-part_whole fault.Endless before after part u split = tt
-part_whole fault.Device before after part u split = (part, u, split)
-part_whole fault.Interrupted before after part u split = (part, u, split)
-part_whole fault.NoMemory before after part u split = (part, u, split)
 
 -- the same of so many bytes, as a call took them of a reader whose input it left alone
 pub ahead_taken : (n : ℕ) (ahead rest : List ℕ) (later later' : Option (List ℕ)) → rest ≡ drop n ahead → later' ≡ later → Consumes (prepend_known ahead later) (prepend_known rest later') (take n ahead)

@@ -1,16 +1,9 @@
 -- What a read of bytes in memory gives, and what faults a stream's last calls leave.
-use Rattle.std.proofs.Common.{◌≡◌, ◌∙◌, ap, ℕ, suc, zero, ◌+◌, ◌-◌, ◌<◌, List, [], ◌∷◌, ◌++◌, length, length-drop, take, drop, min, Ok, Option, None, Some, refl, sym, arith}
+use Rattle.std.proofs.Common.{◌≡◌, ◌∙◌, ap, ℕ, ◌+◌, ◌-◌, List, [], ◌++◌, length, length-drop, take, drop, Option, None, Some, sym, arith}
 use Rattle.std.specs.Io.KnownBytes.{Consumes, Keeps, Appends}
 use Rattle.std.proofs.KnownBytes.{Appends-trans}
 use Rattle.std.proofs.Math.Seq.{take-add}
 use Rattle.std.proofs.lemmas.List.{take_all, append-nil}
-use Rattle.mt_lines.specs.Stream.{Gives}
-
--- a piece of a size that is 0 only where no bytes are left
-pub Gives-portion : (left rest buffer : List ℕ) (room most n : ℕ) → n ≡ min (min (length left) room) most → 0 < room → 0 < most → left ≡ take n buffer ++ rest → Gives left rest buffer (Ok n)
-Gives-portion left rest buffer room most (suc n) size some any split = split
-Gives-portion [] rest buffer room most zero size some any split = (refl, sym split)
-Gives-portion (b ∷ left) rest buffer room most zero size some any split = absurd (omega arith)
 
 -- known bytes that were kept, and then a piece of them
 pub kept_consumed : (from mid to : Option (List ℕ)) (piece : List ℕ) → Keeps from mid → Consumes mid to piece → Consumes from to piece

@@ -12,12 +12,8 @@ use Rattle.mt_lines.specs.declared.stream.Input.{Ghosts}
 use Rattle.mt_lines.specs.declared.stream.StreamFault.{StreamFault}
 use Rattle.mt_lines.specs.Stream.{HasFailed, IsInterrupted, most_interruptions}
 
--- the bytes that the reader has still to serve: those that it has read ahead, and those that its
--- input has left
-abbrev pub bytes_left : {R : Type 0} {g : Ghosts R} → LineReader R g → List ℕ
-bytes_left {R} {g} r = r.chunk ++ g.left r.reader
-
--- the same where what its input has left is known
+-- the bytes that the reader has still to serve, where what its input has left is known: those that it
+-- has read ahead, and those that its input has left
 abbrev pub known_left : {R : Type 0} {g : Ghosts R} → LineReader R g → Option (List ℕ)
 known_left {R} {g} r = prepend_known r.chunk (g.remaining r.reader)
 
@@ -66,6 +62,12 @@ abbrev pub IsNextKnown : ℕ → Option (List ℕ) → Result Line ReadFault →
 IsNextKnown limit None r text after = ⊤
 IsNextKnown limit (Some before) r text None = ⊥
 IsNextKnown limit (Some before) r text (Some after) = IsNext limit before r text after
+
+-- known bytes begin with these lines, and what is left after them; known bytes stay known
+abbrev pub PassLines : ℕ → Option (List ℕ) → List Item → Option (List ℕ) → Type 0
+PassLines limit None items after = ⊤
+PassLines limit (Some before) items None = ⊥
+PassLines limit (Some before) items (Some after) = lines_of limit before ≡ items ++ lines_of limit after
 
 -- a call that answered a fault of its input took no whole line of it: what it took has no line end
 abbrev pub LosesNoLine : Result Line ReadFault → Option (List ℕ) → Option (List ℕ) → Type 0

@@ -1,6 +1,6 @@
 -- What one call of a stream gives, takes and counts, and what the streams in memory hold.
 -- A word with no source is this project's rule.
-use Rattle.std.specs.Prelude.{◌≡◌, ℕ, ◌-◌, ◌<◌, suc, zero, min, List, [], ◌∷◌, ◌++◌, length, replicate, take, Result, Ok, Err, Bool}
+use Rattle.std.specs.Prelude.{◌≡◌, ℕ, ◌-◌, ◌<◌, suc, zero, min, List, [], ◌∷◌, length, replicate, Result, Ok, Err, Bool}
 use Rattle.mt_lines.specs.declared.stream.StreamFault.{StreamFault}
 use Rattle.mt_lines.specs.declared.stream.StreamFault.TheVariants.{Interrupted, Failed}
 use Rattle.mt_lines.specs.declared.stream.Reading.{Reading}
@@ -9,11 +9,6 @@ use Rattle.mt_lines.specs.declared.memory.Portions.{Portions}
 use Rattle.mt_lines.specs.declared.memory.Faulty.{Faulty}
 use Rattle.mt_lines.specs.declared.memory.Faltering.{Faltering}
 use Rattle.mt_lines.specs.declared.memory.Sink.{Sink}
-
--- how many bytes a write took
-abbrev pub bytes_taken : Result ℕ StreamFault → ℕ
-bytes_taken (Ok n) = n
-bytes_taken (Err e) = 0
 
 -- 1 for a failed write, by this project's rule one that answers a fault or takes nothing where there is
 -- something, and else 0
@@ -59,13 +54,6 @@ HasFailed faults = (n : ℕ) × (n < most_interruptions) × (faults ≡ Failed �
 -- the last calls were interrupted, as many in succession as end a read or a send
 abbrev pub IsInterrupted : List StreamFault → Type 0
 IsInterrupted faults = faults ≡ interruptions most_interruptions
-
--- a read moves the front of what was left into the buffer, moves nothing only at the end of the
--- input, and leaves all where it fails
-abbrev pub Gives : List ℕ → List ℕ → List ℕ → Result ℕ StreamFault → Type 0
-Gives old new buffer (Ok zero) = (old ≡ []) × (new ≡ [])
-Gives old new buffer (Ok (suc n)) = old ≡ take (suc n) buffer ++ new
-Gives old new buffer (Err e) = new ≡ old
 
 -- the reader of the standard library that an input reads
 abbrev pub reading_inner : {R : Type 0} → Reading R → R

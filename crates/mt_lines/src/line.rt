@@ -118,9 +118,6 @@ impl Chunk {
         requires { self.old ≡ [] }
         ensures some { IfOk result (λ more. MatchBool more (0 < length self.new) (self.new ≡ [])) }
         ensures err { OnErr result (self.new ≡ []) }
-        ensures given { IsTrue R.tells → R.left reader.old ≡ self.new ++ R.left reader.new }
-        ensures end { IfOk result
-            (λ more. MatchBool more (Unit {0}) (IsTrue R.tells → R.left reader.new ≡ [])) }
         ensures known { Consumes (R.remaining reader.old) (R.remaining reader.new) self.new }
         ensures known_end { IfOk result (λ more. MatchBool more (Unit {0}) (IsAtEnd (R.remaining reader.new))) }
         ensures counted { IsTrue R.counts → MatchResult result
@@ -167,14 +164,13 @@ fn keep(line: &mut Vec<u8>, limit: usize, piece: &[u8]) -> Result<(), AllocError
 }
 
 impl<R: Input + Drop> LineReader<R> {
-    ghost use Rattle.mt_lines.specs.Reading.{IsNext, IsNextKnown, LosesNoLine, IsFaultCause, IsReadCause, IsFaultRun, IsReadRun, bytes_left, known_left, failed_calls, last_faults, limit_of, fault_of, last_line, line_room, most_reserved};
+    ghost use Rattle.mt_lines.specs.Reading.{IsNextKnown, LosesNoLine, IsFaultCause, IsReadCause, IsFaultRun, IsReadRun, known_left, failed_calls, last_faults, limit_of, fault_of, last_line, line_room, most_reserved};
 
     /// Takes the input, and the most bytes that a line may have.
     ///
     /// Reserves the smaller of the limit and 8,192 bytes, and answers `AllocError` where there is
     /// no memory for them. Reads nothing yet.
     pub fn new(alloc: Global, reader: R, limit: u32) -> Result<LineReader<R>, AllocError>
-        ensures left { IfOk result (λ r. bytes_left r ≡ R.left reader) }
         ensures known { IfOk result (λ r. known_left r ≡ R.remaining reader) }
         ensures failed { IfOk result (λ r. failed_calls r ≡ R.failed reader) }
         ensures faults { IfOk result (λ r. last_faults r ≡ R.faults reader) }
@@ -210,8 +206,6 @@ impl<R: Input + Drop> LineReader<R> {
     /// The answers are the lines of the input's bytes, one a call. After a fault every later call
     /// answers the same fault, and changes nothing.
     pub fn next(&mut self) -> Result<Line, ReadFault>
-        ensures next { IsNone (fault_of self.old) → IsTrue R.tells
-            → IsNext (limit_of self.old) (bytes_left self.old) result (last_line self.new) (bytes_left self.new) }
         ensures known { IsNone (fault_of self.old)
             → IsNextKnown (limit_of self.old) (known_left self.old) result (last_line self.new) (known_left self.new) }
         ensures whole { IsNone (fault_of self.old)
@@ -250,8 +244,6 @@ impl<R: Input + Drop> LineReader<R> {
 
     /// Reads one line, where no fault has ended the reading.
     fn read_line(&mut self) -> Result<Line, ReadFault>
-        ensures next { IsTrue R.tells
-            → IsNext self.old.limit (bytes_left self.old) result self.new.line.items (bytes_left self.new) }
         ensures known { IsNextKnown self.old.limit (known_left self.old) result self.new.line.items (known_left self.new) }
         ensures whole { LosesNoLine result (known_left self.old) (known_left self.new) }
         ensures empty { IfOk result (λ line. line ≢ Line.Text → self.new.line.items ≡ []) }
@@ -287,9 +279,7 @@ impl<R: Input + Drop> LineReader<R> {
     /// Sees to it that the chunk has bytes: false at the end of the input.
     fn more(&mut self) -> Result<bool, ReadFault>
         ensures some { IfOk result
-            (λ more. MatchBool more (0 < length self.new.chunk) (IsTrue R.tells
-            → bytes_left self.new ≡ [])) }
-        ensures given { IsTrue R.tells → bytes_left self.new ≡ bytes_left self.old }
+            (λ more. MatchBool more (0 < length self.new.chunk) (Unit {0})) }
         ensures known { Keeps (known_left self.old) (known_left self.new) }
         ensures known_end { IfOk result (λ more. MatchBool more (Unit {0}) (IsAtEnd (known_left self.new))) }
         ensures cause { IsTrue R.counts → MatchResult result
@@ -314,9 +304,6 @@ impl<R: Input + Drop> LineReader<R> {
         requires { self.old.chunk ≡ [] }
         ensures some { IfOk result
             (λ more. MatchBool more (0 < length self.new.chunk) (self.new.chunk ≡ [])) }
-        ensures given { IsTrue R.tells → R.left self.old.reader ≡ bytes_left self.new }
-        ensures end { IfOk result
-            (λ more. MatchBool more (Unit {0}) (IsTrue R.tells → R.left self.new.reader ≡ [])) }
         ensures known { Consumes (R.remaining self.old.reader) (R.remaining self.new.reader) self.new.chunk }
         ensures known_end { IfOk result (λ more. MatchBool more (Unit {0}) (IsAtEnd (R.remaining self.new.reader))) }
         ensures cause { IsTrue R.counts → MatchResult result

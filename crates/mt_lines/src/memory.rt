@@ -1,13 +1,13 @@
 //! Streams in memory: bytes to read in pieces, a reader and a writer that fail for a while, and a sink
 //! that keeps what is written. Tests of sessions read and write them in the place of connections.
-ghost use Rattle.std.specs.Prelude.{◌≡◌, ◌+◌, ◌<◌, ◌≤◌, [], length, max, IfOk, Ok, vec_capacity, vec_len};
+ghost use Rattle.std.specs.Prelude.{◌≡◌, ◌+◌, ◌<◌, ◌≤◌, ◌++◌, [], length, max, take, IfOk, Ok, vec_capacity, vec_len};
 
 use crate::stream::{Input, Output, StreamFault};
 use std::alloc::{AllocError, Global};
 
 /// Bytes in memory, read at most so many a call.
 ///
-/// As an `Input` it tells its bytes and counts its failed calls, of which there are none.
+/// As an `Input` its bytes are known, and it counts its failed calls, of which there are none.
 #[derive(Drop)]
 pub struct Portions<'a> {
     bytes: &'a [u8],
@@ -16,7 +16,7 @@ pub struct Portions<'a> {
 }
 
 impl<'a> Portions<'a> {
-    ghost use Rattle.mt_lines.specs.Stream.{Gives, portion_size, portions_left, portions_most};
+    ghost use Rattle.mt_lines.specs.Stream.{portion_size, portions_left, portions_most};
 
     /// Takes the bytes to give, and the most bytes that one read gives; 0 stands for 1.
     pub fn new(bytes: &'a [u8], most: usize) -> Portions<'a>
@@ -35,7 +35,8 @@ impl<'a> Portions<'a> {
         ensures count { result
             ≡ portion_size (portions_left self.old) (length buffer.old) (portions_most self.old) }
         ensures bound { result ≤ length buffer.new }
-        ensures given { Gives (portions_left self.old) (portions_left self.new) buffer.new (Ok result) }
+        ensures given { portions_left self.old ≡ take result buffer.new ++ portions_left self.new }
+        ensures end { result ≡ 0 → portions_left self.new ≡ [] }
         ensures most { portions_most self.new ≡ portions_most self.old }
     {
         let count = self.bytes.len().min(buffer.len()).min(self.most);
@@ -48,13 +49,9 @@ impl<'a> Portions<'a> {
 impl Input for Portions<'_> {
     ghost use Rattle.std.specs.Prelude.{◌≡◌, ◌+◌, ◌<◌, ◌≤◌, [], length, IfOk, Ok, Some, true};
     ghost use Rattle.std.specs.Io.KnownBytes.{ReadConsumes};
-    ghost use Rattle.mt_lines.specs.Stream.{Gives, failed_reads, faults_after_read, portion_size, portions_left, portions_most};
-
-    ghost tells = { true };
+    ghost use Rattle.mt_lines.specs.Stream.{failed_reads, faults_after_read, portion_size, portions_left, portions_most};
 
     ghost counts = { true };
-
-    ghost left = { portions_left };
 
     ghost remaining = { λ p. Some (portions_left p) };
 
@@ -66,7 +63,6 @@ impl Input for Portions<'_> {
     fn read(&mut self, buffer: &mut [u8]) -> Result<usize, StreamFault>
         requires { 0 < length buffer.old }
         ensures bound { IfOk result (λ n. n ≤ length buffer.new) }
-        ensures given { Gives (portions_left self.old) (portions_left self.new) buffer.new result }
         ensures known { ReadConsumes (Some (portions_left self.old)) (Some (portions_left self.new)) result buffer.new }
 
         // No call fails, so that the count of failed calls stays 0.
@@ -83,7 +79,7 @@ impl Input for Portions<'_> {
 
 /// Bytes in memory, read at most so many a call, with some calls in succession that fail.
 ///
-/// As an `Input` it tells its bytes and counts its failed calls.
+/// As an `Input` its bytes are known, and it counts its failed calls.
 #[derive(Drop)]
 pub struct Faulty<'a> {
     portions: Portions<'a>,
@@ -124,13 +120,9 @@ impl<'a> Faulty<'a> {
 impl Input for Faulty<'_> {
     ghost use Rattle.std.specs.Prelude.{◌≡◌, ◌+◌, ◌-◌, ◌<◌, ◌≤◌, length, IfOk, Ok, Err, Some, true};
     ghost use Rattle.std.specs.Io.KnownBytes.{ReadConsumes};
-    ghost use Rattle.mt_lines.specs.Stream.{Gives, failed_reads, faults_after_read, portion_size, faulty_left, faulty_most, faulty_before, faulty_pending, faulty_failed, faulty_faults, faulty_fault};
-
-    ghost tells = { true };
+    ghost use Rattle.mt_lines.specs.Stream.{failed_reads, faults_after_read, portion_size, faulty_left, faulty_most, faulty_before, faulty_pending, faulty_failed, faulty_faults, faulty_fault};
 
     ghost counts = { true };
-
-    ghost left = { faulty_left };
 
     ghost remaining = { λ f. Some (faulty_left f) };
 
@@ -142,7 +134,6 @@ impl Input for Faulty<'_> {
     fn read(&mut self, buffer: &mut [u8]) -> Result<usize, StreamFault>
         requires { 0 < length buffer.old }
         ensures bound { IfOk result (λ n. n ≤ length buffer.new) }
-        ensures given { Gives (faulty_left self.old) (faulty_left self.new) buffer.new result }
         ensures known { ReadConsumes (Some (faulty_left self.old)) (Some (faulty_left self.new)) result buffer.new }
         ensures counted { faulty_failed self.new ≡ faulty_failed self.old + failed_reads result }
         ensures faults { faulty_faults self.new ≡ faults_after_read (faulty_faults self.old) result }
@@ -177,7 +168,7 @@ impl Input for Faulty<'_> {
 
 /// Takes all that is written to it and keeps nothing, but its first calls fail.
 ///
-/// As an `Output` it counts its failed calls, and does not tell its bytes.
+/// As an `Output` it counts its failed calls, and its bytes are not known.
 #[derive(Drop)]
 pub struct Faltering {
     fault: StreamFault,
@@ -208,14 +199,10 @@ impl Faltering {
 }
 
 impl Output for Faltering {
-    ghost use Rattle.std.specs.Prelude.{◌≡◌, ◌+◌, ◌<◌, ◌≤◌, [], length, IfOk, Ok, Err, None, true, false};
+    ghost use Rattle.std.specs.Prelude.{◌≡◌, ◌+◌, ◌<◌, ◌≤◌, length, IfOk, Ok, Err, None, true};
     ghost use Rattle.mt_lines.specs.Stream.{failed_writes, faults_after_write, faltering_pending, faltering_failed, faltering_faults, faltering_fault};
 
-    ghost tells = { false };
-
     ghost counts = { true };
-
-    ghost written = { λ f. [] };
 
     ghost contents = { λ f. None };
 
@@ -244,7 +231,7 @@ impl Output for Faltering {
 
 /// Keeps what is written to it, at most so many bytes a call, until it is full.
 ///
-/// As an `Output` it tells its bytes, and does not count its failed calls: a full sink fails for
+/// As an `Output` its bytes are known, and it does not count its failed calls: a full sink fails for
 /// ever, which no number of the machine counts.
 #[derive(Drop)]
 pub struct Sink {
@@ -282,15 +269,11 @@ impl Sink {
 }
 
 impl Output for Sink {
-    ghost use Rattle.std.specs.Prelude.{◌≡◌, ◌-◌, ◌<◌, ◌≤◌, ◌++◌, length, take, min, IfOk, Ok, Err, Some, true, false, []};
+    ghost use Rattle.std.specs.Prelude.{◌≡◌, ◌-◌, ◌<◌, ◌≤◌, length, min, IfOk, Ok, Err, Some, false};
     ghost use Rattle.std.specs.Io.KnownBytes.{WriteAppends};
-    ghost use Rattle.mt_lines.specs.Stream.{bytes_taken, sink_bytes, sink_most, sink_room};
-
-    ghost tells = { true };
+    ghost use Rattle.mt_lines.specs.Stream.{sink_bytes, sink_most, sink_room};
 
     ghost counts = { false };
-
-    ghost written = { sink_bytes };
 
     ghost contents = { λ s. Some (sink_bytes s) };
 
@@ -301,8 +284,6 @@ impl Output for Sink {
     /// Takes as many bytes as it has room for and may take in one call, and fails once it is full.
     fn write(&mut self, bytes: &[u8]) -> Result<usize, StreamFault>
         ensures bound { IfOk result (λ n. n ≤ length bytes.now) }
-        ensures sent { sink_bytes self.new
-            ≡ sink_bytes self.old ++ take (bytes_taken result) bytes.now }
         ensures known { WriteAppends (Some (sink_bytes self.old)) (Some (sink_bytes self.new)) result bytes.now }
         ensures full { length (sink_bytes self.old) ≡ sink_room self.old
             → result ≡ Err StreamFault.Failed }

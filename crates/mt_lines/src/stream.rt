@@ -1,8 +1,8 @@
 //! Streams of bytes, and a send that says how much went out.
-ghost use Rattle.std.specs.Prelude.{◌≡◌, ◌↔◌, ℕ, ◌+◌, ◌<◌, ◌≤◌, List, ◌++◌, length, take, Bool, IsTrue, IfOk, IfErr, OnErr, OnOk, Result, ◌⊎◌, false, []};
+ghost use Rattle.std.specs.Prelude.{◌≡◌, ◌↔◌, ℕ, ◌+◌, ◌<◌, ◌≤◌, List, length, take, Bool, IsTrue, IfOk, IfErr, OnErr, OnOk, Result, ◌⊎◌, false, []};
 ghost use Rattle.std.specs.Io.KnownBytes.{Appends, Keeps, WriteAppends};
 ghost use Rattle.std.specs.IoError.{error_kind};
-ghost use Rattle.mt_lines.specs.Stream.{bytes_taken, failed_writes, failed_reads, faults_after_read, faults_after_write, Gives, HasFailed, IsInterrupted};
+ghost use Rattle.mt_lines.specs.Stream.{failed_writes, failed_reads, faults_after_read, faults_after_write, HasFailed, IsInterrupted};
 
 use std::io::{Error, ErrorKind, Read, Write};
 
@@ -20,24 +20,17 @@ pub enum StreamFault {
 
 /// What bytes come from.
 ///
-/// An implementation says of its type whether it `tells` its bytes, and whether it `counts` its
-/// failed calls. Where it does not, it owes nothing but the bound: what is said here of bytes is said
-/// of one that tells, and what is said of calls of one that counts. `left` is what it has still to
-/// give, up to the end of the input. `failed` is how many of its calls have failed, and `faults` are
-/// the faults of its last calls, the latest first, back to the last call that succeeded.
-///
-/// `remaining` is what it has still to give where that is known of the value, as std's `Read` has it:
-/// a stream over another one knows it where that one does.
+/// `remaining` is what it has still to give, up to the end of the input, where that is known of the
+/// value, as std's `Read` has it: a stream over another one knows it where that one does. An
+/// implementation says of its type whether it `counts` its failed calls, and what is said here of calls
+/// is said of one that does. `failed` is how many of its calls have failed, and `faults` are the faults
+/// of its last calls, the latest first, back to the last call that succeeded.
 pub trait Input {
     ghost use Rattle.std.specs.Prelude.{Option};
     ghost use Rattle.std.specs.Io.KnownBytes.{ReadConsumes};
     ghost use Rattle.mt_lines.specs.declared.stream.StreamFault.{StreamFault};
 
-    ghost tells: { Bool };
-
     ghost counts: { Bool };
-
-    ghost left: { Self → List ℕ };
 
     ghost remaining: { Self → Option (List ℕ) };
 
@@ -46,12 +39,10 @@ pub trait Input {
     ghost faults: { Self → List StreamFault };
 
     /// Moves the next bytes to the front of the buffer, which is not empty, and answers how many:
-    /// 0 at the end of the input. Where the input tells its bytes, a call that answers a fault moves
-    /// nothing.
+    /// 0 at the end of the input. Where what remains is known, a call that answers a fault moves nothing.
     fn read(&mut self, buffer: &mut [u8]) -> Result<usize, StreamFault>
         requires { 0 < length buffer.old }
         ensures bound { IfOk result (λ n. n ≤ length buffer.new) }
-        ensures given { IsTrue tells → Gives (left self.old) (left self.new) buffer.new result }
         ensures known { ReadConsumes (remaining self.old) (remaining self.new) result buffer.new }
         ensures counted { IsTrue counts → failed self.new ≡ failed self.old + failed_reads result }
         ensures faults { IsTrue counts → faults self.new ≡ faults_after_read (faults self.old) result };
@@ -59,25 +50,17 @@ pub trait Input {
 
 /// What bytes go to.
 ///
-/// An implementation says of its type whether it `tells` its bytes, and whether it `counts` its
-/// failed calls. Where it does not, it owes nothing but the bound: what is said here of bytes is said
-/// of one that tells, and what is said of calls of one that counts. `written` is what it has taken
-/// so far. `failed` is how many of its calls have failed, and `faults` are the faults of its last
-/// calls, the latest first, back to the last call that succeeded. A call that takes none of some
-/// bytes has failed.
-///
-/// `contents` is what it has taken where that is known of the value, as std's `Write` has it: a stream
-/// over another one knows it where that one does.
+/// `contents` is what it has taken so far where that is known of the value, as std's `Write` has it: a
+/// stream over another one knows it where that one does. An implementation says of its type whether it
+/// `counts` its failed calls, and what is said here of calls is said of one that does. `failed` is how
+/// many of its calls have failed, and `faults` are the faults of its last calls, the latest first, back
+/// to the last call that succeeded. A call that takes none of some bytes has failed.
 pub trait Output {
     ghost use Rattle.std.specs.Prelude.{Option};
     ghost use Rattle.std.specs.Io.KnownBytes.{WriteAppends};
     ghost use Rattle.mt_lines.specs.declared.stream.StreamFault.{StreamFault};
 
-    ghost tells: { Bool };
-
     ghost counts: { Bool };
-
-    ghost written: { Self → List ℕ };
 
     ghost contents: { Self → Option (List ℕ) };
 
@@ -85,13 +68,11 @@ pub trait Output {
 
     ghost faults: { Self → List StreamFault };
 
-    /// Takes some of the bytes, from the first one on, and answers how many. Where the output tells
-    /// its bytes, and where they are known, a call that answers a fault takes nothing; of a real stream
-    /// some may have gone out before a call answers `Failed`.
+    /// Takes some of the bytes, from the first one on, and answers how many. Where its contents are
+    /// known, a call that answers a fault takes nothing; of a real stream some may have gone out before a
+    /// call answers `Failed`.
     fn write(&mut self, bytes: &[u8]) -> Result<usize, StreamFault>
         ensures bound { IfOk result (λ n. n ≤ length bytes.now) }
-        ensures sent { IsTrue tells
-            → written self.new ≡ written self.old ++ take (bytes_taken result) bytes.now }
         ensures known { WriteAppends (contents self.old) (contents self.new) result bytes.now }
         ensures counted { IsTrue counts → failed self.new ≡ failed self.old + failed_writes bytes.now result }
         ensures faults { IsTrue counts → faults self.new ≡ faults_after_write bytes.now (faults self.old) result };
@@ -112,11 +93,8 @@ pub struct Cut {
 fn write_once<W: Output>(writer: &mut W, bytes: &[u8]) -> Result<usize, Cut>
     ensures bound { IfOk result (λ count. count ≤ length bytes.now) }
     ensures some { IfOk result (λ count. 0 < length bytes.now → 0 < count) }
-    ensures sent { IfOk result (λ count. IsTrue W.tells
-        → W.written writer.new ≡ W.written writer.old ++ take count bytes.now) }
     ensures known { WriteAppends (W.contents writer.old) (W.contents writer.new) result bytes.now }
     ensures none { IfErr result (λ cut. cut.sent ≡ 0) }
-    ensures kept { OnErr result (IsTrue W.tells → W.written writer.new ≡ W.written writer.old) }
     ensures cause { OnErr result (IsTrue W.counts → W.failed writer.old < W.failed writer.new) }
     ensures counted { IsTrue W.counts → W.failed writer.old ≤ W.failed writer.new }
     ensures faults { OnErr result (IsTrue W.counts → W.faults writer.old ≡ []
@@ -139,17 +117,13 @@ fn write_once<W: Output>(writer: &mut W, bytes: &[u8]) -> Result<usize, Cut>
 ///
 /// Answers `Cut` at a write that fails or takes nothing, and, by this project's rule, at the
 /// 1,000th interrupted write in succession. Then only the bytes that it tells went out, fewer than
-/// all, where the output tells its bytes or they are known; of a real stream some more may have, in
-/// the write that failed.
+/// all, where the output's contents are known; of a real stream some more may have, in the write that
+/// failed.
 pub fn send<W: Output>(writer: &mut W, bytes: &[u8]) -> Result<(), Cut>
-    ensures whole { OnOk result (IsTrue W.tells
-        → W.written writer.new ≡ W.written writer.old ++ bytes.now) }
     ensures appended { OnOk result (Appends (W.contents writer.old) (W.contents writer.new) bytes.now) }
 
     // After a cut, a prefix of the bytes went out, and not all of them.
     ensures within { IfErr result (λ cut. cut.sent < length bytes.now) }
-    ensures cut { IfErr result (λ cut. IsTrue W.tells
-        → W.written writer.new ≡ W.written writer.old ++ take cut.sent bytes.now) }
     ensures appended_part { IfErr result (λ cut. Appends (W.contents writer.old) (W.contents writer.new) (take cut.sent bytes.now)) }
 
     // A cut comes only where a call failed: where the last call did, with fewer interruptions in
@@ -176,7 +150,6 @@ pub fn send<W: Output>(writer: &mut W, bytes: &[u8]) -> Result<(), Cut>
 ///
 /// Answers `Cut`, with no bytes sent, at a write that fails, and at the 1,000th interrupted write in succession.
 pub fn find_reader<W: Output>(writer: &mut W) -> Result<(), Cut>
-    ensures kept { IsTrue W.tells → W.written writer.new ≡ W.written writer.old }
     ensures known { Keeps (W.contents writer.old) (W.contents writer.new) }
     ensures none { IfErr result (λ cut. cut.sent ≡ 0) }
 
@@ -225,11 +198,7 @@ impl<R: Read + Drop> Input for Reading<R> {
     ghost use Rattle.std.specs.Io.KnownBytes.{ReadConsumes};
     ghost use Rattle.mt_lines.specs.Stream.{reading_inner};
 
-    ghost tells = { false };
-
     ghost counts = { false };
-
-    ghost left = { λ r. [] };
 
     ghost remaining = { λ r. R.remaining (reading_inner r) };
 
@@ -316,11 +285,7 @@ impl<W: Write + Drop> Output for Writing<W> {
     ghost use Rattle.std.specs.Io.KnownBytes.{WriteAppends};
     ghost use Rattle.mt_lines.specs.Stream.{writing_inner};
 
-    ghost tells = { false };
-
     ghost counts = { false };
-
-    ghost written = { λ w. [] };
 
     ghost contents = { λ w. W.contents (writing_inner w) };
 

@@ -76,11 +76,7 @@ impl<'a, Runtime: Wait, R: Read + Drop> Patient<'a, Runtime, R> {
 impl<'a, Runtime: Wait, R: Read + Drop> Input for Patient<'a, Runtime, R> {
     ghost use Rattle.std.specs.Prelude.{[], None, false};
 
-    ghost tells = { false };
-
     ghost counts = { false };
-
-    ghost left = { λ p. [] };
 
     ghost remaining = { λ p. None };
 

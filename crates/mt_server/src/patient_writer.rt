@@ -68,11 +68,7 @@ impl<'a, Runtime: Wait, W: Write + Drop> Output for PatientWriter<'a, Runtime, W
     ghost use Rattle.std.specs.Prelude.{[], false};
     ghost use Rattle.mt_server.specs.Patience.{patient_writer_inner};
 
-    ghost tells = { false };
-
     ghost counts = { false };
-
-    ghost written = { λ w. [] };
 
     ghost contents = { λ w. W.contents (patient_writer_inner w) };
 

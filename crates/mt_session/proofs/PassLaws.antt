@@ -3,45 +3,22 @@ use Rattle.std.proofs.Common.{◌≡◌, ℕ, List, [], ◌∷◌, ◌++◌, ref
 use Rattle.std.specs.Io.KnownBytes.{Appends, Keeps}
 use Rattle.std.proofs.KnownBytes.{Appends-nil}
 use Rattle.mt_lines.specs.declared.line.ReadFault.TheVariants.{Endless as NeverEnds}
-use Rattle.mt_lines.specs.Lines.{Item, Text, TooLong, Unended, Endless, lines_of}
+use Rattle.mt_lines.specs.Lines.{Item, Unended, Endless, lines_of}
 use Rattle.mt_lines.specs.declared.line.Line.{Line}
-use Rattle.mt_lines.specs.declared.line.Line.TheVariants.{Text as TextLine, TooLong as LongLine, Unended as BrokenLine, End as NoLine}
-use Rattle.mt_lines.specs.Reading.{IsNextKnown}
+use Rattle.mt_lines.specs.declared.line.Line.TheVariants.{Unended as BrokenLine, End as NoLine}
+use Rattle.mt_lines.specs.Reading.{IsNextKnown, PassLines}
+use Rattle.mt_lines.proofs.PassLaws.{lines_of-nil}
 use Rattle.mt_lines.proofs.StreamLaws.{kept_appended}
 use Rattle.mt_session.specs.declared.serving.End.{End}
 use Rattle.mt_session.specs.declared.serving.End.TheVariants.{Input, Read}
-use Rattle.mt_session.specs.Session.{PassLines, EndsInput, line_limit}
+use Rattle.mt_session.specs.Session.{EndsInput, line_limit}
 
-lines_of-nil : (limit : ℕ) → lines_of limit [] ≡ []
-unfolding lines_of
-lines_of-nil limit = refl
-
-pub pass_none : (before : Option (List ℕ)) → PassLines before [] before
-pass_none None = tt
-pass_none (Some xs) = refl
-
-pub pass_more : (a b c : Option (List ℕ)) (xs ys : List Item) → PassLines a xs b → PassLines b ys c → PassLines a (xs ++ ys) c
-pass_more None b c xs ys first second = tt
-pass_more (Some ps) None c xs ys first second = absurd first
-pass_more (Some ps) (Some qs) None xs ys first second = absurd second
-pass_more (Some ps) (Some qs) (Some rs) xs ys first second = first ∙ ap (λ (l : List Item). xs ++ l) second ∙ sym (append_assoc xs ys (lines_of line_limit rs))
-
-pub pass_text : (before after : Option (List ℕ)) (bytes : List ℕ) → IsNextKnown line_limit before (Ok TextLine) bytes after → PassLines before (Text bytes ∷ []) after
-pass_text None after bytes n = tt
-pass_text (Some xs) None bytes n = absurd n
-pass_text (Some xs) (Some ys) bytes n = n
-
-pub pass_long : (before after : Option (List ℕ)) (bytes : List ℕ) → IsNextKnown line_limit before (Ok LongLine) bytes after → PassLines before (TooLong ∷ []) after
-pass_long None after bytes n = tt
-pass_long (Some xs) None bytes n = absurd n
-pass_long (Some xs) (Some ys) bytes n = n
-
-pub pass_broken : (before after : Option (List ℕ)) (bytes : List ℕ) → IsNextKnown line_limit before (Ok BrokenLine) bytes after → PassLines before (Unended ∷ []) after × EndsInput Input before (Unended ∷ [])
+pub pass_broken : (before after : Option (List ℕ)) (bytes : List ℕ) → IsNextKnown line_limit before (Ok BrokenLine) bytes after → PassLines line_limit before (Unended ∷ []) after × EndsInput Input before (Unended ∷ [])
 pass_broken None after bytes n = (tt, tt)
 pass_broken (Some xs) None bytes n = absurd n
 pass_broken (Some xs) (Some ys) bytes n = (n.0 ∙ ap (λ (l : List Item). Unended ∷ l) (sym (ap (lines_of line_limit) n.1 ∙ lines_of-nil line_limit)), n.0)
 
-pub pass_end : (before after : Option (List ℕ)) (bytes : List ℕ) → IsNextKnown line_limit before (Ok NoLine) bytes after → PassLines before [] after × EndsInput Input before []
+pub pass_end : (before after : Option (List ℕ)) (bytes : List ℕ) → IsNextKnown line_limit before (Ok NoLine) bytes after → PassLines line_limit before [] after × EndsInput Input before []
 pass_end None after bytes n = (tt, tt)
 pass_end (Some xs) None bytes n = absurd n
 pass_end (Some xs) (Some ys) bytes n = (n.0 ∙ sym (ap (lines_of line_limit) n.1 ∙ lines_of-nil line_limit), n.0)
@@ -57,7 +34,7 @@ pub next_at : (limit : ℕ) (before later : Option (List ℕ)) (bytes : List ℕ
 next_at limit before later bytes line e n = subst (λ x. IsNextKnown x before (Ok line) bytes later) e n
 
 -- how the input ends after these lines is how it ends after more of them
-pub input_more : (by : End) (a b : Option (List ℕ)) (xs ys : List Item) → PassLines a xs b → EndsInput by b ys → EndsInput by a (xs ++ ys)
+pub input_more : (by : End) (a b : Option (List ℕ)) (xs ys : List Item) → PassLines line_limit a xs b → EndsInput by b ys → EndsInput by a (xs ++ ys)
 input_more Input None b xs ys first second = tt
 input_more Input (Some ps) None xs ys first second = absurd first
 input_more Input (Some ps) (Some qs) xs ys first second = first ∙ ap (λ (l : List Item). xs ++ l) second

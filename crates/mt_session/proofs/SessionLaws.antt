@@ -15,16 +15,17 @@ use Rattle.std.proofs.KnownBytes.{Appends-nil, Appends-trans}
 use Rattle.mt_lines.specs.Lines.{Item, Unended}
 use Rattle.mt_lines.specs.declared.line.Line.{Line}
 use Rattle.mt_lines.specs.declared.line.Line.TheVariants.{Text as TextLine, TooLong as LongLine, Unended as BrokenLine, End as NoLine}
-use Rattle.mt_lines.specs.Reading.{IsNextKnown, LosesNoLine, IsFaultCause}
+use Rattle.mt_lines.specs.Reading.{IsNextKnown, LosesNoLine, IsFaultCause, PassLines}
 use Rattle.mt_session.specs.declared.serving.End.{End}
 use Rattle.mt_session.specs.declared.serving.End.TheVariants.{Quit, Stop, Input, Read, Cut as CutOff, Memory, Spent}
 use Rattle.mt_floor.specs.Schedule.{FloorView, settled}
 use Rattle.mt_floor.proofs.SettledLaws.{settled_idle}
 use Rattle.mt_session.specs.Answers.{refusal}
 use Rattle.mt_session.specs.Requests.{SessionState, session_state, session_at, answer_to, state_to, begins_watcher, left, IsUndone}
-use Rattle.mt_session.specs.Session.{Granted, Refused, Unshown, Asking, Whole, Overlong, Broken, item_of, items_of, has_end, Turn, request_of_line, may_fail, answer_to_turn, state_after_turn, end_of_turn, ends_by, text_of, state_after, AllGoOn, Going, Served, ServedLine, IsCause, sent_by, line_limit, PassLines, EndsInput, IsReadEnd, IsReadEndRun, IsCutCause, IsCutRun}
+use Rattle.mt_session.specs.Session.{Granted, Refused, Unshown, Asking, Whole, Overlong, Broken, item_of, items_of, has_end, Turn, request_of_line, may_fail, answer_to_turn, state_after_turn, end_of_turn, ends_by, text_of, state_after, AllGoOn, Going, Served, ServedLine, IsCause, sent_by, line_limit, EndsInput, IsReadEnd, IsReadEndRun, IsCutCause, IsCutRun}
 use Rattle.mt_session.specs.Serving.{the_turn, Answered, AnswersLine, Ran, IsSent, ends_whole, ends_by_answer}
-use Rattle.mt_session.proofs.PassLaws.{pass_none, pass_more, pass_text, pass_long, pass_broken, pass_end, pass_endless, input_more, kept_nothing}
+use Rattle.mt_lines.proofs.PassLaws.{pass_none, pass_more, pass_text, pass_long}
+use Rattle.mt_session.proofs.PassLaws.{pass_broken, pass_end, pass_endless, input_more, kept_nothing}
 
 -- a line that may want memory to be read wants it to be done
 reading_fails : (s : SessionState) (x : Result Request Fault) → may_want_memory x ≡ true → may_fail s x ≡ true
@@ -84,13 +85,13 @@ whole_sent by text h = grind arith
 abbrev ServedOne : Option (List ℕ) → Option (List ℕ) → SessionState → SessionState → Option (List ℕ) → Option (List ℕ) → End → Type 0
 ServedOne before later old new sent written by = (ran : Ran before later old new sent written by) × (length ran.turns + length ran.last ≤ 1)
 
-served_one : (before rest later : Option (List ℕ)) (last : List Turn) (old new : SessionState) (sent written : Option (List ℕ)) (by : End) → length last ≤ 1 → PassLines before (items_of last) rest → EndsInput by before (items_of last) → new ≡ state_after last old
+served_one : (before rest later : Option (List ℕ)) (last : List Turn) (old new : SessionState) (sent written : Option (List ℕ)) (by : End) → length last ≤ 1 → PassLines line_limit before (items_of last) rest → EndsInput by before (items_of last) → new ≡ state_after last old
     → Appends sent written (sent_by by (text_of last old)) → IsCause by [] last (text_of last old) rest later → ServedOne before later old new sent written by
 served_one before rest later last old new sent written by few lines input state out cause =
     (record { turns = []; last = last; rest = rest; lines = lines; input = input; state = state; out = out; goes = tt; cause = cause; count = omega (arith, few) }, omega (arith, few))
 
 -- the last answer stands alone
-served_last : (before rest later : Option (List ℕ)) (turn : Turn) (old new : SessionState) (sent written : Option (List ℕ)) (by : End) → PassLines before (item_of turn.line ∷ []) rest → EndsInput by before (item_of turn.line ∷ []) → new ≡ state_after_turn old turn
+served_last : (before rest later : Option (List ℕ)) (turn : Turn) (old new : SessionState) (sent written : Option (List ℕ)) (by : End) → PassLines line_limit before (item_of turn.line ∷ []) rest → EndsInput by before (item_of turn.line ∷ []) → new ≡ state_after_turn old turn
     → Appends sent written (sent_by by (answer_to_turn old turn)) → IsCause by [] (turn ∷ []) (answer_to_turn old turn) rest later → ServedOne before later old new sent written by
 served_last before rest later turn old new sent written by lines input state out cause =
     let text = sym (append-nil (answer_to_turn old turn)) in
@@ -98,14 +99,14 @@ served_last before rest later turn old new sent written by lines input state out
     (subst (λ x. IsCause by [] (turn ∷ []) x rest later) text cause)
 
 -- the last answer was cut
-served_cut : (before rest : Option (List ℕ)) (line : Asking) (old new : SessionState) (sent written : Option (List ℕ)) (text : List ℕ) (end : Option End) (result : Option End) → PassLines before (item_of line ∷ []) rest → Answered old new line text end → (cut : Cut)
+served_cut : (before rest : Option (List ℕ)) (line : Asking) (old new : SessionState) (sent written : Option (List ℕ)) (text : List ℕ) (end : Option End) (result : Option End) → PassLines line_limit before (item_of line ∷ []) rest → Answered old new line text end → (cut : Cut)
     → result ≡ Some (CutOff cut) → Appends sent written (take cut.sent text) → cut.sent < length text → ServedLine before rest old new sent written result
 served_cut before rest line old new sent written text end result lines a cut is out within =
     let one = served_last before rest rest (the_turn line a.0) old new sent written (CutOff cut) lines tt a.2 (subst (λ x. Appends sent written (take cut.sent x)) a.1 out) (the_turn line a.0, refl, subst (λ x. cut.sent < length x) a.1 within, refl) in
     rw is one
 
 -- a line with its line end
-after_text : (before rest : Option (List ℕ)) (line : Asking) (old new : SessionState) (sent written : Option (List ℕ)) (text : List ℕ) (end : Option End) (result : Option End) → PassLines before (item_of line ∷ []) rest → has_end line ≡ true → Answered old new line text end
+after_text : (before rest : Option (List ℕ)) (line : Asking) (old new : SessionState) (sent written : Option (List ℕ)) (text : List ℕ) (end : Option End) (result : Option End) → PassLines line_limit before (item_of line ∷ []) rest → has_end line ≡ true → Answered old new line text end
     → ForSome end (λ e. ends_whole e ≡ true) → IsSent sent written text end result → ServedLine before rest old new sent written result
 after_text before rest line old new sent written text (Some by) result lines ends a h (inl s) =
     let whole = whole_sent by (answer_to_turn old (the_turn line a.0)) (h by refl) in
@@ -125,7 +126,7 @@ after_text before rest line old new sent written text end result lines ends a h 
     served_cut before rest line old new sent written text end result lines a s.0 s.1 s.2 s.3
 
 -- the last line has no line end
-after_unended : (before rest : Option (List ℕ)) (old : SessionState) (sent written : Option (List ℕ)) (text : List ℕ) (result : Option End) → PassLines before (Unended ∷ []) rest → EndsInput Input before (Unended ∷ []) → Answered old old Broken text None
+after_unended : (before rest : Option (List ℕ)) (old : SessionState) (sent written : Option (List ℕ)) (text : List ℕ) (result : Option End) → PassLines line_limit before (Unended ∷ []) rest → EndsInput Input before (Unended ∷ []) → Answered old old Broken text None
     → IsSent sent written text (Some Input) result → ServedLine before rest old old sent written result
 after_unended before rest old sent written text result lines input a (inl s) =
     let one = served_last before rest rest (the_turn Broken a.0) old old sent written Input lines input a.2 (subst (λ x. Appends sent written x) a.1 s.1) (inr (the_turn Broken a.0, refl, refl), refl) in
@@ -134,23 +135,23 @@ after_unended before rest old sent written text result lines input a (inr s) =
     served_cut before rest Broken old old sent written text None result lines a s.0 s.1 s.2 s.3
 
 -- nothing more was served
-served_none : (before rest later : Option (List ℕ)) (old : SessionState) (sent written : Option (List ℕ)) (by : End) → PassLines before [] rest → EndsInput by before [] → Keeps sent written → sent_by by [] ≡ [] → IsCause by [] [] [] rest later → ServedLine before later old old sent written (Some by)
+served_none : (before rest later : Option (List ℕ)) (old : SessionState) (sent written : Option (List ℕ)) (by : End) → PassLines line_limit before [] rest → EndsInput by before [] → Keeps sent written → sent_by by [] ≡ [] → IsCause by [] [] [] rest later → ServedLine before later old old sent written (Some by)
 served_none before rest later old sent written by lines input keeps nothing cause =
     served_one before rest later [] old old sent written by (omega arith) lines input refl (rw nothing (kept_nothing sent written keeps)) cause
 
 -- the reader failed: with the limit of sessions it never wants memory
 pub after_fault : (limit : ℕ) (before later : Option (List ℕ)) (kept : List ℕ) (f : ReadFault) (old : SessionState) (sent written : Option (List ℕ)) → limit ≡ line_limit → (f ≡ NoRoom → 8192 < limit) → IsNextKnown limit before (Err f) kept later → LosesNoLine (Err f) before later
     → Keeps sent written → ServedLine before later old old sent written (Some (Read f))
-after_fault limit before later kept NeverEnds old sent written e m n whole keeps = served_none before before later old sent written (Read NeverEnds) (pass_none before) (pass_endless limit before later kept e n) keeps refl refl
+after_fault limit before later kept NeverEnds old sent written e m n whole keeps = served_none before before later old sent written (Read NeverEnds) (pass_none line_limit before) (pass_endless limit before later kept e n) keeps refl refl
 after_fault limit before later kept NoRoom old sent written e m n whole keeps = absurd (let over = m refl in omega (arith, over, e))
-after_fault limit before later kept f old sent written e m n whole keeps = served_none before before later old sent written (Read f) (pass_none before) tt keeps refl (refl, whole)
+after_fault limit before later kept f old sent written e m n whole keeps = served_none before before later old sent written (Read f) (pass_none line_limit before) tt keeps refl (refl, whole)
 
 -- a line that a reader served
 pub line_served : (before later : Option (List ℕ)) (bytes : List ℕ) (line : Line) (old new : SessionState) (sent written : Option (List ℕ)) (result : Option End)
     → IsNextKnown line_limit before (Ok line) bytes later → AnswersLine line bytes old new sent written result → ServedLine before later old new sent written result
-line_served before later bytes TextLine old new sent written result n a = after_text before later (Whole bytes) old new sent written a.0 a.1 result (pass_text before later bytes n) refl a.2 a.3 a.4
+line_served before later bytes TextLine old new sent written result n a = after_text before later (Whole bytes) old new sent written a.0 a.1 result (pass_text line_limit before later bytes n) refl a.2 a.3 a.4
 line_served before later bytes LongLine old new sent written result n a =
-    rw a.0 (after_text before later Overlong old old sent written (refusal LineTooLong) None result (pass_long before later bytes n) refl (answered_fixed old Overlong LineTooLong refl) (λ e is. cc) a.1)
+    rw a.0 (after_text before later Overlong old old sent written (refusal LineTooLong) None result (pass_long line_limit before later bytes n) refl (answered_fixed old Overlong LineTooLong refl) (λ e is. cc) a.1)
 line_served before later bytes BrokenLine old new sent written result n a =
     let passed = pass_broken before later bytes n in
     rw a.0 (after_unended before later old sent written (refusal BadLine) result passed.0 passed.1 (answered_fixed old Broken BadLine refl) a.1)
@@ -200,7 +201,7 @@ AllGoOn-append (x ∷ xs) ys h k = (h.0, h.1, AllGoOn-append xs ys h.2 k)
 
 -- no line was served yet
 pub Going-none : (before : Option (List ℕ)) (state : SessionState) (sent : Option (List ℕ)) → Going [] before before state state sent sent
-Going-none before state sent = record { lines = pass_none before; state = refl; out = Appends-nil sent; goes = tt }
+Going-none before state sent = record { lines = pass_none line_limit before; state = refl; out = Appends-nil sent; goes = tt }
 
 -- lines served, and then more
 items_of-append : (xs ys : List Turn) → items_of (xs ++ ys) ≡ items_of xs ++ items_of ys
@@ -208,7 +209,7 @@ items_of-append xs ys = map-append (λ (turn : Turn). item_of turn.line) xs ys
 
 pub Going-more : (turns more : List Turn) (before mid later : Option (List ℕ)) (old now new : SessionState) (sent so_far written : Option (List ℕ)) → Going turns before mid old now sent so_far → Going more mid later now new so_far written → Going (turns ++ more) before later old new sent written
 Going-more turns more before mid later old now new sent so_far written a b = record {
-  lines = subst (λ x. PassLines before x later) (sym (items_of-append turns more)) (pass_more before mid later (items_of turns) (items_of more) a.lines b.lines);
+  lines = subst (λ x. PassLines line_limit before x later) (sym (items_of-append turns more)) (pass_more line_limit before mid later (items_of turns) (items_of more) a.lines b.lines);
   state = b.state ∙ ap (state_after more) a.state ∙ sym (state_after-append turns more old);
   out = subst (λ x. Appends sent written x) (sym (text_of-append turns more old)) (Appends-trans sent so_far written (text_of turns old) (text_of more (state_after turns old)) a.out (subst (λ w. Appends so_far written (text_of more w)) a.state b.out));
   goes = AllGoOn-append turns more a.goes b.goes;
@@ -238,7 +239,7 @@ Served-more turns before mid later old now new sent so_far written by a b few co
       turns = turns ++ b.turns;
       last = b.last;
       rest = b.rest;
-      lines = subst (λ x. PassLines before x b.rest) (sym same_items) (pass_more before mid b.rest (items_of turns) items a.lines b.lines);
+      lines = subst (λ x. PassLines line_limit before x b.rest) (sym same_items) (pass_more line_limit before mid b.rest (items_of turns) items a.lines b.lines);
       input = subst (λ x. EndsInput by before x) (sym same_items) (input_more by before mid (items_of turns) items a.lines b.input);
       state = b.state ∙ ap (state_after b.last) same_state;
       out = subst (λ x. Appends sent written x) same_text (Appends-trans sent so_far written (text_of turns old) (text_of b.turns (state_after turns old) ++ sent_by by last) a.out
@@ -254,7 +255,7 @@ Going-spent turns before later old now sent written a count = record {
   turns = turns;
   last = [];
   rest = later;
-  lines = subst (λ x. PassLines before x later) (sym (append-nil (items_of turns))) a.lines;
+  lines = subst (λ x. PassLines line_limit before x later) (sym (append-nil (items_of turns))) a.lines;
   input = tt;
   state = a.state;
   out = subst (λ x. Appends sent written x) (sym (append-nil (text_of turns old))) a.out;

@@ -14,7 +14,7 @@ use Rattle.mt_lines.specs.declared.stream.StreamFault.{StreamFault}
 use Rattle.mt_lines.specs.Lines.{Item, Unended}
 use Rattle.mt_lines.specs.declared.line.Line.{Line}
 use Rattle.mt_lines.specs.declared.line.Line.TheVariants.{Text as TextLine, TooLong as LongLine, Unended as BrokenLine, End as NoLine}
-use Rattle.mt_lines.specs.Reading.{IsNextKnown, LosesNoLine}
+use Rattle.mt_lines.specs.Reading.{IsNextKnown, LosesNoLine, PassLines}
 use Rattle.mt_desk.specs.Calls.{WatcherView}
 use Rattle.mt_requests.specs.declared.request.Request.{Request}
 use Rattle.mt_requests.specs.declared.request.Request.TheVariants.{Quit as AsksQuit, Stop as AsksStop, Follow}
@@ -24,12 +24,13 @@ use Rattle.mt_session.specs.declared.serving.End.TheVariants.{Input, Read, Cut a
 use Rattle.mt_session.specs.declared.shared_answer.Then.{Then}
 use Rattle.mt_session.specs.declared.shared_answer.Then.TheVariants.{More, Over}
 use Rattle.mt_session.specs.Answers.{refusal}
-use Rattle.mt_session.specs.Session.{Asking, Whole, Overlong, Broken, item_of, has_end, request_of_line, ends_by, line_limit, PassLines, EndsInput, IsReadEnd, IsReadEndRun}
+use Rattle.mt_session.specs.Session.{Asking, Whole, Overlong, Broken, item_of, has_end, request_of_line, ends_by, line_limit, EndsInput, IsReadEnd, IsReadEndRun}
 use Rattle.mt_session.specs.Serving.{IsSent}
 use Rattle.mt_session.specs.SharedSession.{IsTurn, IsInFront, IsAnswerSoFar, SharedTurn, AreTurns, TurnsGoOn, HasLeft, WasLeft, ServedShared, IsLost, FollowsSoFar, EndsOfInput, EndsOfAnswer, SharedGoing, SharedEnding, ServedSharedLine}
 use Rattle.mt_session.specs.SharedServing.{IsKeptOrLeft, Follows, IsSoFar, AnswersWhole, IsPiece, IsCutPiece, IsOutcome, ServesAsked, ServesLine, IsPortion, EndsWith}
 use Rattle.mt_session.proofs.SessionLaws.{is_uncut, is_by_answer, by_answer_read, by_answer_run}
-use Rattle.mt_session.proofs.PassLaws.{pass_none, pass_more, pass_text, pass_long, pass_broken, pass_end, pass_endless, input_more, kept_nothing}
+use Rattle.mt_lines.proofs.PassLaws.{pass_none, pass_more, pass_text, pass_long}
+use Rattle.mt_session.proofs.PassLaws.{pass_broken, pass_end, pass_endless, input_more, kept_nothing}
 use Rattle.mt_events.specs.Posts.{PostView, post_text}
 use Rattle.mt_events.specs.declared.texts.PrintedPosts.{PrintedPosts}
 use Rattle.mt_session.specs.declared.shared_answer.Portion.TheVariants.{Posts}
@@ -220,7 +221,7 @@ answer_input by w asked out before items h = tt
 
 -- a line with its line end
 line_served : (before later : Option (List ℕ)) (line : Asking) (w w' : Option WatcherView) (sent written : Option (List ℕ)) (result : Option End)
-    → PassLines before (item_of line ∷ []) later → has_end line ≡ true → ServesAsked w (request_of_line line) sent written result w'
+    → PassLines line_limit before (item_of line ∷ []) later → has_end line ≡ true → ServesAsked w (request_of_line line) sent written result w'
     → ServedSharedLine before later w w' sent written result
 line_served before later line w w' sent written None lines ends s =
     let turn : SharedTurn = record { line = line; text = s.out } in (
@@ -248,7 +249,7 @@ left_so : (w : Option WatcherView) → HasLeft w → WasLeft w
 left_so w left = was_left w w (kept_same w) left
 
 unended_served : (before later : Option (List ℕ)) (w : Option WatcherView) (sent written : Option (List ℕ)) (result : Option End)
-    → PassLines before (Unended ∷ []) later → EndsInput Input before (Unended ∷ []) → IsSent sent written (refusal BadLine) (Some Input) result → ServedSharedLine before later w w sent written result
+    → PassLines line_limit before (Unended ∷ []) later → EndsInput Input before (Unended ∷ []) → IsSent sent written (refusal BadLine) (Some Input) result → ServedSharedLine before later w w sent written result
 unended_served before later w sent written result lines input (inl s) =
     rw s.0 record { last = Unended ∷ []; rest = later; lines = lines; input = input; out = refusal BadLine; written_is = s.1; ends = inl (refl, inr (refl, refl)); left = left_so w }
 unended_served before later w sent written result lines input (inr s) =
@@ -264,7 +265,7 @@ unended_served before later w sent written result lines input (inr s) =
     }
 
 -- the input brings the end, for which nothing is written
-input_ends : (before rest later : Option (List ℕ)) (w : Option WatcherView) (sent written : Option (List ℕ)) (by : End) → PassLines before [] rest → EndsInput by before [] → Keeps sent written → EndsOfInput by [] rest later []
+input_ends : (before rest later : Option (List ℕ)) (w : Option WatcherView) (sent written : Option (List ℕ)) (by : End) → PassLines line_limit before [] rest → EndsInput by before [] → Keeps sent written → EndsOfInput by [] rest later []
     → SharedEnding before later w w sent written by
 input_ends before rest later w sent written by lines input keeps ends =
     record { last = []; rest = rest; lines = lines; input = input; out = []; written_is = kept_nothing sent written keeps; ends = inl ends; left = left_so w }
@@ -272,16 +273,16 @@ input_ends before rest later w sent written by lines input keeps ends =
 -- the reader failed: with the limit of sessions it never wants memory
 pub fault_served : (limit : ℕ) (before later : Option (List ℕ)) (kept : List ℕ) (f : ReadFault) (w : Option WatcherView) (sent written : Option (List ℕ))
     → limit ≡ line_limit → (f ≡ NoRoom → 8192 < limit) → IsNextKnown limit before (Err f) kept later → LosesNoLine (Err f) before later → Keeps sent written → ServedSharedLine before later w w sent written (Some (Read f))
-fault_served limit before later kept NeverEnds w sent written e m n whole keeps = input_ends before before later w sent written (Read NeverEnds) (pass_none before) (pass_endless limit before later kept e n) keeps (refl, refl)
+fault_served limit before later kept NeverEnds w sent written e m n whole keeps = input_ends before before later w sent written (Read NeverEnds) (pass_none line_limit before) (pass_endless limit before later kept e n) keeps (refl, refl)
 fault_served limit before later kept NoRoom w sent written e m n whole keeps = absurd (let over = m refl in omega (arith, over, e))
-fault_served limit before later kept f w sent written e m n whole keeps = input_ends before before later w sent written (Read f) (pass_none before) tt keeps (whole, refl, refl)
+fault_served limit before later kept f w sent written e m n whole keeps = input_ends before before later w sent written (Read f) (pass_none line_limit before) tt keeps (whole, refl, refl)
 
 -- a line that a reader served
 pub line_answered : (before later : Option (List ℕ)) (bytes : List ℕ) (line : Line) (w w' : Option WatcherView) (sent written : Option (List ℕ)) (result : Option End)
     → IsNextKnown line_limit before (Ok line) bytes later → ServesLine line bytes w sent written result w' → ServedSharedLine before later w w' sent written result
-line_answered before later bytes TextLine w w' sent written result n a = line_served before later (Whole bytes) w w' sent written result (pass_text before later bytes n) refl a
+line_answered before later bytes TextLine w w' sent written result n a = line_served before later (Whole bytes) w w' sent written result (pass_text line_limit before later bytes n) refl a
 line_answered before later bytes LongLine w w' sent written result n a =
-    rw a.0 (line_served before later Overlong w w sent written result (pass_long before later bytes n) refl (refused_served w LineTooLong sent written result a.1))
+    rw a.0 (line_served before later Overlong w w sent written result (pass_long line_limit before later bytes n) refl (refused_served w LineTooLong sent written result a.1))
 line_answered before later bytes BrokenLine w w' sent written result n a =
     let passed = pass_broken before later bytes n in rw a.0 (unended_served before later w sent written result passed.0 passed.1 a.1)
 line_answered before later bytes NoLine w w' sent written result n a =
@@ -297,7 +298,7 @@ TurnsGoOn-append [] ys h k = k
 TurnsGoOn-append (x ∷ xs) ys h k = (h.0, h.1, TurnsGoOn-append xs ys h.2 k)
 
 pub going_none : (before : Option (List ℕ)) (w : Option WatcherView) (sent : Option (List ℕ)) → SharedGoing [] before before w w sent sent
-going_none before w sent = record { lines = pass_none before; told = refl; goes = tt; written_is = Appends-nil sent }
+going_none before w sent = record { lines = pass_none line_limit before; told = refl; goes = tt; written_is = Appends-nil sent }
 
 pub going_more : (turns more : List SharedTurn) (before mid later : Option (List ℕ)) (w now w' : Option WatcherView) (sent so_far written : Option (List ℕ))
     → SharedGoing turns before mid w now sent so_far → SharedGoing more mid later now w' so_far written → SharedGoing (turns ++ more) before later w w' sent written
@@ -305,7 +306,7 @@ going_more turns more before mid later w now w' sent so_far written a b =
     let item : SharedTurn → Item = λ (t : SharedTurn). item_of t.line in
     let text : SharedTurn → List ℕ = λ (t : SharedTurn). t.text in
     record {
-      lines = subst (λ (x : List Item). PassLines before x later) (sym (map-append item turns more)) (pass_more before mid later (map item turns) (map item more) a.lines b.lines);
+      lines = subst (λ (x : List Item). PassLines line_limit before x later) (sym (map-append item turns more)) (pass_more line_limit before mid later (map item turns) (map item more) a.lines b.lines);
       told = AreTurns-append turns more w now w' a.told b.told;
       goes = TurnsGoOn-append turns more a.goes b.goes;
       written_is = subst (λ (x : List ℕ). Appends sent written x) (sym (flat_map-append text turns more)) (Appends-trans sent so_far written (flat_map text turns) (flat_map text more) a.written_is b.written_is);
@@ -323,7 +324,7 @@ served_ending turns before mid later w now then sent so_far written by none a b 
       last = b.last;
       rest = b.rest;
       out = b.out;
-      lines = pass_more before mid b.rest (map item turns) b.last a.lines b.lines;
+      lines = pass_more line_limit before mid b.rest (map item turns) b.last a.lines b.lines;
       input = input_more by before mid (map item turns) b.last a.lines b.input;
       told = rw none at a.told;
       goes = a.goes;
@@ -345,7 +346,7 @@ served_spent turns before later w now sent written none a count left =
       last = [];
       rest = later;
       out = [];
-      lines = subst (λ (x : List Item). PassLines before x later) (sym (append-nil (map item turns))) a.lines;
+      lines = subst (λ (x : List Item). PassLines line_limit before x later) (sym (append-nil (map item turns))) a.lines;
       input = tt;
       told = rw none at a.told;
       goes = a.goes;

@@ -13,7 +13,7 @@ use Rattle.mt_requests.specs.Requests.{request_of}
 use Rattle.std.specs.Io.KnownBytes.{Appends, Consumes}
 use Rattle.mt_lines.specs.Lines.{Item, Text, TooLong, Unended, Endless, Unbroken, lines_of}
 use Rattle.mt_lines.specs.Stream.{HasFailed, IsInterrupted}
-use Rattle.mt_lines.specs.Reading.{IsFaultCause, IsFaultRun}
+use Rattle.mt_lines.specs.Reading.{IsFaultCause, IsFaultRun, PassLines}
 use Rattle.mt_session.specs.Answers.{refusal}
 use Rattle.mt_session.specs.Requests.{SessionState, answer_to, state_to, wants_memory, begins_watcher, left}
 
@@ -126,12 +126,6 @@ line_limit = 8192
 abbrev pub most_lines : ℕ
 most_lines = 16777216
 
--- some bytes begin with these lines, and what is left after them; known bytes stay known
-abbrev pub PassLines : Option (List ℕ) → List Item → Option (List ℕ) → Type 0
-PassLines None items later = ⊤
-PassLines (Some before) items None = ⊥
-PassLines (Some before) items (Some later) = lines_of line_limit before ≡ items ++ lines_of line_limit later
-
 -- where the input ended, these are all its lines, and where a line of it goes on far past the limit, those in front of that
 abbrev pub EndsInput : End → Option (List ℕ) → List Item → Type 0
 EndsInput Input (Some before) items = lines_of line_limit before ≡ items
@@ -144,7 +138,7 @@ IsPartRead rest left = (part : List ℕ) × Unbroken part × Consumes rest left 
 
 -- the session has served these lines and goes on
 pub record Going (turns : List Turn) (before later : Option (List ℕ)) (old new : SessionState) (sent written : Option (List ℕ)) : Type 0 where
-  pub lines : PassLines before (items_of turns) later
+  pub lines : PassLines line_limit before (items_of turns) later
   pub state : new ≡ state_after turns old
   pub out : Appends sent written (text_of turns old)
   pub goes : AllGoOn turns
@@ -174,7 +168,7 @@ pub record ServedThen (finish : SessionState → SessionState) (before left : Op
   pub turns : List Turn
   pub last : List Turn
   pub rest : Option (List ℕ)
-  pub lines : PassLines before (items_of turns ++ items_of last) rest
+  pub lines : PassLines line_limit before (items_of turns ++ items_of last) rest
   pub input : EndsInput by before (items_of turns ++ items_of last)
   pub state : new ≡ finish (state_after last (state_after turns old))
   pub out : Appends sent written (text_of turns old ++ sent_by by (text_of last (state_after turns old)))

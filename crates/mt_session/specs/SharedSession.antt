@@ -22,8 +22,9 @@ use Rattle.mt_session.specs.declared.serving.End.TheVariants.{Quit, Stop, Input,
 use Rattle.mt_events.specs.Texts.{count_text, posts_text, followed_text}
 use Rattle.mt_session.specs.Answers.{refusal}
 use Rattle.mt_session.specs.Requests.{answer_to, by_phase}
-use Rattle.mt_session.specs.Session.{Asking, item_of, has_end, request_of_line, ends_by, most_lines, PassLines, EndsInput, IsPartRead}
+use Rattle.mt_session.specs.Session.{Asking, item_of, has_end, request_of_line, ends_by, most_lines, line_limit, EndsInput, IsPartRead}
 use Rattle.std.specs.Io.KnownBytes.{Appends}
+use Rattle.mt_lines.specs.Reading.{PassLines}
 use Rattle.mt_session.specs.SharedTurns.{found_state, IsDoneBy, IsUndoneBy, HasTaken, GoesOn}
 
 -- a request is answered as it would be at some desk, whatever the others have done
@@ -221,7 +222,7 @@ pub record ServedShared (before later sent written : Option (List ℕ)) (by : En
   pub last : List Item
   pub rest : Option (List ℕ)
   pub out : List ℕ
-  pub lines : PassLines before (map (λ (t : SharedTurn). item_of t.line) turns ++ last) rest
+  pub lines : PassLines line_limit before (map (λ (t : SharedTurn). item_of t.line) turns ++ last) rest
   pub input : EndsInput by before (map (λ (t : SharedTurn). item_of t.line) turns ++ last)
   pub told : AreTurns None turns watcher
   pub goes : TurnsGoOn turns
@@ -232,7 +233,7 @@ pub record ServedShared (before later sent written : Option (List ℕ)) (by : En
 
 -- the session has served these lines and goes on
 pub record SharedGoing (turns : List SharedTurn) (before later : Option (List ℕ)) (old new : Option WatcherView) (sent written : Option (List ℕ)) : Type 0 where
-  pub lines : PassLines before (map (λ (t : SharedTurn). item_of t.line) turns) later
+  pub lines : PassLines line_limit before (map (λ (t : SharedTurn). item_of t.line) turns) later
   pub told : AreTurns old turns new
   pub goes : TurnsGoOn turns
   pub written_is : Appends sent written (flat_map (λ (t : SharedTurn). t.text) turns)
@@ -242,7 +243,7 @@ pub record SharedEnding (before later : Option (List ℕ)) (w w' : Option Watche
   pub last : List Item
   pub rest : Option (List ℕ)
   pub out : List ℕ
-  pub lines : PassLines before last rest
+  pub lines : PassLines line_limit before last rest
   pub input : EndsInput by before last
   pub written_is : Appends sent written out
   pub ends : EndsByNext by w last rest later out

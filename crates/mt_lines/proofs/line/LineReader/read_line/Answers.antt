@@ -1,6 +1,6 @@
 use Rattle.std.proofs.Common.{◌≡◌, ◌+◌, [], ◌∷◌, ◌++◌, append_assoc, length, take, drop, arith, sym, ◌∙◌, ap, length-append}
 use Rattle.std.proofs.lemmas.List.{length-take-le}
-use Rattle.mt_lines.proofs.LineLaws.{judge_next, finish_next, Consumed-more, lines_of-endless, Unbroken-append, Unbroken-all, split_at_end, split_at_front, left-same, split-same, judge_known, finish_known, endless_known, known-same, ahead_taken, line_taken}
+use Rattle.mt_lines.proofs.LineLaws.{Consumed-more, Unbroken-append, Unbroken-all, judge_known, finish_known, endless_known, known-same, ahead_taken, line_taken}
 use Rattle.mt_lines.proofs.StreamLaws.{kept_consumed}
 use Rattle.std.proofs.KnownBytes.{Consumes-kept, Consumes-trans}
 use Rattle.mt_lines.proofs.line.LineReader.read_line.Goals as goal
@@ -21,21 +21,6 @@ overflow_add-seen-in-None g c =
     omega arith
 
 -- the end of the input
-pub returns-then-not-branch-clause-next : goal.returns-then-not-branch-clause-next
-returns-then-not-branch-clause-next g c t =
-    let front = c.reading.invariant.consumed in
-    let more = c.in_ok-more.ensures in
-    let judged = c.finish.ensures in
-    let same_left = left-same g.R.Input.left _ _ _ _ judged.same.2 judged.same.1 in
-    let gone = rw c.if-not-branch.true at more.some in
-    finish_next _ front.text _ _ _ _ front.unbroken
-    (split-same _ front.text _ _ (split-same _ front.text _ _ (front.split t) (more.given t)) same_left)
-    (same_left ∙ gone t)
-    (omega (arith, front.count))
-    (λ none. judged.end (omega (arith, front.count)))
-    (λ some fits. judged.short (omega (arith, front.count)) (omega (arith, front.count, more.same.0)))
-    (λ over. judged.long (omega (arith, front.count, more.same.0)))
-
 pub returns-then-not-branch-clause-known : goal.returns-then-not-branch-clause-known
 returns-then-not-branch-clause-known g c =
     let front = c.reading.invariant.consumed in
@@ -52,27 +37,6 @@ returns-then-not-branch-clause-known g c =
     (λ over. judged.long (omega (arith, front.count, more.same.0)))
 
 -- a line end
-pub returns-in-Some-clause-next : goal.returns-in-Some-clause-next
-returns-in-Some-clause-next g c t =
-    let front = c.reading.invariant.consumed in
-    let more = c.in_ok-more.ensures in
-    let found = c.in-Some.ensures.cases in
-    let taken = c.in_ok-take-in-Some.ensures in
-    let judged = c.judge.ensures in
-    let chunk = c.more.new.self.chunk in
-    let piece = take c.in-Some.end chunk in
-    let same_limit : c.args.self.now.limit ≡ c.more.new.self.limit = omega (arith, more.same.0) in
-    let kept = taken.line front.text (ap (λ v. v.items) more.same.1 ∙ front.front ∙ ap (λ n. take n front.text) same_limit) in
-    let count : length (front.text ++ piece) ≡ c.reading.seen + c.in-Some.end = simp length-append (omega (arith, front.count, length-take-le c.in-Some.end chunk (omega (arith, found.1)))) in
-    judge_next _ (front.text ++ piece) _ _ c.take.new.self.line.items _ _
-    (Unbroken-append front.text piece front.unbroken found.0)
-    (split_at_end _ front.text chunk _ _ c.in-Some.end (split-same _ front.text _ _ (front.split t) (more.given t)) found.2 (c.advance.ensures ∙ ap (drop 1) taken.rest)
-    ∙ ap (λ x. (front.text ++ piece) ++ 10 ∷ x) (sym (left-same g.R.Input.left _ _ _ _ judged.same.2 (judged.same.1 ∙ taken.same.1))))
-    (rw same_limit kept)
-    (λ fits. judged.short (omega (arith, count, same_limit, taken.same.0)))
-    (λ over within. judged.long (omega (arith, count, same_limit, taken.same.0)) (omega (arith, count, same_limit, taken.same.0)))
-    (λ beyond. judged.endless (omega (arith, count, same_limit, taken.same.0)))
-
 pub returns-in-Some-clause-known : goal.returns-in-Some-clause-known
 returns-in-Some-clause-known g c =
     let front = c.reading.invariant.consumed in
@@ -114,20 +78,13 @@ reading-preserved g c =
       faults = λ t none. rw taken.same.1 (more.faults t (c.reading.invariant.faults t none));
       kept = omega (arith, taken.kept, more.same.0);
       small = omega (arith, c.len-count.ensures.bound);
-      consumed = rw all at (Consumed-more _ _ _ _ _ _ (take n chunk) _ _ _ _ _ front
-          (λ t. sym (more.given t) ∙ split_at_front chunk _ _ n taken.rest ∙ ap (λ x. take n chunk ++ (c.take-in-None.new.self.chunk ++ g.R.Input.left x)) (sym taken.same.1))
+      consumed = rw all at (Consumed-more _ _ _ (take n chunk) _ _ _ _ front
           (kept_consumed _ _ _ (take n chunk) more.known (ahead_taken n chunk c.take-in-None.new.self.chunk _ _ taken.rest (ap g.R.Input.remaining taken.same.1)))
           (Unbroken-all chunk n c.len-count.ensures.len c.in-None.ensures.cases)
           (kept ∙ ap (λ w. take w (front.text ++ take n chunk)) (sym same_limit)));
     }
 
 -- no line end far past the limit
-pub returns-clause-next : goal.returns-clause-next
-returns-clause-next g c t =
-    let front = c.reading.invariant.consumed in
-    let endless = lines_of-endless c.args.self.now.limit front.text (c.reading.self.chunk ++ g.R.Input.left c.reading.self.reader) front.unbroken (omega (arith, front.count)) in
-    (endless.0, rw (front.split t) endless.1)
-
 pub returns-clause-known : goal.returns-clause-known
 returns-clause-known g c =
     let front = c.reading.invariant.consumed in

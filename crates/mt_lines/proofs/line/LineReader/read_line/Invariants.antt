@@ -1,4 +1,4 @@
-use Rattle.std.proofs.Common.{◌≡◌, ◌≤◌, ◌+◌, ◌-◌, IsTrue, [], ◌++◌, vec_len}
+use Rattle.std.proofs.Common.{◌≡◌, ◌≤◌, ◌+◌, ◌-◌, IsTrue, [], vec_len}
 use Rattle.std.specs.Io.KnownBytes.{prepend_known}
 use Rattle.mt_lines.specs.declared.line.TheConstants.{CHUNK}
 use Rattle.mt_lines.specs.Lines.{slack}
@@ -13,7 +13,7 @@ invariant-reading g l = record {
   faults : IsTrue g.R.Input.counts → g.R.Input.faults l.initial.self.reader ≡ [] → g.R.Input.faults l.self.reader ≡ [];
   kept : vec_len l.self.line ≤ l.initial.self.limit;
   small : l.seen ≤ l.initial.self.limit + slack + CHUNK;
-  consumed : Consumed l.initial.self.limit l.seen l.self.line.items g.R.Input.tells (l.initial.self.chunk ++ g.R.Input.left l.initial.self.reader) (l.self.chunk ++ g.R.Input.left l.self.reader) (prepend_known l.initial.self.chunk (g.R.Input.remaining l.initial.self.reader)) (prepend_known l.self.chunk (g.R.Input.remaining l.self.reader));
+  consumed : Consumed l.initial.self.limit l.seen l.self.line.items (prepend_known l.initial.self.chunk (g.R.Input.remaining l.initial.self.reader)) (prepend_known l.self.chunk (g.R.Input.remaining l.self.reader));
 }
 
 abbrev pub decreases-reading : goal.decreases-reading

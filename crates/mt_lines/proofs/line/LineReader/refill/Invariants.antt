@@ -6,7 +6,6 @@ use Rattle.mt_lines.proofs.line.LineReader.refill.Given as goal
 abbrev pub invariant-trying : goal.invariant-trying
 invariant-trying g l = record {
   empty : l.self.chunk ≡ [];
-  left : IsTrue g.R.Input.tells → g.R.Input.left l.self.reader ≡ g.R.Input.left l.initial.self.reader;
   known : Keeps (g.R.Input.remaining l.initial.self.reader) (g.R.Input.remaining l.self.reader);
   failed : IsTrue g.R.Input.counts → g.R.Input.failed l.self.reader ≡ g.R.Input.failed l.initial.self.reader + l._tries;
   faults : IsTrue g.R.Input.counts → g.R.Input.faults l.initial.self.reader ≡ [] → g.R.Input.faults l.self.reader ≡ interruptions l._tries;
