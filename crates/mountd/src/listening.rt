@@ -42,7 +42,7 @@ pub(crate) struct Paths {
 }
 
 impl Paths {
-    /// The paths of a server at this socket. Refused for want of memory alone.
+    /// The paths of a server at this socket.
     pub(crate) fn new(alloc: Global, socket: String) -> Result<Paths, AllocError> {
         let lock = lock_path(alloc, socket.as_str())?;
         Ok(Paths { socket, lock })

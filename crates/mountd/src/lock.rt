@@ -15,7 +15,7 @@ use std::{fmt, fs, io};
 /// The mode of the file, less what the process's umask takes off. Who could open it could hold its lock.
 const MODE: u32 = 0o600;
 
-/// The path of the lock of a socket. Refused for want of memory alone.
+/// The path of the lock of a socket.
 pub(crate) fn lock_path(alloc: Global, socket: &str) -> Result<String, AllocError> {
     let mut path = String::from_str(alloc, socket)?;
     path.push_str(".lock")?;

@@ -84,7 +84,7 @@ impl Program {
     }
 
     /// The words that the parser of the arguments takes: the program's name in the place of the path by which it was
-    /// called, and then the arguments. Fails for want of memory alone.
+    /// called, and then the arguments.
     pub fn words<'a>(
         self,
         alloc: Global,

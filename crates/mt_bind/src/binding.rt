@@ -25,7 +25,7 @@ pub(crate) fn is_unbindable(world: &World, id: MountId) -> bool
     state_of(world, id).unbindable
 }
 
-/// A list of one mount. Refused as `NoMemory` alone.
+/// A list of one mount.
 fn only(world: &World, id: MountId) -> Result<Vec<MountId>, Fault>
     ensures only { IfOk result (λ ids. ids.items ≡ id ∷ []) }
     ensures memory { IsOkUnless result Fault.NoMemory }

@@ -19,7 +19,6 @@ struct Judgements {
     found: IndexMap<MountId, bool>,
 }
 
-// Written out, so that whoever owns them lets them go as one thing.
 impl Drop for Judgements {
     fn drop(self) {
         let Judgements { found: _found } = self;
@@ -107,7 +106,7 @@ fn keep_passed(
 }
 
 /// Whether a recursive bind of a directory copies a mount. What is found on the way is kept, so that no mount is passed
-/// twice. Refused as `NoMemory` alone.
+/// twice.
 fn judge(
     world: &World,
     from: Place,
@@ -125,8 +124,8 @@ fn judge(
     Ok(bound)
 }
 
-/// The mounts that a recursive bind of a directory copies, by rising ID: those of the directory's own
-/// mount and of all that stand on it are judged, and no others. Refused as `NoMemory` alone.
+/// The mounts that a recursive bind of a directory copies, by rising ID: those of the directory's own mount and of all
+/// that stand on it are judged, and no others.
 pub(crate) fn members_within(world: &World, from: Place) -> Result<Vec<MountId>, Fault>
     requires well_formed { IsWellFormed (world_view world.now) }
     ensures members { IfOk result (λ ids. ids.items ≡ map id_of (filter (λ m. is_bound_along (world_view world.now) from m.id) world.now.forest.mounts)) }

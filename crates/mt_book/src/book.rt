@@ -65,8 +65,6 @@ impl Model for Book {
     ghost invariant = { λ b. IsBook (world_view (shown_world b.shown)) (since_view (shown_world b.shown)) b.spare b.numbers.items b.journal.items };
 }
 
-// Written out, so that whoever owns a book lets it go as one thing: with the derived one each function that lets a
-// floor or a desk go would be checked over every table of both worlds.
 impl Drop for Book {
     fn drop(self) {
         let Book {
@@ -239,7 +237,7 @@ impl Book {
     }
 
     /// Appends the lines of the table of a namespace, each with its line end. Refused as `NoNamespace` exactly where
-    /// there is no such namespace, and else as `NoMemory` alone; what stood in the text stays in front then too.
+    /// there is no such namespace, and otherwise only as `NoMemory`; what stood in the text stays in it even then.
     pub fn push_table(&self, text: &mut Vec<u8>, space: SpaceId) -> Result<(), Fault>
         ensures done { OnOk result ((is_space (after self.now.journal) space ≡ true) × (text.new.items ≡ text.old.items ++ flat_map whole_line (table_of (after self.now.journal) space))) }
         ensures absent { is_space (after self.now.journal) space ≡ false → result ≡ Err Fault.NoNamespace }
@@ -262,7 +260,7 @@ impl Book {
         number_of(&self.numbers, space).ok_or(Fault::NoNamespace)
     }
 
-    /// The namespaces, by rising number. Refused as `NoMemory` alone.
+    /// The namespaces, by rising number.
     pub fn spaces(&self) -> Result<Vec<SpaceId>, Fault>
         ensures spaces { IfOk result (λ spaces. spaces.items ≡ spaces_of (after self.now.journal)) }
         ensures memory { IsOkUnless result Fault.NoMemory }
@@ -281,8 +279,8 @@ impl Book {
         found_in(self.world(), space, path)
     }
 
-    /// Does commands one after another, and answers each as `apply` does, also those that it refuses. Refused as
-    /// `NoMemory` alone, where there is no room for the answers, and then nothing has changed.
+    /// Does commands one after another, and answers each as `apply` does, including those that it refuses. The call
+    /// itself is refused only where there is no room for the answers.
     ///
     /// Each command of the journal that was issued in a namespace made by `copyns` with `less`, which no command had
     /// copied since, has left the table and the number of every other namespace as they were (`inside`).
@@ -316,7 +314,7 @@ fn number_of(numbers: &[(SpaceId, u64)], space: SpaceId) -> Option<u64>
     None
 }
 
-/// The namespaces of which these are the numbers. Refused as `NoMemory` alone.
+/// The namespaces of which these are the numbers.
 fn spaces_in(alloc: Global, numbers: &[(SpaceId, u64)]) -> Result<Vec<SpaceId>, Fault>
     ensures spaces { IfOk result (λ spaces. spaces.items ≡ map space_in numbers.now) }
     ensures memory { IsOkUnless result Fault.NoMemory }

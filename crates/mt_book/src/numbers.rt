@@ -13,8 +13,7 @@ use mt_propagate::world::World;
 use mt_skel::fault::Fault;
 use std::alloc::Global;
 
-/// The numbers of namespaces before a command, with that of one that it makes, if it makes one: 0. Refused as `NoMemory`
-/// alone.
+/// The numbers of namespaces before a command, with that of one that it makes, if it makes one: 0.
 pub(crate) fn numbers_before(
     alloc: Global,
     numbers: &[(SpaceId, u64)],
@@ -31,7 +30,7 @@ pub(crate) fn numbers_before(
     Ok(before)
 }
 
-/// The numbers of those namespaces that are there. Refused as `NoMemory` alone.
+/// The numbers of those namespaces that are there.
 pub(crate) fn still_there(
     alloc: Global,
     world: &World,
@@ -49,7 +48,7 @@ pub(crate) fn still_there(
     Ok(there)
 }
 
-/// Appends the number of a namespace, if it has one. Refused as `NoMemory` alone.
+/// Appends the number of a namespace, if it has one.
 fn push_number(
     some: &mut Vec<(SpaceId, u64)>,
     numbers: &[(SpaceId, u64)],
@@ -66,7 +65,7 @@ fn push_number(
     Ok(())
 }
 
-/// The numbers of these namespaces, of those that have one. Refused as `NoMemory` alone.
+/// The numbers of these namespaces, of those that have one.
 pub(crate) fn numbers_in(
     alloc: Global,
     numbers: &[(SpaceId, u64)],

@@ -91,8 +91,6 @@ pub(crate) fn some_change(delta: Delta) -> Option<Delta>
 
 /// What changed from one table to another, or `None` exactly where they are equal. Where something changed, it can
 /// be told by a post (`Post::new`).
-///
-/// Refused as `NoMemory` alone.
 pub fn change(alloc: Global, before: &Table, after: &Table) -> Result<Option<Delta>, Fault>
     ensures change { IfOk result (λ change. change ≡ some_change (difference before.now after.now)) }
     ensures told { IfOk result (λ change. IfSome change (λ delta. IsTrue (is_change delta.gone delta.rows))) }

@@ -34,7 +34,7 @@ fn is_plain_news(before: &World, after: &World, space: SpaceId, id: MountId) -> 
     is_other(before, after, id)
 }
 
-/// Whether a mount left the namespace, or its row is new or not as it was. Refused as `NoMemory` alone.
+/// Whether a mount left the namespace, or its row is new or not as it was.
 fn is_news(
     before: &mut Findings<'_>,
     after: &mut Findings<'_>,
@@ -60,7 +60,7 @@ fn is_news(
 }
 
 /// Whether any of these mounts left the namespace, or has a row that is new or not as it was. For most commands that is
-/// plain of the first. Refused as `NoMemory` alone.
+/// plain of the first.
 fn any_news(
     before: &World,
     after: &World,
@@ -91,8 +91,6 @@ fn any_news(
 /// [`change_of`](crate::touched::change_of) has something to tell. `touched` has, by rising ID, every mount whose row
 /// changed, and may have more; it is gone over up to the first that did. A namespace that is not there counts as the
 /// empty table.
-///
-/// Refused as `NoMemory` alone.
 pub fn is_changed(
     before: &World,
     after: &World,

@@ -48,7 +48,7 @@ pub fn opening_refusal(
     None
 }
 
-/// Appends the number and the table of a namespace, if it is there and followed. Refused as `NoMemory` alone.
+/// Appends the number and the table of a namespace, if it is there and followed.
 fn push_part(parts: &mut Vec<Part>, book: &Book, scope: Scope, space: SpaceId) -> Result<(), Fault>
     ensures part { OnOk result (parts.new.items ≡ parts.old.items ++ part_if book.now.journal scope space) }
     ensures memory { IfErr result (λ fault. fault ≢ Fault.NoMemory → ⊥) }
@@ -68,7 +68,7 @@ fn push_part(parts: &mut Vec<Part>, book: &Book, scope: Scope, space: SpaceId) -
     Ok(())
 }
 
-/// The numbers and the tables of those of these namespaces that are there and followed. Refused as `NoMemory` alone.
+/// The numbers and the tables of those of these namespaces that are there and followed.
 fn parts_of(
     alloc: Global,
     book: &Book,
@@ -86,7 +86,7 @@ fn parts_of(
 }
 
 /// What a watcher of this scope finds in a book now: the number and the table of each namespace that is there and that
-/// the scope names, by rising namespace. Refused as `NoMemory` alone.
+/// the scope names, by rising namespace.
 pub fn found(alloc: Global, book: &Book, scope: Scope) -> Result<Opening, Fault>
     ensures opening { IfOk result (λ opening. opening ≡ opening_of book.now.journal scope) }
     ensures memory { IfErr result (λ fault. fault ≢ Fault.NoMemory → ⊥) }

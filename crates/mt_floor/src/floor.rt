@@ -289,9 +289,9 @@ impl Floor {
         }
     }
 
-    /// Does events one after another, and answers each as `step` does, also those that it refuses. The answers and the
-    /// floor are those of the events without the ones that met want of memory, which were not done. Refused as
-    /// `NoMemory` alone, where there is no room for the answers, and then nothing has changed.
+    /// Does events one after another, and answers each as `step` does, including those that it refuses. The answers and
+    /// the floor are those of the events without the ones that met want of memory, which were not done. The call itself
+    /// is refused only where there is no room for the answers.
     ///
     /// The events that a watcher has taken are a prefix of those posted for the namespaces it follows since its
     /// opening, each once and in order, none posted after its close or lag; applied to its opening tables they give

@@ -40,7 +40,7 @@ impl Model for FloorRow {
 }
 
 impl FloorRow {
-    /// A watcher that begins now, with room for this many posts. Refused as `NoMemory` alone.
+    /// A watcher that begins now, with room for this many posts.
     pub(crate) fn new(
         alloc: Global,
         key: WatchKey,

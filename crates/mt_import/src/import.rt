@@ -123,7 +123,7 @@ fn made_script(alloc: Global, tables: &[Vec<HostMount>]) -> Result<Script, Unmad
     Ok(script)
 }
 
-/// The script that makes the namespaces of which these are the tables, each with its rows. Refused as `NoMemory` alone.
+/// The script that makes the namespaces of which these are the tables, each with its rows.
 ///
 /// A server that was just started makes a namespace of each table, numbered as they are, with a table that tells what the rows
 /// tell, up to the numbers of mounts, groups and devices; peer groups and masters that tables have in common are common there

@@ -93,7 +93,7 @@ fn read_end<'a>(words: &mut Words<'a>) -> Option<(&'a [u8], &'a [u8])>
 
 /// The row that a line of a mountinfo tells, without its line end.
 ///
-/// Refused as `BadLine` exactly where it is no such line, and else as `NoMemory` alone.
+/// Refused as `BadLine` exactly where it is no such line, and otherwise only as `NoMemory`.
 #[tactic(auto, unfolding(crate::specs::Reading::mount_in))]
 pub fn read_mount(alloc: Global, line: &[u8]) -> Result<HostMount, Fault>
     ensures row { IfOk result (λ row. mount_in line.now ≡ Some row) }

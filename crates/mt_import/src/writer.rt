@@ -11,7 +11,7 @@ use std::alloc::{AllocError, AllocFailed, Global};
 /// How many bytes of a row a comment tells.
 const MOST_TOLD: usize = 8_000;
 
-/// What a call answers that fails for want of memory alone.
+/// What a call answers that can fail only for want of memory.
 pub(crate) type Allocated<T> = Result<T, AllocError>;
 
 /// The same of a call that makes nothing.

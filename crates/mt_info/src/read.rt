@@ -235,7 +235,7 @@ fn read_head(alloc: Global, words: &mut Words<'_>) -> Result<Head, Fault>
 
 /// The row of which a text is the line, without its line end. No two rows have one line.
 ///
-/// Refused as `BadLine` exactly where it is the line of no row, and else as `NoMemory` alone.
+/// Refused as `BadLine` exactly where it is the line of no row, and otherwise only as `NoMemory`.
 pub fn read_row(alloc: Global, text: &[u8]) -> Result<Row, Fault>
     ensures row { IfOk result (λ row. text.now ≡ line row) }
     ensures valid { IfOk result (λ row. IsRow row) }

@@ -127,7 +127,7 @@ fn same_rows(left: &[Row], right: &[Row]) -> bool
 
 /// The table of a namespace.
 ///
-/// Refused as `NoNamespace` where there is no such namespace, and else as `NoMemory` alone.
+/// Refused as `NoNamespace` where there is no such namespace, and otherwise only as `NoMemory`.
 pub fn table_of(world: &World, space: SpaceId) -> Result<Table, Fault>
     requires well_formed { IsWellFormed (world_view world.now) }
     ensures table { IfOk result (λ table. (is_space (world_view world.now) space ≡ true) × (table ≡ table_of (world_view world.now) space)) }
@@ -155,7 +155,7 @@ fn table_or_empty(world: &World, space: SpaceId) -> Result<Table, Fault>
     Ok(Table { rows })
 }
 
-/// The row of the mount with this ID, which is there. Refused as `NoMemory` alone.
+/// The row of the mount with this ID, which is there.
 pub fn row_of(world: &World, id: MountId) -> Result<Row, Fault>
     requires well_formed { IsWellFormed (world_view world.now) }
     requires there { IsSome (mount_at world.now.forest.mounts id) }
@@ -165,8 +165,8 @@ pub fn row_of(world: &World, id: MountId) -> Result<Row, Fault>
     row_seen(&mut Findings::new(world), id)
 }
 
-/// What [`row_of`] answers of a mount, for whoever asks for several rows of one world: what is found of its groups
-/// and of the mounts above it is kept from row to row. Refused as `NoMemory` alone.
+/// What [`row_of`] answers of a mount, for whoever asks for several rows of one world: what is found of its groups and
+/// of the mounts above it is kept from row to row.
 pub fn row_seen(seen: &mut Findings<'_>, id: MountId) -> Result<Row, Fault>
     requires well_formed { IsWellFormed (world_view seen.old) }
     requires there { IsSome (mount_at seen.old.forest.mounts id) }

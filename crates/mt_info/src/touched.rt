@@ -59,8 +59,7 @@ fn moves_along(before: &World, after: &World, id: MountId) -> bool
     false
 }
 
-/// Appends the tree of a mount that moved, unless it stands on one that did, whose tree has it. Refused as `NoMemory`
-/// alone.
+/// Appends the tree of a mount that moved, unless it stands on one that did, whose tree has it.
 fn push_moved(
     rows: &mut Vec<MountId>,
     before: &World,
@@ -78,8 +77,8 @@ fn push_moved(
 }
 
 /// The mounts whose rows may differ between two worlds, by rising ID, where `touched` has those that changed, in any
-/// order: these, and all that are below one of them that moved. No other mount is looked at, but for those on the way up
-/// from one that moved. Refused as `NoMemory` alone.
+/// order: these, and all that are below one of them that moved. No other mount is looked at, but for those on the way
+/// up from one that moved.
 pub fn rows_touched(
     before: &World,
     after: &World,

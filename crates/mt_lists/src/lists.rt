@@ -39,8 +39,6 @@ impl Model for Lists {
     ghost invariant = { λ s. IsTied (ties_of s.entries) (rows_of s.entries) s.tops };
 }
 
-// Written out, so that whoever owns lists lets each of them go as one thing: with the derived one each function that
-// lets a world go would be checked over every table in it.
 impl Drop for Lists {
     fn drop(self) {
         let Lists {
@@ -61,7 +59,7 @@ impl Lists {
         }
     }
 
-    /// The same rows. Refused as `NoMemory` alone.
+    /// The same rows.
     pub fn copy(&self) -> Result<Lists, Fault>
         ensures copy { IfOk result (λ lists. lists.rows ≡ self.now.rows) }
         ensures memory { IsOkUnless result Fault.NoMemory }
@@ -72,7 +70,7 @@ impl Lists {
         })
     }
 
-    /// Makes room for so many more rows, and changes none. Refused as `NoMemory` alone.
+    /// Makes room for so many more rows, and changes none.
     pub fn reserve(&mut self, additional: usize) -> Result<(), Fault>
         ensures room { OnOk result (additional ≤ self.new.room) }
         ensures memory { IsOkUnless result Fault.NoMemory }
@@ -135,7 +133,7 @@ impl Lists {
         }
     }
 
-    /// The IDs of this number, rising, in memory of `alloc`. Refused as `NoMemory` alone.
+    /// The IDs of this number, rising, in memory of `alloc`.
     pub fn ids(&self, alloc: Global, number: u64) -> Result<Vec<u64>, Fault>
         ensures ids { IfOk result (λ found. found.items ≡ ids self.now.rows number) }
         ensures memory { IsOkUnless result Fault.NoMemory }

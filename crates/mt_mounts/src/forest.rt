@@ -67,7 +67,6 @@ impl Model for Forest {
     ghost invariant = { λ f. IsKeptForest f.table.mounts f.indexes (earlier f.since.seen.items (λ t. t.mounts)) f.log.ids × IsCounted f.room f.table.room f.indexes };
 }
 
-// Written out, so that whoever owns a forest lets it go as one thing.
 impl Drop for Forest {
     fn drop(self) {
         let Forest {
@@ -96,7 +95,7 @@ impl Forest {
         }
     }
 
-    /// A forest of equal mounts, in which none is touched. Refused as `NoMemory` alone.
+    /// A forest of equal mounts, in which none is touched.
     pub fn copy(&self) -> Result<Forest, Fault>
         ensures copy { IfOk result (λ forest. forest.mounts ≡ self.now.mounts) }
         ensures since { IfOk result (λ forest. forest.since ≡ self.now.mounts) }
@@ -132,7 +131,6 @@ impl Forest {
     }
 
     /// Makes room for so many changes, each of one mount that comes, goes or is changed, and changes none.
-    /// Refused as `NoMemory` alone.
     pub fn reserve(&mut self, additional: usize) -> Result<(), Fault>
         ensures room { OnOk result (additional ≤ self.new.room) }
         ensures memory { IsOkUnless result Fault.NoMemory }
@@ -315,7 +313,7 @@ impl Forest {
         self.indexes.stacks.along(place, root_place(&mount), most)
     }
 
-    /// The IDs of all mounts, rising. Refused as `NoMemory` alone.
+    /// The IDs of all mounts, rising.
     pub fn ids(&self) -> Result<Vec<MountId>, Fault>
         ensures ids { IfOk result (λ ids. ids.items ≡ map id_of self.now.mounts) }
         ensures memory { IsOkUnless result Fault.NoMemory }
@@ -323,7 +321,7 @@ impl Forest {
         self.table.ids()
     }
 
-    /// All mounts, by rising ID. Refused as `NoMemory` alone.
+    /// All mounts, by rising ID.
     pub fn mounts(&self) -> Result<Vec<Mount>, Fault>
         ensures mounts { IfOk result (λ mounts. mounts.items ≡ self.now.mounts) }
         ensures memory { IsOkUnless result Fault.NoMemory }
@@ -331,7 +329,7 @@ impl Forest {
         self.table.mounts()
     }
 
-    /// The mounts of a namespace, by rising ID. Refused as `NoMemory` alone.
+    /// The mounts of a namespace, by rising ID.
     pub fn mounts_in(&self, space: SpaceId) -> Result<Vec<Mount>, Fault>
         ensures mounts { IfOk result (λ mounts. mounts.items ≡ mounts_in self.now.mounts space) }
         ensures memory { IsOkUnless result Fault.NoMemory }
@@ -353,7 +351,7 @@ impl Forest {
         self.table.count_in(space)
     }
 
-    /// The IDs of the mounts that stand on a mount, rising. Refused as `NoMemory` alone.
+    /// The IDs of the mounts that stand on a mount, rising.
     pub fn children_of(&self, id: MountId) -> Result<Vec<MountId>, Fault>
         ensures children { IfOk result (λ ids. ids.items ≡ children self.now.mounts id) }
         ensures rising { IsTrue (rises id_of self.now.mounts) }

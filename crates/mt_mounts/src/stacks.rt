@@ -33,7 +33,6 @@ pub(crate) struct Stacks {
     pub(crate) starts: IndexMap<Place, Reach>,
 }
 
-// Written out, so that an owner of stacks lets them go as one thing.
 impl Drop for Stacks {
     fn drop(self) {
         let Stacks {
@@ -128,7 +127,7 @@ impl Stacks {
         }
     }
 
-    /// The same stacks. Refused as `NoMemory` alone.
+    /// The same stacks.
     pub(crate) fn copy(&self) -> Result<Stacks, Fault>
         ensures copy { IfOk result (λ copy. (next : Place → Option Place) → IsStacked next self.now → IsStacked next copy) }
         ensures memory { IsOkUnless result Fault.NoMemory }
@@ -139,7 +138,7 @@ impl Stacks {
         })
     }
 
-    /// Makes room for so many more mounts. Refused as `NoMemory` alone.
+    /// Makes room for so many more mounts.
     pub(crate) fn reserve(&mut self, additional: usize) -> Result<(), Fault>
         ensures room { OnOk result (additional ≤ stack_room self.new) }
         ensures memory { IsOkUnless result Fault.NoMemory }

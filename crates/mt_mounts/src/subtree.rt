@@ -32,7 +32,7 @@ impl Forest {
     }
 
     /// An ID, and the IDs of all mounts that stand on the mount with this ID, at whatever height,
-    /// each once. Refused as `NoMemory` alone.
+    /// each once.
     fn gather(&self, id: MountId) -> Result<Vec<MountId>, Fault>
         ensures gathered { IfOk result (λ ids. (q : ℕ) → occ q ids.items ≡ cond (is_below self.now.mounts id q) 1 0) }
         ensures rising { OnOk result (IsTrue (rises id_of self.now.mounts)) }
@@ -51,7 +51,7 @@ impl Forest {
     }
 
     /// The IDs of [`subtree`](Forest::subtree), in any order. An ID that is not there stays out,
-    /// also where mounts stand on it. Refused as `NoMemory` alone.
+    /// also where mounts stand on it.
     fn members(&self, id: MountId) -> Result<Vec<MountId>, Fault>
         ensures members { IfOk result (λ ids. (q : ℕ) → occ q ids.items ≡ occ q (subtree self.now.mounts id)) }
         ensures rising { OnOk result (IsTrue (rises id_of self.now.mounts)) }
@@ -66,7 +66,7 @@ impl Forest {
     }
 
     /// The IDs of the mount with this ID, if it is there, and of all that stand on it, at whatever
-    /// height, rising. Refused as `NoMemory` alone.
+    /// height, rising.
     pub fn subtree(&self, id: MountId) -> Result<Vec<MountId>, Fault>
         ensures subtree { IfOk result (λ ids. ids.items ≡ subtree self.now.mounts id) }
         ensures memory { IsOkUnless result Fault.NoMemory }

@@ -37,7 +37,6 @@ impl Model for NewKeys {
     ghost view = { λ k. keys_of k.keys.keys };
 }
 
-// Written out, so that whoever owns keys lets them go as one thing.
 impl Drop for NewKeys {
     fn drop(self) {
         let NewKeys { keys: _keys } = self;
@@ -62,7 +61,7 @@ impl NewKeys {
         self.keys.len()
     }
 
-    /// Adds a key, unless it is there. Refused as `NoMemory` alone.
+    /// Adds a key, unless it is there.
     pub(crate) fn add(&mut self, key: Key) -> Result<(), Fault>
         ensures added { OnOk result (self.new ≡ cond (list_any (λ l. key_eq l (key_view key)) self.old) self.old (self.old ++ key_view key ∷ [])) }
         ensures memory { IsOkUnless result Fault.NoMemory }

@@ -119,7 +119,7 @@ fn keep_passed(
 }
 
 /// The nearest group at which copies stand, from a group upwards. What is found above the groups that are passed is
-/// kept, so that no search goes over them again. Refused as `NoMemory` alone.
+/// kept, so that no search goes over them again.
 pub(crate) fn nearest_from(
     world: &World,
     standing: &Standing,

@@ -12,7 +12,6 @@ pub(crate) struct Order {
     sorted: bool,
 }
 
-// Written out, so that whoever owns one lets it go as one thing.
 impl Drop for Order {
     fn drop(self) {
         let Order {

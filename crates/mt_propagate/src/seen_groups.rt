@@ -95,7 +95,6 @@ impl<'a> Model for SeenGroups<'a> {
     ghost invariant = { λ s. AreNearest (world_view s.world.now) s.found };
 }
 
-// Written out, so that whoever owns what was found lets it go as one thing.
 impl<'a> Drop for SeenGroups<'a> {
     fn drop(self) {
         let SeenGroups {
@@ -130,7 +129,7 @@ impl<'a> SeenGroups<'a> {
         self.found.get(&search).copied()
     }
 
-    /// The nearest group that is seen in a namespace, from a group upwards. Refused as `NoMemory` alone.
+    /// The nearest group that is seen in a namespace, from a group upwards.
     fn nearest(&mut self, search: Search) -> Result<Option<GroupId>, Fault>
         ensures nearest { IfOk result (λ group. group ≡ nearest_seen (world_view self.old) search.space search.group) }
         ensures kept { self.new ≡ self.old }
@@ -144,7 +143,7 @@ impl<'a> SeenGroups<'a> {
         Ok(group)
     }
 
-    /// What [`from_group`] answers of a mount. Refused as `NoMemory` alone.
+    /// What [`from_group`] answers of a mount.
     pub fn from_group(&mut self, id: MountId) -> Result<Option<GroupId>, Fault>
         ensures group { IfOk result (λ group. group ≡ from_group (world_view self.old) id) }
         ensures kept { self.new ≡ self.old }

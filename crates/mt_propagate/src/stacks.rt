@@ -71,8 +71,7 @@ fn is_unstacked(mounts: &[Mount], first: Mount) -> bool
     }
 }
 
-/// The topmost mount of the stack of these mounts that begins with one of them. Refused as `NoMemory`
-/// alone.
+/// The topmost mount of the stack of these mounts that begins with one of them.
 pub(crate) fn stack_last(alloc: Global, mounts: &[Mount], first: Mount) -> Result<Mount, Fault>
     ensures last { IfOk result (λ last. last ≡ stack_last mounts.now first) }
     ensures memory { IsOkUnless result Fault.NoMemory }

@@ -34,7 +34,7 @@ impl Model for Line {
     ghost invariant = { λ l. IsIdle (arc_value l.sends) (arc_value l.takes) l.pass };
 }
 
-/// Makes a line for `capacity` posts, 1 to 1,024. Refused as `NoMemory` alone.
+/// Makes a line for `capacity` posts, 1 to 1,024.
 ///
 /// All that the line ever needs is made here: no other call of this crate takes memory.
 pub fn make_line(alloc: Global, capacity: usize) -> Result<Line, Fault>

@@ -38,7 +38,7 @@ pub(crate) fn label_fault(word: &[u8]) -> Option<Fault>
     }
 }
 
-/// The label that a word without a fault says: the word itself, where it has no escape. Refused as `NoMemory` alone.
+/// The label that a word without a fault says: the word itself, where it has no escape.
 pub(crate) fn label_of(alloc: Global, word: &[u8]) -> Result<Label, Fault>
     requires { label_fault word.now ≡ None }
     ensures label { IfOk result (λ label. label ≡ label_bytes word.now) }

@@ -82,8 +82,8 @@ fn change_attrs(forest: &mut Forest, ids: &[MountId], change: &Change)
     }
 }
 
-/// Makes room for a change of so many mounts, and changes nothing: new attributes need it for each of them,
-/// and a new propagation for as many mounts as there are. Refused as `NoMemory` alone.
+/// Makes room for a change of so many mounts, and changes nothing: new attributes need it for each of them, and a new
+/// propagation for as many mounts as there are.
 fn reserve_change(world: &mut World, count: usize, change: &Change) -> Result<(), Fault>
     ensures attrs { OnOk result (count ≤ world.new.forest.room) }
     ensures room { OnOk result (IsTrue (is_some change.now.prop) → length world.new.peers.peers ≤ world.new.peers.room) }

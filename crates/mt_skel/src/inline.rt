@@ -37,7 +37,7 @@ impl Bytes {
         }
     }
 
-    /// Bytes that are equal to these. Fails for want of memory alone.
+    /// Bytes that are equal to these.
     pub(crate) fn copied(alloc: Global, bytes: &[u8]) -> Result<Bytes, AllocError>
         ensures { IfOk result (λ copy. bytes_of copy ≡ bytes.now) }
     {

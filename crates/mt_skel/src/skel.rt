@@ -92,7 +92,7 @@ impl Skel {
         }
     }
 
-    /// An equal skeleton. Refused as `NoMemory` alone.
+    /// An equal skeleton.
     pub fn copy(&self) -> Result<Skel, Fault>
         ensures copy { IfOk result (λ skel. skel ≡ self.now) }
         ensures sound { IsSkeleton self.now }
@@ -238,7 +238,7 @@ impl Skel {
         true
     }
 
-    /// The names from the root of its filesystem down to a directory. Refused as `NoMemory` alone.
+    /// The names from the root of its filesystem down to a directory.
     pub fn path_of(&self, dir: Dir) -> Result<Vec<Name>, Fault>
         requires { IsTrue (is_directory self.now dir) }
         ensures path { IfOk result (λ path. path.items ≡ (directory self.now dir).path) }
@@ -268,9 +268,8 @@ impl Skel {
         depth
     }
 
-    /// Appends the last so many of the names from the root of its filesystem down to a directory, each behind a slash
-    /// and with its escapes; all of them where there are no more. Fails for want of memory alone, and what stood there
-    /// stays in front then too.
+    /// Appends the last so many of the names from the root of its filesystem down to a directory, each after a slash
+    /// and with its escapes; all of them if there are no more.
     pub fn push_path(&self, text: &mut Vec<u8>, dir: Dir, count: usize) -> Result<(), AllocError>
         requires { IsTrue (is_directory self.now dir) }
         ensures text { OnOk result (text.new.items ≡ text.old.items ++ flat_map (λ n. 47 ∷ escaped n) (drop (length (directory self.now dir).path - count) (directory self.now dir).path)) }
@@ -289,7 +288,7 @@ impl Skel {
     }
 
     /// A path with the last so many of the names from the root of its filesystem down to a directory at its end; all of
-    /// them where there are no more. Fails for want of memory alone.
+    /// them where there are no more.
     pub fn add_path(&self, path: Names, dir: Dir, count: usize) -> Result<Names, AllocError>
         requires { IsTrue (is_directory self.now dir) }
         ensures { IfOk result (λ names. names ≡ path ++ drop (length (directory self.now dir).path - count) (directory self.now dir).path) }

@@ -18,7 +18,7 @@ use mt_skel::fault::Fault;
 use mt_skel::name::Name;
 use mt_skel::skel::Dir;
 
-/// Appends the mounts that stand at this directory of these mounts. Refused as `NoMemory` alone.
+/// Appends the mounts that stand at this directory of these mounts.
 fn push_standing(
     world: &World,
     targets: &[MountId],
@@ -40,8 +40,7 @@ fn push_standing(
     Ok(())
 }
 
-/// Appends what a mount receives: at each target of its place the mount at the same directory. Refused as `NoMemory`
-/// alone.
+/// Appends what a mount receives: at each target of its place the mount at the same directory.
 fn push_received(world: &World, id: MountId, ids: &mut Vec<MountId>) -> Result<(), Fault>
     ensures ids { OnOk result (ids.new.items ≡ ids.old.items ++ received (world_view world.now) id) }
     ensures memory { IsOkUnless result Fault.NoMemory }
@@ -53,7 +52,7 @@ fn push_received(world: &World, id: MountId, ids: &mut Vec<MountId>) -> Result<(
     Ok(())
 }
 
-/// Appends what each of these mounts receives. Refused as `NoMemory` alone.
+/// Appends what each of these mounts receives.
 fn push_all_received(world: &World, tree: &[MountId], ids: &mut Vec<MountId>) -> Result<(), Fault>
     ensures ids { OnOk result (ids.new.items ≡ ids.old.items ++ flat_map (received (world_view world.now)) tree.now) }
     ensures memory { IsOkUnless result Fault.NoMemory }
@@ -64,7 +63,7 @@ fn push_all_received(world: &World, tree: &[MountId], ids: &mut Vec<MountId>) ->
     Ok(())
 }
 
-/// The candidates: the tree of a mount, and what each mount of it receives. Refused as `NoMemory` alone.
+/// The candidates: the tree of a mount, and what each mount of it receives.
 fn candidates(world: &World, id: MountId) -> Result<Vec<MountId>, Fault>
     ensures candidates { IfOk result (λ ids. ids.items ≡ candidates (world_view world.now) id) }
     ensures memory { IsOkUnless result Fault.NoMemory }
@@ -76,7 +75,7 @@ fn candidates(world: &World, id: MountId) -> Result<Vec<MountId>, Fault>
     Ok(ids)
 }
 
-/// The candidates that go: all that is inside them are candidates. Refused as `NoMemory` alone.
+/// The candidates that go: all that is inside them are candidates.
 fn gone(world: &World, id: MountId) -> Result<Gone, Fault>
     requires well_formed { IsWellFormed (world_view world.now) }
     ensures gone { IfOk result (AreGone (is_detached (world_view world.now) id)) }

@@ -19,7 +19,7 @@ use mt_propagate::named::is_mount_root;
 use mt_propagate::world::World;
 use mt_skel::fault::Fault;
 
-/// Adds the mounts that stand on one and are no candidates. Refused as `NoMemory` alone.
+/// Adds the mounts that stand on one and are no candidates.
 fn push_staying(
     world: &World,
     candidates: &Gone,
@@ -38,7 +38,7 @@ fn push_staying(
     Ok(())
 }
 
-/// The mounts that stand on candidates and are none. Refused as `NoMemory` alone.
+/// The mounts that stand on candidates and are none.
 fn staying(world: &World, candidates: &Gone) -> Result<Vec<MountId>, Fault>
     ensures staying { IfOk result (λ ids. ids.items ≡ flat_map (staying_on (world_view world.now) (among candidates.now)) candidates.now) }
     ensures memory { IsOkUnless result Fault.NoMemory }
@@ -85,7 +85,7 @@ fn add(set: &mut IndexSet<MountId>, id: Option<MountId>) -> Result<(), Fault>
     Ok(())
 }
 
-/// The mounts that hold others where these are candidates. Refused as `NoMemory` alone.
+/// The mounts that hold others where these are candidates.
 fn holding(world: &World, candidates: &Gone) -> Result<IndexSet<MountId>, Fault>
     requires well_formed { IsWellFormed (world_view world.now) }
     ensures holding { IfOk result (λ set. AreHolding (world_view world.now) (among candidates.now) set.keys) }
@@ -116,7 +116,7 @@ fn around(world: &World, id: MountId) -> Option<MountId>
 }
 
 /// The candidates inside which there is a mount that is none, in any order, and maybe other mounts. One may be there
-/// more than once. Refused as `NoMemory` alone.
+/// more than once.
 pub(crate) fn held(world: &World, candidates: &Gone) -> Result<Vec<MountId>, Fault>
     requires well_formed { IsWellFormed (world_view world.now) }
     ensures held { IfOk result (λ ids. AreHeld (world_view world.now) (among candidates.now) (among ids.items)) }

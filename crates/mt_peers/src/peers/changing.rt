@@ -161,8 +161,8 @@ impl Peers {
     }
 
     /// Brings the states of these mounts to what they are in other peers, from which no other differs, takes over the
-    /// number of the next group, and begins; nothing is noted on the way. Where many are named the list of states is
-    /// copied as a whole. Refused as `NoMemory` alone, before anything has changed.
+    /// number of the next group, and begins; nothing is noted on the way. If many are named, the list of states is
+    /// copied as a whole. A refusal comes before anything has changed.
     pub fn follow(&mut self, other: &Peers, ids: &[MountId]) -> Result<(), Fault>
         requires alike { AreAlikeBut ids.now (state_at self.old.peers) (state_at other.now.peers) }
         ensures peering { OnOk result (peering_of self.new ≡ peering_of other.now) }
