@@ -1,4 +1,4 @@
-//! Listening at a path, on request also where a server that was killed has left its socket.
+//! Listening at a path, on request even where a server that was killed has left its socket.
 //!
 //! A server takes the lock of its path before it looks at the path, and holds it up to its end. So no other server makes or
 //! removes a socket there meanwhile, whatever the time between two of its steps is.

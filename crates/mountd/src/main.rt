@@ -120,7 +120,7 @@ fn complaint(end: End) -> Option<&'static str> {
     }
 }
 
-/// Serves one session on standard input and output, with queues of so many posts, 1 to 1,024.
+/// Serves one session on standard input and output, with queues of this many posts, 1 to 1,024.
 fn serve_standard(rt: &HostRuntime, queue: usize) -> ExitCode {
     let reader = Reading::new(rt.reader());
     let Ok(mut lines) = LineReader::new(rt.alloc(), reader, LINE_LIMIT) else {

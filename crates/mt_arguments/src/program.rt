@@ -60,7 +60,7 @@ impl Program {
     }
 
     /// Says what the parser of the arguments says, and answers the status: its help or the version on standard output, of
-    /// status 0 where it goes out, and else its complaints on standard error, of status 2.
+    /// status 0 where it goes out, and otherwise its complaints on standard error, of status 2.
     pub fn explain<R: Print + Eprint>(self, rt: &R, error: &Error) -> ExitCode {
         match error.kind() {
             ErrorKind::DisplayHelp | ErrorKind::DisplayVersion => match print!(rt; "{error}") {

@@ -55,7 +55,7 @@ tree_within w p = record {
   moved = false;
 }
 
--- what a bind of a place copies: with `recursive` the tree of mounts below the directory, else the mount alone
+-- what a bind of a place copies: with `recursive` the tree of mounts below the directory, otherwise the mount alone
 abbrev pub source_at : WorldView → Bool → Place → Source
 source_at w recursive p = cond recursive (tree_within w p) (alone w p)
 

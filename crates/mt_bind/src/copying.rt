@@ -95,7 +95,7 @@ fn states(world: &World, originals: &[Mount], less: bool) -> Result<Vec<(MountId
     Ok(states)
 }
 
-/// Makes room for so many more mounts, and changes nothing.
+/// Makes room for this many more mounts, and changes nothing.
 fn make_room(world: &mut World, more: usize) -> Result<(), Fault>
     ensures room { OnOk result ((more ≤ world.new.forest.room) × (more ≤ world.new.peers.room)) }
     ensures memory { IsOkUnless result Fault.NoMemory }

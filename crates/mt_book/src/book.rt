@@ -42,7 +42,7 @@ const MOST_COMMANDS: usize = 1_048_576;
 /// A second world is kept beside the one that is shown, never more than one command behind. The next command is
 /// tried on it, and shown by exchanging both, so that no command copies a world, also not a refused one. A copy is
 /// made only for the first two commands, after a `Prepared` was dropped, or where there was no memory for what a command
-/// changed. Both lie in boxes, which go from hand to hand, but for the empty world that is shown before any command.
+/// changed. Both lie in boxes, which go from hand to hand, except for the empty world that is shown before any command.
 pub struct Book {
     shown: Shown,
     spare: Spare,
@@ -116,7 +116,7 @@ impl Book {
     /// is refused or not, and what was prepared before can still be shown: the room for it stays (`room_stays`). Each of
     /// its posts has in its fields what its type says (`valid`).
     ///
-    /// Refused as `JournalFull` after 1,048,576 accepted commands, else with the first of the command's own
+    /// Refused as `JournalFull` after 1,048,576 accepted commands, otherwise with the first of the command's own
     /// refusals that holds, and as `NoMemory`.
     pub fn prepare(&mut self, command: &Command) -> Result<Prepared, Fault>
         ensures prepared { IfOk result (λ prepared. IsPrepared self.old.journal prepared) }
@@ -203,7 +203,7 @@ impl Book {
     /// Does a command, and answers its reply and its posts, by rising namespace: one for each namespace whose
     /// table it changed, and each has in its fields what its type says (`valid`).
     ///
-    /// Refused as `JournalFull` after 1,048,576 accepted commands, else with the first of the command's own
+    /// Refused as `JournalFull` after 1,048,576 accepted commands, otherwise with the first of the command's own
     /// refusals that holds, and as `NoMemory`; then nothing has changed.
     ///
     /// Where it is issued in a namespace that was made by `copyns` with `less` and that no later command has copied, it

@@ -35,7 +35,7 @@ fn rests_in(old: &World, new: &World, space: SpaceId, id: MountId) -> bool
     is_only_in(space, before) && is_only_in(space, after) && !is_elsewhere(before, after)
 }
 
-/// The namespace of a mount, where it is there after a command, and else where it was before.
+/// The namespace of a mount, where it is there after a command, and otherwise where it was before.
 fn space_after(old: &World, new: &World, id: MountId) -> SpaceId {
     match new.forest.get(id) {
         Some(mount) => mount.space,

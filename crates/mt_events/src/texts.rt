@@ -24,7 +24,7 @@ pub fn table_lines(alloc: Global, number: u64, table: &Table) -> Result<Vec<u8>,
     Ok(lines)
 }
 
-/// Lines behind `ok` and how many they are.
+/// Lines after `ok` and how many they are.
 pub fn counted_lines(alloc: Global, count: u64, lines: &[u8]) -> Result<Vec<u8>, AllocError>
     ensures { IfOk result (λ all. all.items ≡ count_text count ++ lines.now) }
 {
@@ -51,7 +51,7 @@ pub fn lines_of_opening(alloc: Global, opening: &Opening) -> Result<Vec<u8>, Fau
     Ok(counted_lines(alloc, count, &lines)?)
 }
 
-/// A count of lines with one more and so many below it. It is refused as `NoMemory` where it does not fit: no memory
+/// A count of lines with one more and this many below it. It is refused as `NoMemory` where it does not fit: no memory
 /// holds 2^64 lines.
 fn lines_with(lines: u64, below: u64) -> Result<u64, Fault>
     ensures lines { IfOk result (λ sum. sum ≡ lines + (1 + below)) }

@@ -109,7 +109,7 @@ fn prepared_commands_may_be_dropped(rt: HostRuntime) -> Result<(), Fail> {
     Ok(())
 }
 
-/// Shows a command that was prepared, though another one was refused behind it.
+/// Shows a command that was prepared, though another one was refused after it.
 fn shown_behind(book: &mut Book, first: &Command, refused: &Command) -> Result<Reply, Fault> {
     let prepared = book.prepare(first)?;
     let _ = book.prepare(refused);

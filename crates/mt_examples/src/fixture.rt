@@ -78,7 +78,7 @@ fn push_turn(alloc: Global, text: &mut Vec<u8>, book: &mut Book, line: &[u8]) ->
     push_answer(text, &answer)
 }
 
-/// What a book answers and posts to the commands of a text, each a line behind `> `: their lines, and below each its
+/// What a book answers and posts to the commands of a text, each a line after `> `: their lines, and below each its
 /// answer and its posts. Other lines of the text are not read.
 pub(crate) fn played(alloc: Global, book: &mut Book, text: &[u8]) -> Result<Vec<u8>, Fault> {
     let mut told = Vec::new(alloc);

@@ -90,7 +90,7 @@ fn a_schedule_is_answered_in_order(rt: HostRuntime) -> Result<(), Fail> {
     Ok(())
 }
 
-/// How many of so many watchers begin on a floor, and why the next one does not.
+/// How many of this many watchers begin on a floor, and why the next one does not.
 fn begun(alloc: Global, watchers: usize) -> Result<(usize, Option<Fault>), Fault> {
     let mut floor = Floor::new(alloc, 1);
     for count in 0..watchers {

@@ -44,7 +44,7 @@ enum Stage {
     Held,
     /// Posts were taken meanwhile.
     Taken,
-    /// The desk was let go for that.
+    /// The desk was released for that.
     Released,
 }
 

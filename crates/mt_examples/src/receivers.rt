@@ -26,7 +26,7 @@ const MOST_DIRECTORIES: u64 = 16;
 const NAMESPACES: &[u8] =
     b"mkfs a tmpfs none\nmkfs d ext4 /dev/x\nmkdir a /m\nnewns a\nsetattr 1 / prop=shared\ncopyns 1\nmount 1 d /m\nmkdir a /n\nsetattr 2 / prop=slave\nmount 2 d /m\nmount 1 d /n";
 
-/// A receiver whose root does not hold the directory, and one behind it that does.
+/// A receiver whose root does not hold the directory, and one after it that does.
 const WITHOUT_DIRECTORY: &[u8] =
     b"mkfs h tmpfs none\nmkfs a ext4 /dev/x\nmkfs d xfs /dev/y\nmkdir h /w\nmkdir h /v\nmkdir h /n\nmkdir h /f\nmkdir a /x\nmkdir a /t\nnewns h\nmount 1 a /w\nsetattr 1 /w prop=shared\nbind 1 /w /v\nsetattr 1 /v prop=slave\nsetattr 1 /v prop=shared\nbind 1 /v/x /n\nbind 1 /v /f\nsetattr 1 /f prop=slave\numount 1 /v\nmount 1 d /w/t";
 
@@ -174,7 +174,7 @@ fn is_agreed_everywhere(world: &World) -> Result<bool, Fault> {
     Ok(true)
 }
 
-/// Does a command, whether it is refused or not. Refused as `NoMemory`, also where no number is left.
+/// Does a command, whether it is refused or not. Refused as `NoMemory`, even where no number is left.
 pub(crate) fn do_one(world: &mut World, command: &Command) -> Result<(), Fault>
     requires well_formed { IsWellFormed (world_view world.old) }
     ensures kept { IsWellFormed (world_view world.new) }

@@ -59,7 +59,7 @@ fn sessions_are_numbered_and_no_more_than_may_be(rt: HostRuntime) -> Result<(), 
     Ok(())
 }
 
-/// How a round ends at a closed door before which so many accepts in succession have failed, and how many have then.
+/// How a round ends at a closed door before which this many accepts in succession have failed, and how many have then.
 fn round(over: bool, before: u32) -> (Round, u32)
     requires { before < most_failures }
 {

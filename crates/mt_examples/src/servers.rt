@@ -112,7 +112,7 @@ fn answers(alloc: Global, stream: &UnixStream, request: &[u8], wanted: &[u8]) ->
     send(&mut Writing::new(stream), request).is_ok() && reads(alloc, stream, wanted)
 }
 
-/// The number that answers a request, of 1 and 2; else 0.
+/// The number that answers a request, of 1 and 2; otherwise 0.
 fn number_answered(alloc: Global, stream: &UnixStream, request: &[u8]) -> u64 {
     if send(&mut Writing::new(stream), request).is_err() {
         return 0;

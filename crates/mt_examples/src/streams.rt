@@ -19,7 +19,7 @@ fn word(answer: Result<Line, ReadFault>) -> &'static [u8] {
     }
 }
 
-/// What so many calls answer, each with the bytes that the reader lends behind it.
+/// What this many calls answer, each with the bytes that the reader lends after it.
 fn told<R: Input + Drop>(
     alloc: Global,
     reader: R,
@@ -63,7 +63,7 @@ fn reads_the_same_lines_in_any_pieces(rt: HostRuntime) -> Result<(), Fail> {
     Ok(())
 }
 
-/// Whether a reader that fails so often in succession behind its first read gives these lines.
+/// Whether a reader that fails this often in succession after its first read gives these lines.
 fn is_kept(
     alloc: Global,
     fault: StreamFault,

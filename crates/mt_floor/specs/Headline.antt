@@ -184,6 +184,6 @@ pub record IsGivenInOrder (capacity : ℕ) (es : List Event) (at key : ℕ) (o :
   pub run : IsRun o (given_since capacity es at key)
   pub tables : TellTables capacity es o (given_since capacity es at key)
 
--- so it is of every list of events and every watcher that began in it, up to its close and behind it
+-- so it is of every list of events and every watcher that began in it, up to its close and after it
 abbrev pub GivenInOrder : Type 0
 GivenInOrder = (capacity : ℕ) (es : List Event) (at key : ℕ) (o : Opening) → slice_get (answers capacity es) at ≡ Some (Ok (Opened key o)) → IsGivenInOrder capacity es at key o

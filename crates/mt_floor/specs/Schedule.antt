@@ -82,7 +82,7 @@ sent_to s d ds false r = (changed (record s { due = ds }) (record r { sent = r.s
 abbrev pub has_open : ℕ → FloorView → Bool
 has_open key s = option_map_or (λ (r : Watcher). is_open r.phase) (row_at watcher_key key s.watchers) false
 
--- a queue is full where so many more posts were sent than taken
+-- a queue is full where this many more posts were sent than taken
 abbrev pub is_full : ℕ → Watcher → Bool
 is_full capacity r = nat_le (length r.taken + capacity) (length r.sent)
 

@@ -25,8 +25,9 @@ fn is_missing(book: &Book, scope: Scope) -> bool
     }
 }
 
-/// Why no watcher of this scope begins at a floor, or at a desk, with this book and so many watchers, of which the last
-/// one to begin got this key, and which has stopped or not: `NoNamespace`, else `TooManyWatchers`, else `Stopped`.
+/// Why no watcher of this scope begins at a floor, or at a desk, with this book and this many watchers, of which the
+/// last one to begin got this key, and which has stopped or not: `NoNamespace`, otherwise `TooManyWatchers`, otherwise
+/// `Stopped`.
 pub fn opening_refusal(
     book: &Book,
     scope: Scope,

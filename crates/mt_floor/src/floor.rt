@@ -251,8 +251,8 @@ impl Floor {
     ///
     /// Refused, with nothing changed:
     ///
-    /// - `Apply` as `Stopped` after a stop, as `JournalFull` after 1,048,576 accepted commands, else with the first of
-    ///   the command's own refusals that holds, and as `NoMemory`;
+    /// - `Apply` as `Stopped` after a stop, as `JournalFull` after 1,048,576 accepted commands, otherwise with the
+    ///   first of the command's own refusals that holds, and as `NoMemory`;
     /// - `Open` as `NoNamespace` where its one namespace is not there, as `TooManyWatchers` where there are 64 watchers
     ///   or all keys were given out, as `Stopped` after a stop, and as `NoMemory`;
     /// - `Take`, `Meet` and `Close` as `NoWatcher` where the key has no watcher;

@@ -61,6 +61,6 @@ abbrev pub with_kind : Option (List ℕ) → List ℕ → List ℕ
 with_kind None text = text
 with_kind (Some kind) text = (text ++ codes " ") ++ kind
 
--- the words for the options of a row and for its propagation, each behind a space
+-- the words for the options of a row and for its propagation, each preceded by a space
 unfoldable pub options_text : List ℕ → Option (List ℕ) → List ℕ
 options_text options kind = with_kind kind (with_times (times_of options) (with_flags options [] flags))

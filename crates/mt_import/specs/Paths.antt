@@ -26,12 +26,12 @@ says_name piece =
     option_map_or (λ bytes. nat_le 1 (length bytes) && nat_le (length bytes) 255) (unescaped piece) false
     && list_all (λ b. not (b == 0)) piece && not (bytes_eq piece (codes ".")) && not (bytes_eq piece (codes ".."))
 
--- a path that the script can name: of at most 4,000 bytes, each name of it behind a slash
+-- a path that the script can name: of at most 4,000 bytes, each name of it after a slash
 unfoldable pub can_be_named : List ℕ → Bool
 can_be_named [] = true
 can_be_named (b ∷ text) = b == 47 && nat_le (length (b ∷ text)) 4000 && list_all says_name (pieces 47 text)
 
--- what stands behind a path in one that is below it, or is the same
+-- what stands after a path in one that is below it, or is the same
 abbrev pub names_behind : List ℕ → Option (List ℕ)
 names_behind [] = Some []
 names_behind (b ∷ rest) = if b == 47 then Some (b ∷ rest) else None

@@ -42,7 +42,7 @@ abbrev pub level_on : Mount → List ℕ → ℕ
 level_on parent [] = parent.level
 level_on parent (b ∷ names) = min (parent.level + 1) (2 ^ 64 - 1)
 
--- how many a mount of a level stands on at the root of the namespace, if they may be so many
+-- how many a mount of a level stands on at the root of the namespace, if they may be this many
 abbrev pub base_on : Mount → ℕ → Option ℕ
 base_on parent level = if level == 0 then (if nat_lt parent.base 32 then Some (parent.base + 1) else None) else Some parent.base
 

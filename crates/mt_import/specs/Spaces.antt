@@ -29,7 +29,7 @@ mounts_made groups space at of =
     (turns_from groups space at of [] 0 of.tree.mounts ++ covered groups space at of.tree.mounts (numbers_where (is_cover of.ways.items) 0 of.tree.mounts))
     ++ finished groups space at of.tree.mounts
 
--- in a copy of the first namespace, but for that itself
+-- in a copy of the first namespace, except for that itself
 abbrev pub copied_if : Bool → List ℕ
 copied_if true = copy_text (codes "1")
 copied_if false = []
@@ -42,7 +42,7 @@ space_text groups of =
 abbrev pub made_if_shown : BTreeMap ℕ Group → Space → List ℕ
 made_if_shown groups of = if is_shown of then space_text groups of else []
 
--- the first one last, behind what else is made
+-- the first one last, after what else is made
 abbrev pub spaces_text : BTreeMap ℕ Group → List Space → List ℕ → List ℕ
 spaces_text groups [] between = []
 spaces_text groups (of ∷ others) between =

@@ -41,6 +41,6 @@ is_shown space = is_made space.ways.items 0
 abbrev pub space_comments : Space → List ℕ
 space_comments space = mounts_text space.tree.table space.tree.mounts space.ways.items ++ rootless_text (is_shown space) space.tree.table
 
--- a table has a tree, each mount behind the one that it stands on
+-- a table has a tree, each mount after the one that it stands on
 abbrev pub HasMakingOrder : Space → Type 0
 HasMakingOrder space = IsMakingOrder space.tree.rows space.tree.mounts space.tree.left

@@ -1,4 +1,4 @@
--- The mounts of a table are made, each once: it is begun behind what it stands on, and comes to its place when all stands on it that does.
+-- The mounts of a table are made, each once: it is begun after what it stands on, and comes to its place when all stands on it that does.
 -- A word with no source is this project's rule.
 use Rattle.std.specs.Prelude.{ℕ, suc, ◌-◌, ◌==◌, ◌||◌, Bool, if◌then◌else◌, List, [], ◌∷◌, ◌++◌, drop, take, length, is_some, Option, Some, None, slice_get, map}
 use Rattle.std.specs.List.{flat_map}
@@ -59,7 +59,7 @@ ended_in groups space at mounts way mount = []
 abbrev pub ended_at : BTreeMap ℕ Group → List ℕ → List ℕ → Space → ℕ → List ℕ
 ended_at groups space at of number = ended_in groups space at of.tree.mounts (slice_get of.ways.items number) (slice_get of.tree.mounts number)
 
--- The mounts from one of a number on, behind those that are open, which wait for their end, the last one first: as many stay open as the level of the next one
+-- The mounts from one of a number on, after those that are open, which wait for their end, the last one first: as many stay open as the level of the next one
 -- says, the others are ended, and it is open then too. Behind the last one all are ended.
 abbrev pub turns_from : BTreeMap ℕ Group → List ℕ → List ℕ → Space → List ℕ → ℕ → List Mount → List ℕ
 turns_from groups space at of opened number [] = flat_map (ended_at groups space at of) opened

@@ -279,7 +279,7 @@ fn may_return(groups: &Groups<'_>, candidate: &Candidate<'_, '_>, left: &[Why]) 
         && groups.may_add(candidate.row)
 }
 
-/// Chooses which of the first mounts are made, so many at most: the others have no room.
+/// Chooses which of the first mounts are made, this many at most: the others have no room.
 pub(crate) fn choose<'t, 'a>(
     alloc: Global,
     all: &[Candidate<'t, 'a>],

@@ -19,7 +19,7 @@ use crate::writer::{
 use std::alloc::Global;
 use std::collections::BTreeSet;
 
-/// The directories of what is staged, each behind its filesystem: the slots of root mounts, of what hooks spare, and of groups.
+/// The directories of what is staged, each after its filesystem: the slots of root mounts, of what hooks spare, and of groups.
 pub(crate) fn slots_of(alloc: Global, staged: &Staged) -> Allocated<BTreeSet<Vec<u8>>> {
     let mut slots = BTreeSet::new(alloc);
     slots.insert(one_behind(alloc, STAGE_FS, NEW)?)?;
@@ -116,7 +116,7 @@ impl<'a> Plan<'a> {
         Ok(script)
     }
 
-    /// What makes the directories, each behind those above it.
+    /// What makes the directories, each after those above it.
     fn directories_made(&self) -> Result<Script, Unmade> {
         let mut script = Script::new(self.alloc);
         for directory in self.directories.iter() {

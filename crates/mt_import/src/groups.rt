@@ -38,7 +38,7 @@ impl<'a> Group<'a> {
     }
 }
 
-/// The groups of which a member is staged, each behind how many are above it, itself among them.
+/// The groups of which a member is staged, each after how many are above it, itself among them.
 pub(crate) type Staged = BTreeSet<(usize, u64)>;
 
 /// Counts of groups, by their numbers.
@@ -109,7 +109,7 @@ impl<'a> Groups<'a> {
         }
     }
 
-    /// Counts so many more for a group, if for one, and for each above it.
+    /// Counts this many more for a group, if for one, and for each above it.
     pub(crate) fn count_up(&self, counts: &mut Counts, first: Option<u64>, count: usize) -> Done {
         for number in self.upwards(first) {
             let old = counts.get(&number).copied().unwrap_or(0);

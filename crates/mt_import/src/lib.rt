@@ -12,7 +12,7 @@
 //!   first time the groups are counted to which the server gives [`numbers`].
 //!
 //! What is planned is made only if it is what the tables tell ([`soundness`]), and each line of a command is one that the server
-//! reads; else all rows are told, and nothing is made ([`unmade`]).
+//! reads; otherwise all rows are told, and nothing is made ([`unmade`]).
 //!
 //! A [`script::Script`] has only comments and lines that the server reads as commands.
 #![tactic(auto)]

@@ -109,7 +109,7 @@ fn stack_on<'a>(parent: &Mount<'a>, names: &'a [u8], here: usize) -> (usize, &'a
     (here, names, parent.level.saturating_add(1))
 }
 
-/// How many a mount of a level stands on at the root of the namespace, if they may be so many.
+/// How many a mount of a level stands on at the root of the namespace, if they may be this many.
 fn base_on(parent: &Mount<'_>, level: usize) -> Option<usize>
     ensures { result ≡ base_on parent.now level }
 {

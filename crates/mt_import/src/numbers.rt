@@ -35,7 +35,7 @@ impl Script {
         Ok(())
     }
 
-    /// Counts those of mounts that are put so many times at a place on a member of a group.
+    /// Counts those of mounts that are put this many times at a place on a member of a group.
     pub(crate) fn count_mounts(&mut self, groups: &Groups<'_>, group: u64, place: &[u8], times: u64)
         ensures { self.new ≡ self.old }
     {
@@ -52,8 +52,8 @@ impl Script {
             .saturating_add(made.saturating_mul(times));
     }
 
-    /// Counts those of a hook for a mount on a member of a group, which is taken away at so many paths, each time by one more
-    /// mount on all others. The one that covers the mount itself is the only one of its group if the mount is.
+    /// Counts those of a hook for a mount on a member of a group, which is taken away at this many paths, each time by
+    /// one more mount on all others. The one that covers the mount itself is the only one of its group if the mount is.
     pub(crate) fn count_hook(
         &mut self,
         groups: &Groups<'_>,

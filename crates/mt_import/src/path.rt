@@ -1,5 +1,5 @@
 //! Paths as a mountinfo has them, each name with its escapes. The path of a root is empty here: then a path and one
-//! below it are joined by writing one behind the other.
+//! below it are joined by writing one after the other.
 ghost use Rattle.std.specs.Prelude.{◌≡◌, nat_le, ◌&&◌, ◌==◌, not, false, length};
 ghost use Rattle.std.specs.List.{list_all};
 ghost use Rattle.std.specs.Option.{option_copied, option_map_or};
@@ -100,7 +100,7 @@ fn is_script_name(piece: &[u8]) -> bool
     piece == b".import".as_slice() || piece == b".import2".as_slice()
 }
 
-/// What stands behind a path in one below it, or None where it is not below.
+/// What stands after a path in one below it, or None where it is not below.
 #[tactic(auto, unfolding(crate::specs::Paths::path_behind))]
 pub(crate) fn path_behind<'a>(path: &'a [u8], above: &[u8]) -> Option<&'a [u8]>
     ensures { option_copied result ≡ path_behind path.now above.now }
@@ -111,7 +111,7 @@ pub(crate) fn path_behind<'a>(path: &'a [u8], above: &[u8]) -> Option<&'a [u8]>
     names_behind(&path[above.len()..])
 }
 
-/// What stands behind a path, if it is nothing or begins with a slash.
+/// What stands after a path, if it is nothing or begins with a slash.
 fn names_behind(rest: &[u8]) -> Option<&[u8]>
     ensures { option_copied result ≡ names_behind rest.now }
 {

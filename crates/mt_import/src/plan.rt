@@ -35,7 +35,7 @@ pub(crate) struct Plan<'a> {
     pub(crate) plains: BTreeSet<&'a [u8]>,
     /// The groups of which a member is staged.
     pub(crate) staged: Staged,
-    /// The directories, each behind its filesystem.
+    /// The directories, each after its filesystem.
     pub(crate) directories: BTreeSet<Vec<u8>>,
 }
 
@@ -55,7 +55,7 @@ impl<'a> Drop for Plan<'a> {
 }
 
 impl<'a> Plan<'a> {
-    /// What is needed where so many mounts are made, from the first, and whether a server has room for that.
+    /// What is needed where this many mounts are made, from the first, and whether a server has room for that.
     fn of(alloc: Global, all: &[Candidate<'_, 'a>], most: usize) -> Allocated<(Plan<'a>, bool)> {
         let Choice { left, made, groups } = choose(alloc, all, most)?;
         let staged = groups.staged(alloc)?;
@@ -100,7 +100,7 @@ impl<'a> Plan<'a> {
             .any(|(_, group)| !self.groups.is_seen(*group))
     }
 
-    /// How many mounts get what is mounted on one of a staged group, at most, where so many stages are there.
+    /// How many mounts get what is mounted on one of a staged group, at most, where this many stages are there.
     fn most_receivers(&self, made: &[Candidate<'_, '_>], stages: usize) -> Allocated<usize> {
         let (mut counts, groups) = (BTreeMap::new(self.alloc), &self.groups);
         for candidate in made {

@@ -17,7 +17,7 @@ struct Fields {
 }
 
 impl Fields {
-    /// These fields with one more, or `None` where it has a name that is known and no number behind it. A field that
+    /// These fields with one more, or `None` where it has a name that is known and no number after it. A field that
     /// is not known changes nothing.
     fn with(self, field: &[u8]) -> Option<Fields>
         ensures { result ≡ with_field self field.now }
@@ -75,8 +75,8 @@ fn is_device(word: &[u8]) -> bool
     number(major).is_some() && number(minor).is_some()
 }
 
-/// The type and the source, which stand behind the dash. None where one word of super options is not all that stands
-/// behind them.
+/// The type and the source, which stand after the dash. None where one word of super options is not all that stands
+/// after them.
 fn read_end<'a>(words: &mut Words<'a>) -> Option<(&'a [u8], &'a [u8])>
     ensures { MatchOption result (end_in words.old ≡ None) (λ (kind, source). end_in words.old ≡ Some (kind.now, source.now)) }
 {

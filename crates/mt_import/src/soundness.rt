@@ -70,7 +70,7 @@ fn comes_first(
         || is_apart(ways, above)
 }
 
-/// Whether each of these mounts stands on one that is made, and comes behind that.
+/// Whether each of these mounts stands on one that is made, and comes after that.
 fn stand_on_made(mounts: &[Mount<'_>], ways: &[Way]) -> bool
     ensures { result ≡ stand_on_made mounts.now ways.now 0 mounts.now }
 {

@@ -120,7 +120,7 @@ impl<'s, 'a> Site<'s, 'a> {
 /// A table, and the namespace that is made of it.
 #[derive(Drop)]
 pub(crate) struct Space<'a> {
-    /// The number of the namespace, if the root mount is made: else that of the next one.
+    /// The number of the namespace, if the root mount is made: otherwise that of the next one.
     pub(crate) number: usize,
     /// The mounts of the table.
     pub(crate) tree: Tree<'a>,

@@ -19,7 +19,7 @@ pub(crate) struct Tree<'a> {
     pub(crate) table: usize,
     /// Its rows.
     pub(crate) rows: &'a [HostMount],
-    /// The mounts, each behind the one that it stands on.
+    /// The mounts, each after the one that it stands on.
     mounts: Vec<Mount<'a>>,
     /// Why rows have no mount: those of which this is None have one.
     pub(crate) left: Vec<Why>,
@@ -76,7 +76,7 @@ impl<'a> Tree<'a> {
         })
     }
 
-    /// The mounts, each behind the one that it stands on.
+    /// The mounts, each after the one that it stands on.
     pub(crate) fn mounts(&self) -> &[Mount<'a>]
         ensures mounts { result.now ≡ self.now.mounts }
         ensures kept { IsMakingOrder self.now.rows self.now.mounts self.now.left }
@@ -247,7 +247,7 @@ fn root_of(ids: &BTreeSet<u64>, rows: &[HostMount]) -> Option<usize> {
 }
 
 /// The rows that stand on others, by the numbers of these, and by how many names lead to where they stand. Those that stand on
-/// none wait to be left out, but for that of the root mount; and all do where there is none.
+/// none wait to be left out, except for that of the root mount; and all do where there is none.
 fn sorted(
     tree: &Tree<'_>,
     ids: &BTreeSet<u64>,

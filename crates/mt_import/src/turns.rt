@@ -1,4 +1,4 @@
-//! The mounts of a table, one after another: each is begun behind what it stands on, and comes to its place when all stands on it
+//! The mounts of a table, one after another: each is begun after what it stands on, and comes to its place when all stands on it
 //! that does.
 //!
 //! A hook isolates the place on a mount of a peer group, so that what is mounted there comes to no other. A mount on the staged

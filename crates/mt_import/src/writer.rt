@@ -43,7 +43,7 @@ impl<T: Drop> From<AllocFailed<T>> for Unmade {
 /// What a call answers that makes a part of a script.
 pub(crate) type Written = Result<(), Unmade>;
 
-/// Texts, one behind the other.
+/// Texts, one after the other.
 pub(crate) fn joined(alloc: Global, texts: &[&[u8]]) -> Text
     ensures { IfOk result (λ all. all.items ≡ flat_map (λ text. text.now) texts.now) }
 {
@@ -54,7 +54,7 @@ pub(crate) fn joined(alloc: Global, texts: &[&[u8]]) -> Text
     Ok(all)
 }
 
-/// A text, and one behind it.
+/// A text, and one after it.
 pub(crate) fn one_behind(alloc: Global, first: &[u8], second: &[u8]) -> Text
     ensures { IfOk result (λ all. all.items ≡ first.now ++ second.now) }
 {
@@ -71,7 +71,7 @@ pub(crate) fn digits_of(alloc: Global, number: u64) -> Text
     Vec::from_slice(alloc, buffer.format(number).as_bytes())
 }
 
-/// Appends words, each behind a space.
+/// Appends words, each preceded by a space.
 fn push_words(line: &mut Vec<u8>, words: &[&[u8]]) -> Done
     ensures { OnOk result (line.new.items ≡ line.old.items ++ flat_map (λ word. 32 ∷ word.now) words.now) }
 {
@@ -115,7 +115,7 @@ pub(crate) fn command(script: &mut Script, words: &[&[u8]]) -> Written
     push_command(script, line.as_slice())
 }
 
-/// The first bytes of a text, so many at most.
+/// The first bytes of a text, this many at most.
 fn first_bytes(text: &[u8], most: usize) -> &[u8]
     ensures { result.now ≡ take most text.now }
 {

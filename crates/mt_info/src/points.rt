@@ -260,7 +260,7 @@ fn add_steps(path: Names, skel: &Skel, way: &[Step]) -> Result<Names, AllocError
     Ok(names)
 }
 
-/// Appends the names of a point, if there is one, each behind a slash and with its escapes.
+/// Appends the names of a point, if there is one, each preceded by a slash and with its escapes.
 fn push_above(text: &mut Vec<u8>, above: Option<&Names>) -> Result<(), AllocError>
     ensures text { OnOk result (text.new.items ≡ text.old.items ++ flat_map (λ n. 47 ∷ escaped n) (unwrap_or (option_copied above.entry) [])) }
     ensures kept { IsFront text.old.items text.new.items }
@@ -272,7 +272,7 @@ fn push_above(text: &mut Vec<u8>, above: Option<&Names>) -> Result<(), AllocErro
     Ok(())
 }
 
-/// Appends the names of a step, each behind a slash and with its escapes.
+/// Appends the names of a step, each preceded by a slash and with its escapes.
 fn push_step(text: &mut Vec<u8>, skel: &Skel, step: Step) -> Result<(), AllocError>
     requires { IsTrue (is_step skel.now step) }
     ensures text { OnOk result (text.new.items ≡ text.old.items ++ flat_map (λ n. 47 ∷ escaped n) (step_names skel.now step)) }
@@ -295,8 +295,8 @@ fn push_steps(text: &mut Vec<u8>, skel: &Skel, way: &[Step]) -> Result<(), Alloc
     Ok(())
 }
 
-/// Makes the names of a path, each behind a slash, its text: where there is none, since the text is as long as it was
-/// when they began, a slash is appended.
+/// Makes the names of a path, each preceded by a slash, its text: where there is none, since the text is as long as it
+/// was when they began, a slash is appended.
 pub(crate) fn push_root(text: &mut Vec<u8>, start: usize) -> Result<(), AllocError>
     ensures text { OnOk result ((front : List ℕ) (names : List (List ℕ)) → length front ≡ start → text.old.items ≡ front ++ flat_map (λ n. 47 ∷ escaped n) names → text.new.items ≡ front ++ path_text names) }
     ensures kept { IsFront text.old.items text.new.items }

@@ -108,7 +108,7 @@ fn read_options(word: &[u8]) -> Result<Attrs, Fault>
     })
 }
 
-/// Takes the next word if it begins with a name, and answers the group behind it.
+/// Takes the next word if it begins with a name, and answers the group after it.
 fn take_tag(words: &mut Words<'_>, name: &[u8]) -> Result<Option<GroupId>, Fault>
     ensures tag { IfOk result (λ group. words.old ≡ tag name.now group ++ words.new) }
     ensures small { IfOk result (λ group. ForSome group (λ g. g < 2 ^ 64)) }
@@ -126,7 +126,7 @@ fn take_tag(words: &mut Words<'_>, name: &[u8]) -> Result<Option<GroupId>, Fault
     Ok(Some(group))
 }
 
-/// What stands behind the mount's own fields: the optional fields, and the filesystem.
+/// What stands after the mount's own fields: the optional fields, and the filesystem.
 #[derive(Drop)]
 struct Tail {
     shared: Option<GroupId>,

@@ -77,8 +77,8 @@ fn push_moved(
 }
 
 /// The mounts whose rows may differ between two worlds, by rising ID, where `touched` has those that changed, in any
-/// order: these, and all that are below one of them that moved. No other mount is looked at, but for those on the way
-/// up from one that moved.
+/// order: these, and all that are below one of them that moved. No other mount is looked at, except for those on the
+/// way up from one that moved.
 pub fn rows_touched(
     before: &World,
     after: &World,

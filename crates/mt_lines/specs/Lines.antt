@@ -2,13 +2,13 @@
 -- A word with no source is this project's rule.
 use Rattle.std.specs.Prelude.{◌≢◌, ℕ, ◌+◌, nat_le, ◌==◌, if◌then◌else◌, List, [], ◌∷◌, length}
 
--- what a reader with a limit makes of the bytes up to a line end, or behind the last one
+-- what a reader with a limit makes of the bytes up to a line end, or after the last one
 pub data Item : Type 0 where
   -- a line of at most the limit: its bytes, without the line end
   Text : List ℕ → Item
   -- a line over the limit
   TooLong : Item
-  -- bytes behind the last line end, at most the limit
+  -- bytes after the last line end, at most the limit
   Unended : Item
   -- a line so far over the limit that the reading ends there
   Endless : Item
@@ -36,7 +36,7 @@ between_line_ends (b ∷ bs) = if b == line_end then [] ∷ between_line_ends bs
 abbrev pub by_length : ℕ → ℕ → Item → Item
 by_length limit n short = if nat_le n limit then short else (if nat_le n (limit + slack) then TooLong else Endless)
 
--- what the bytes behind the last line end are: nothing if there are none, and by this project's
+-- what the bytes after the last line end are: nothing if there are none, and by this project's
 -- rule TooLong, not Unended, over the limit
 abbrev pub last_items : ℕ → List ℕ → List Item
 last_items limit [] = []

@@ -33,7 +33,7 @@ limit_of r = r.limit
 abbrev pub fault_of : {R : Type 0} {g : Ghosts R} → LineReader R g → Option ReadFault
 fault_of r = r.fault
 
--- the bytes of the last line, if it was a text, and else none
+-- the bytes of the last line, if it was a text, and otherwise none
 abbrev pub last_line : {R : Type 0} {g : Ghosts R} → LineReader R g → List ℕ
 last_line r = if is_some r.fault then [] else r.line.items
 
@@ -88,7 +88,7 @@ abbrev pub IsReadCause : Result Line ReadFault → ℕ → ℕ → Type 0
 IsReadCause (Ok l) old new = old ≤ new
 IsReadCause (Err e) old new = IsFaultCause e old new
 
--- what the last calls of the input were where a call answered this fault, and had begun behind a call
+-- what the last calls of the input were where a call answered this fault, and had begun after a call
 -- that succeeded: one failure for Device, and as many interruptions as end a read for Interrupted
 abbrev pub IsFaultRun : ReadFault → List StreamFault → Type 0
 IsFaultRun fault.Device faults = HasFailed faults

@@ -25,7 +25,7 @@ pub enum Line {
     Text,
     /// A line of more bytes than the limit. It was skipped, with its line end if it had one.
     TooLong,
-    /// Bytes behind the last line end, at most the limit. The input is at its end.
+    /// Bytes after the last line end, at most the limit. The input is at its end.
     Unended,
     /// There is no next line: the input is at its end.
     End,
@@ -136,7 +136,7 @@ impl Chunk {
     }
 }
 
-/// Reads an input line by line. A line has at most so many bytes, its line end (byte 10) not
+/// Reads an input line by line. A line has at most this many bytes, its line end (byte 10) not
 /// counted.
 #[derive(Drop)]
 pub struct LineReader<R: Input + Drop> {
@@ -190,7 +190,7 @@ impl<R: Input + Drop> LineReader<R> {
     }
 
     /// Lends the bytes of the last line, without its line end, if `next` answered `Line::Text`
-    /// last, and else no bytes.
+    /// last, and otherwise no bytes.
     pub fn line(&self) -> &[u8]
         ensures { result.now ≡ last_line self.now }
     {
@@ -351,7 +351,7 @@ impl<R: Input + Drop> LineReader<R> {
         }
     }
 
-    /// What a whole line of this length is, behind its line end.
+    /// What a whole line of this length is, after its line end.
     fn judge(&mut self, seen: usize) -> Result<Line, ReadFault>
         ensures short { seen ≤ self.old.limit → (result ≡ Ok Line.Text)
             × (self.new.line.items ≡ self.old.line.items) }
@@ -373,7 +373,7 @@ impl<R: Input + Drop> LineReader<R> {
         }
     }
 
-    /// What so many bytes behind the last line end are.
+    /// What this many bytes after the last line end are.
     fn finish(&mut self, seen: usize) -> Line
         ensures end { seen ≡ 0 → result ≡ Line.End }
         ensures short { 0 < seen → seen ≤ self.old.limit → result ≡ Line.Unended }

@@ -5,7 +5,7 @@ ghost use Rattle.std.specs.Prelude.{◌≡◌, ◌+◌, ◌<◌, ◌≤◌, ◌+
 use crate::stream::{Input, Output, StreamFault};
 use std::alloc::{AllocError, Global};
 
-/// Bytes in memory, read at most so many a call.
+/// Bytes in memory, read at most this many a call.
 ///
 /// As an `Input` its bytes are known, and it counts its failed calls, of which there are none.
 #[derive(Drop)]
@@ -77,7 +77,7 @@ impl Input for Portions<'_> {
     }
 }
 
-/// Bytes in memory, read at most so many a call, with some calls in succession that fail.
+/// Bytes in memory, read at most this many a call, with some calls in succession that fail.
 ///
 /// As an `Input` its bytes are known, and it counts its failed calls.
 #[derive(Drop)]
@@ -229,10 +229,10 @@ impl Output for Faltering {
     }
 }
 
-/// Keeps what is written to it, at most so many bytes a call, until it is full.
+/// Keeps what is written to it, at most this many bytes a call, until it is full.
 ///
-/// As an `Output` its bytes are known, and it does not count its failed calls: a full sink fails for
-/// ever, which no number of the machine counts.
+/// As an `Output` its bytes are known, and it does not count its failed calls: a full sink fails
+/// forever, which no number of the machine counts.
 #[derive(Drop)]
 pub struct Sink {
     kept: Vec<u8>,

@@ -127,7 +127,7 @@ pub fn send<W: Output>(writer: &mut W, bytes: &[u8]) -> Result<(), Cut>
     ensures appended_part { IfErr result (λ cut. Appends (W.contents writer.old) (W.contents writer.new) (take cut.sent bytes.now)) }
 
     // A cut comes only where a call failed: where the last call did, with fewer interruptions in
-    // succession before it than end a send, or where so many calls were interrupted in succession.
+    // succession before it than end a send, or where this many calls were interrupted in succession.
     ensures cause { OnErr result (IsTrue W.counts → W.failed writer.old < W.failed writer.new) }
     ensures counted { IsTrue W.counts → W.failed writer.old ≤ W.failed writer.new }
     ensures faults { OnErr result (IsTrue W.counts → W.faults writer.old ≡ []

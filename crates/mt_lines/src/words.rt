@@ -8,7 +8,7 @@ use std::marker::Model;
 /// The pieces of a text that are left, between single separators.
 ///
 /// There is one piece more than separators: the empty text is one piece, and so is what stands
-/// before a separator at the front, between two separators, or behind one at the end.
+/// before a separator at the front, between two separators, or after one at the end.
 #[derive(Drop)]
 pub struct Pieces<'a> {
     separator: u8,

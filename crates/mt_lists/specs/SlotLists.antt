@@ -14,7 +14,7 @@ pub record SlotListsView : Type 0 where
 abbrev pub id_in : List (Option ℕ) → ℕ → Option ℕ
 id_in slots k = slice_index_or slots k None
 
--- at least so many slots; those that are new have no ID
+-- at least this many slots; those that are new have no ID
 abbrev pub lengthened : ℕ → List (Option ℕ) → List (Option ℕ)
 lengthened width slots = slots ++ replicate (width - length slots) None
 

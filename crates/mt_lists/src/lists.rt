@@ -14,11 +14,11 @@ use std::marker::Model;
 
 /// IDs that have a number each. The IDs of one number form a list, by rising ID.
 ///
-/// A look-up takes the time of a look-up in a hash table, and a change that of a few: one for the ID, one for the list of
-/// its number and one for each neighbour there. An ID that comes among IDs of its number takes more: a new ID above all
-/// others is put behind them at once, and the place of any other is sought upwards from the ID that came last into their
-/// list, if that is still there and below, and else from the end. So IDs that come by rising ID pass each of those that
-/// are there once.
+/// A look-up takes the time of a look-up in a hash table, and a change that of a few: one for the ID, one for the list
+/// of its number and one for each neighbour there. An ID that comes among IDs of its number takes more: a new ID above
+/// all others is put after them at once, and the place of any other is sought upwards from the ID that came last into
+/// their list, if that is still there and below, and otherwise from the end. So IDs that come by rising ID pass each of
+/// those that are there once.
 pub struct Lists {
     entries: IndexMap<usize, Entry>,
     tops: IndexMap<u64, Top>,
@@ -70,7 +70,7 @@ impl Lists {
         })
     }
 
-    /// Makes room for so many more rows, and changes none.
+    /// Makes room for this many more rows, and changes none.
     pub fn reserve(&mut self, additional: usize) -> Result<(), Fault>
         ensures room { OnOk result (additional ≤ self.new.room) }
         ensures memory { IsOkUnless result Fault.NoMemory }
@@ -179,8 +179,8 @@ impl Lists {
         }
     }
 
-    /// Gives this ID this number, or none, whether it is there or not. Room for one row is needed also
-    /// where the ID is there.
+    /// Gives this ID this number, or none, whether it is there or not. Room for one row is needed even where the ID is
+    /// there.
     pub fn set(&mut self, id: u64, number: Option<u64>)
         requires room { 0 < self.old.room }
         ensures rows { self.new.rows ≡ with_number id number self.old.rows }

@@ -31,7 +31,7 @@ impl Log {
         }
     }
 
-    /// Makes room for so many more IDs, and changes none.
+    /// Makes room for this many more IDs, and changes none.
     pub fn reserve(&mut self, additional: usize) -> Result<(), Fault>
         ensures room { OnOk result (additional ≤ self.new.room) }
         ensures memory { IsOkUnless result Fault.NoMemory }

@@ -71,7 +71,7 @@ impl SlotLists {
         })
     }
 
-    /// Makes at least so many slots, the new ones free, and room for so many more IDs, and changes no row.
+    /// Makes at least this many slots, the new ones free, and room for this many more IDs, and changes no row.
     pub fn reserve(&mut self, width: usize, additional: usize) -> Result<(), Fault>
         ensures slots { OnOk result (self.new.slots ≡ lengthened width self.old.slots) }
         ensures room { OnOk result (additional ≤ self.new.room) }

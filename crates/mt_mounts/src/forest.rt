@@ -130,7 +130,7 @@ impl Forest {
         self.log.ids()
     }
 
-    /// Makes room for so many changes, each of one mount that comes, goes or is changed, and changes none.
+    /// Makes room for this many changes, each of one mount that comes, goes or is changed, and changes none.
     pub fn reserve(&mut self, additional: usize) -> Result<(), Fault>
         ensures room { OnOk result (additional ≤ self.new.room) }
         ensures memory { IsOkUnless result Fault.NoMemory }
@@ -303,7 +303,7 @@ impl Forest {
     }
 
     /// The place that is known to be farthest along the stack from a place, where this mount stands, and how many
-    /// steps lead there: so many at most.
+    /// steps lead there: this many at most.
     fn along(&self, place: Place, mount: Mount, most: usize) -> Reach
         requires some { 0 < most }
         requires stands { on self.now.mounts place ≡ Some mount }

@@ -119,7 +119,7 @@ impl Indexes {
         })
     }
 
-    /// Makes room for so many more mounts.
+    /// Makes room for this many more mounts.
     pub(crate) fn reserve(&mut self, additional: usize) -> Result<(), Fault>
         ensures room { OnOk result (additional ≤ room_of self.new) }
         ensures memory { IsOkUnless result Fault.NoMemory }

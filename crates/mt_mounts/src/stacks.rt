@@ -138,7 +138,7 @@ impl Stacks {
         })
     }
 
-    /// Makes room for so many more mounts.
+    /// Makes room for this many more mounts.
     pub(crate) fn reserve(&mut self, additional: usize) -> Result<(), Fault>
         ensures room { OnOk result (additional ≤ stack_room self.new) }
         ensures memory { IsOkUnless result Fault.NoMemory }
@@ -245,7 +245,7 @@ impl Stacks {
     }
 
     /// The place that is known to be farthest along the stack from a place, where a mount with this root stands,
-    /// and how many steps lead there: so many at most.
+    /// and how many steps lead there: this many at most.
     pub(crate) fn along(&self, place: Place, root: Place, most: usize) -> Reach
         requires some { 0 < most }
         ensures steps { (0 < result.steps) × (result.steps ≤ most) }

@@ -10,8 +10,8 @@ use crate::mount::MountId;
 use mt_skel::fault::Fault;
 
 impl Forest {
-    /// Adds the IDs of the mounts that stand on a mount, but for the one where the gathering began:
-    /// where parents form a cycle, that stands on one of those below it.
+    /// Adds the IDs of the mounts that stand on a mount, except for the one where the gathering
+    /// began: where parents form a cycle, that stands on one of those below it.
     fn gather_children(
         &self,
         id: MountId,
@@ -51,7 +51,7 @@ impl Forest {
     }
 
     /// The IDs of [`subtree`](Forest::subtree), in any order. An ID that is not there stays out,
-    /// also where mounts stand on it.
+    /// even where mounts stand on it.
     fn members(&self, id: MountId) -> Result<Vec<MountId>, Fault>
         ensures members { IfOk result (λ ids. (q : ℕ) → occ q ids.items ≡ occ q (subtree self.now.mounts id)) }
         ensures rising { OnOk result (IsTrue (rises id_of self.now.mounts)) }

@@ -73,7 +73,7 @@ fn same_place(left: Option<Place>, right: Option<Place>) -> bool
     }
 }
 
-/// Whether one mount is the other, but for its attributes.
+/// Whether one mount is the other, except for its attributes.
 fn stands_as(old: Mount, new: Mount) -> bool
     ensures { result ≡ true → given_attrs new.attrs old ≡ new }
 {
@@ -107,7 +107,7 @@ fn seat(lists: &mut SlotLists, slot: usize, id: MountId, number: Option<u64>)
     }
 }
 
-/// The same lists, with at least so many slots.
+/// The same lists, with at least this many slots.
 fn copy_of(lists: &SlotLists, width: usize) -> Result<SlotLists, Fault>
     ensures rows { IfOk result (λ copy. copy.rows ≡ lists.now.rows) }
     ensures slots { IfOk result (λ copy. copy.slots ≡ lengthened width lists.now.slots) }
@@ -118,9 +118,9 @@ fn copy_of(lists: &SlotLists, width: usize) -> Result<SlotLists, Fault>
     Ok(copy)
 }
 
-/// The same slots, with room for so many more mounts.
+/// The same slots, with room for this many more mounts.
 ///
-/// A table's slab grows in a copy: its lists have a slot for each key that it has room for, also where they cannot grow.
+/// A table's slab grows in a copy: its lists have a slot for each key that it has room for, even where they cannot grow.
 fn grown(slots: &Slab<Mount>, additional: usize) -> Result<Slab<Mount>, Fault>
     ensures slots { IfOk result (λ grown. grown.slots ≡ slots.now.slots) }
     ensures room { IfOk result (λ grown. HasRoomFor grown additional) }
@@ -160,7 +160,7 @@ impl Table {
         })
     }
 
-    /// Makes room for so many more mounts, and changes none.
+    /// Makes room for this many more mounts, and changes none.
     pub(crate) fn reserve(&mut self, additional: usize) -> Result<(), Fault>
         ensures room { OnOk result (additional ≤ self.new.room) }
         ensures memory { IsOkUnless result Fault.NoMemory }

@@ -10,7 +10,7 @@ use mt_skel::skel::Skel;
 
 impl Forest {
     /// The place that a path leads to in a namespace: after each name the topmost mount of the
-    /// stack that stands there. The walk begins at the root of the namespace's root mount, also
+    /// stack that stands there. The walk begins at the root of the namespace's root mount, even
     /// where a mount stands on that.
     ///
     /// Refused as `NoNamespace` where the namespace has no root mount, and as `NoEntry` where a

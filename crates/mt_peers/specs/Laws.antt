@@ -8,7 +8,7 @@ use Rattle.mt_peers.specs.Loss.{left}
 use Rattle.mt_peers.specs.Making.{made}
 use Rattle.mt_peers.specs.WellFormed.{IsPeering}
 
--- a set of groups that holds g and, with a group, all whose master it is, and else nothing that g does not come to, is the set
+-- a set of groups that holds g and, with a group, all whose master it is, and otherwise nothing that g does not come to, is the set
 -- of those that g comes to (`sharedsubtree`, mount states)
 abbrev pub ClosureIsReach : Type 0
 ClosureIsReach =

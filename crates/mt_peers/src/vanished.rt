@@ -20,7 +20,7 @@ use mt_lists::lists::Lists;
 /// A group on a chain of masters.
 #[derive(Clone, Copy)]
 pub(crate) struct Above {
-    /// The group, or `None` behind the end of the chain.
+    /// The group, or `None` after the end of the chain.
     pub(crate) up: Option<GroupId>,
     /// How many steps up it is.
     pub(crate) steps: usize,
@@ -89,7 +89,7 @@ fn known_above(
 }
 
 /// The first group that lives from a group upwards, or else where the search ends: above all that is known, or more than
-/// so many steps up.
+/// this many steps up.
 fn reached(
     members: &Lists,
     vanished: &IndexMap<GroupId, Above>,

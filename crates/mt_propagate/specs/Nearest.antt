@@ -29,7 +29,7 @@ abbrev pub IsStep : (ℕ → Bool) → List Peer → ℕ → Option Above → Ty
 IsStep stands es g None = stands g ≡ true
 IsStep stands es g (Some x) = IsFoundAbove stands es g x
 
--- a search up from a group ended there: where copies stand, behind the last group, or more steps up than there are mounts
+-- a search up from a group ended there: where copies stand, after the last group, or more steps up than there are mounts
 pub record IsNearest (stands : ℕ → Bool) (es : List Peer) (g : ℕ) (x : Above) : Type 0 where
   pub above : IsAbove stands (master_of es) (Some g) x.up x.steps
   pub ended : x.steps ≤ length es → IfSome x.up (λ u. stands u ≡ true)

@@ -15,7 +15,7 @@ use mt_skel::fault::Fault;
 /// A group on a chain of masters.
 #[derive(Clone, Copy)]
 pub(crate) struct Above {
-    /// The group, or `None` behind the end of the chain.
+    /// The group, or `None` after the end of the chain.
     pub(crate) up: Option<GroupId>,
     /// How many steps up it is.
     pub(crate) steps: usize,

@@ -38,8 +38,8 @@ fn standing_by_place(alloc: Global, mounts: &[Mount]) -> Result<IndexMap<Place, 
     Ok(standing)
 }
 
-/// The mount to which so many steps lead at most, each to the mount that stands at the root of the
-/// one before.
+/// The mount to which this many steps lead at most, each to the mount that stands at the root of
+/// the one before.
 fn last_within(standing: &IndexMap<Place, Mount>, steps: usize, first: Mount) -> Mount
     ensures { result ≡ follow (λ m. get place_eq standing.now (root_place m)) steps first }
 {

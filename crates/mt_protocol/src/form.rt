@@ -21,7 +21,7 @@ pub enum Form {
     Opening,
     /// `ok` and a count, and as many lines as it says, of posts.
     Posts,
-    /// Posts, and behind them `ok` and how many they are, or a refusal.
+    /// Posts, and after them `ok` and how many they are, or a refusal.
     Followed,
     /// None: what has no verb is refused.
     Never,

@@ -9,12 +9,12 @@ use Rattle.mt_queue.specs.PassViews.{Item, values}
 use Rattle.mt_queue.specs.declared.rule.PassView.{PassView}
 use Rattle.mt_queue.specs.declared.rule.TaggedOpening.{TaggedOpening}
 
--- the one pass that may push knows the opening, the capacity and what was sent, and that so many posts at least were taken
+-- the one pass that may push knows the opening, the capacity and what was sent, and that this many posts at least were taken
 abbrev pub KnowsSent : ℕ → TaggedOpening → ℕ → List PostView → List PostView → ℕ → PassView → Type 0
 KnowsSent writer o capacity sent taken pass v =
     (pass ≡ writer) × (v.opening ≡ o) × (v.capacity ≡ capacity) × (v.sent ≡ sent) × (v.met ≤ length taken)
 
--- the one pass that may pop knows the opening and what was taken, and that so many posts at least were sent
+-- the one pass that may pop knows the opening and what was taken, and that this many posts at least were sent
 abbrev pub KnowsTaken : ℕ → TaggedOpening → List PostView → List PostView → ℕ → PassView → Type 0
 KnowsTaken reader o sent taken pass v = (pass ≡ reader) × (v.heard ≡ o) × (v.taken ≡ taken) × (v.told ≤ length sent)
 

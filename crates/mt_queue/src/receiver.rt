@@ -44,7 +44,7 @@ impl Receiver {
     ///
     /// `None` comes not before as many posts were taken as the last meeting said were sent, and nothing has changed then;
     /// what the line holds at a moment no clause says. Takes no memory. It may wait for a step of the sender, and after
-    /// 2^64 - 1 posts it waits for ever.
+    /// 2^64 - 1 posts it waits forever.
     pub fn pop<R: Wait>(&mut self, rt: &R) -> Option<Item>
         ensures some { IfSome result (λ x. self.new ≡ record self.old { taken = self.old.taken ++ arc_value x ∷ [] }) }
         ensures none { IfNone result ((self.new ≡ self.old) × (self.old.told ≤ length self.old.taken)) }

@@ -14,7 +14,7 @@
 //! | push refused as full | `Push` | Nothing changes. More was sent than the last meeting said was taken, by the capacity at least. |
 //! | pop | `Pop`, `PopLeft` | What was taken grows by the front, and is still a run from the opening. |
 //! | pop of none | `Pop` | Nothing changes. As much was taken at least as the last meeting said was sent. |
-//! | pop of none behind a join | `PopLeft` | Nothing changes. All that was sent is taken. |
+//! | pop of none after a join | `PopLeft` | Nothing changes. All that was sent is taken. |
 //! | join | `Together` | One pass may push and pop, and knows both lists: what was sent is what was taken and then what the queue holds. |
 //!
 //! Two helpers change no list: `HandOver` moves what a pass knows to a new pass, since a join uses the other pass up,

@@ -42,7 +42,7 @@ impl Sender {
     ///
     /// `Full` gives the post back, and nothing was sent. It comes only once so many more posts were sent than the last
     /// meeting said were taken as the line may hold; what the line holds at a moment no clause says. Takes no memory. It
-    /// may wait for a step of the receiver, and after 2^64 - 1 posts it waits for ever.
+    /// may wait for a step of the receiver, and after 2^64 - 1 posts it waits forever.
     pub fn push<R: Wait>(&mut self, rt: &R, post: Item) -> Result<(), Full>
         requires { IsRun self.old.opening (self.old.sent ++ arc_value post ∷ []) }
         ensures ok { OnOk result (self.new ≡ record self.old { sent = self.old.sent ++ arc_value post ∷ [] }) }

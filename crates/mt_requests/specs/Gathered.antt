@@ -6,7 +6,7 @@ use Rattle.mt_setattr.specs.declared.change.SetWords.{SetWords}
 use Rattle.mt_setattr.specs.declared.change.ClrWords.{ClrWords}
 use Rattle.mt_requests.specs.Options.{has_key, are_options, said, is_recursive}
 
--- the options that were there, with what each says behind its key
+-- the options that were there, with what each says after its key
 pub record Gathered : Type 0 where
   pub recursive : Bool
   pub set : Option (List ℕ)
@@ -17,7 +17,7 @@ pub record Gathered : Type 0 where
 abbrev pub nothing_gathered : Gathered
 nothing_gathered = record { recursive = false; set = None; clr = None; prop = None }
 
--- with one more word, of which what stands behind its key is kept; none where it is no option, or its key was there
+-- with one more word, of which what stands after its key is kept; none where it is no option, or its key was there
 abbrev pub gathered_with : Gathered → List ℕ → Option Gathered
 gathered_with g word =
     if bytes_eq word (codes "rec") then (if g.recursive then None else Some (record g { recursive = true }))

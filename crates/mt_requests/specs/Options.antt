@@ -19,7 +19,7 @@ option_keys = codes "rec" ∷ codes "set=" ∷ codes "clr=" ∷ codes "prop=" �
 abbrev pub has_key : List ℕ → List ℕ → Bool
 has_key key option = starts_with nat_eq option key
 
--- `rec`, or a key with what stands behind it
+-- `rec`, or a key with what stands after it
 abbrev pub is_option : List ℕ → Bool
 is_option option =
     bytes_eq option (codes "rec") || has_key (codes "set=") option || has_key (codes "clr=") option || has_key (codes "prop=") option
@@ -96,7 +96,7 @@ kind_of word =
     else (if bytes_eq word (codes "slave") then Some Slave
     else (if bytes_eq word (codes "unbindable") then Some Unbindable else None)))
 
--- what is read behind the key of an option, or what stands where no option has the key
+-- what is read after the key of an option, or what stands where no option has the key
 abbrev pub said : {A : Type 0} → List ℕ → A → (List ℕ → A) → List (List ℕ) → A
 said key absent read options = option_map_or (λ option. read (drop (length key) option)) (find (has_key key) options) absent
 

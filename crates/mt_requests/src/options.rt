@@ -9,7 +9,7 @@ use mt_peers::state::Kind;
 use mt_setattr::change::{Change, ClrWords, SetWords};
 use std::marker::Model;
 
-/// The options that were there, with what each says behind its key.
+/// The options that were there, with what each says after its key.
 #[derive(Drop)]
 struct Options<'a> {
     /// Whether `rec` was there.

@@ -82,7 +82,7 @@ fn change_attrs(forest: &mut Forest, ids: &[MountId], change: &Change)
     }
 }
 
-/// Makes room for a change of so many mounts, and changes nothing: new attributes need it for each of them, and a new
+/// Makes room for a change of this many mounts, and changes nothing: new attributes need it for each of them, and a new
 /// propagation for as many mounts as there are.
 fn reserve_change(world: &mut World, count: usize, change: &Change) -> Result<(), Fault>
     ensures attrs { OnOk result (count ≤ world.new.forest.room) }

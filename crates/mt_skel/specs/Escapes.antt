@@ -19,7 +19,7 @@ is_backslash b = b == 92
 abbrev pub escaped : List ℕ → List ℕ
 escaped bytes = flat_map escaped_byte bytes
 
--- the byte that three digits behind a backslash stand for
+-- the byte that three digits after a backslash stand for
 abbrev pub byte_of_digits : ℕ → ℕ → ℕ → Option ℕ
 byte_of_digits a b c =
     if a == 48 && b == 52 && c == 48 then Some 32

@@ -55,7 +55,8 @@ impl Children {
         })
     }
 
-    /// The directory of this name in a directory; none also where the directory is not there.
+    /// The directory of this name in a directory; `None` if there is none, or if that directory is
+    /// not there.
     pub(crate) fn child(&self, dir: Dir, name: &Name) -> Option<Dir>
         ensures { result ≡ child_in self.now dir name.now }
     {

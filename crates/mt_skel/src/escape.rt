@@ -116,7 +116,7 @@ pub fn unescaped_len(text: &[u8]) -> Option<usize>
     Some(length)
 }
 
-/// The byte that three digits behind a backslash stand for.
+/// The byte that three digits after a backslash stand for.
 fn byte_of_digits(a: u8, b: u8, c: u8) -> Option<u8>
     ensures { result ≡ byte_of_digits a b c }
 {
@@ -129,7 +129,7 @@ fn byte_of_digits(a: u8, b: u8, c: u8) -> Option<u8>
     }
 }
 
-/// The first byte that a text stands for, and the text behind it; None at the end, and where a
+/// The first byte that a text stands for, and the text after it; None at the end, and where a
 /// backslash begins no escape.
 #[tactic(auto, using(crate::proofs::EscapeLaws::first_plain, crate::proofs::EscapeLaws::first_short))]
 fn first_byte(text: &[u8]) -> Option<(u8, &[u8])>

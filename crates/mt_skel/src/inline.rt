@@ -1,4 +1,4 @@
-//! Bytes that lie in the value itself where they are few.
+//! Bytes that lie in the value itself if they are few.
 ghost use Rattle.std.specs.Prelude.{◌≡◌, IfOk};
 ghost use Rattle.mt_skel.specs.Kept.{bytes_of};
 
@@ -26,7 +26,7 @@ impl Drop for Bytes {
 }
 
 impl Bytes {
-    /// These bytes. Where they are few, their memory is let go.
+    /// These bytes. If they are few, their memory is freed.
     pub(crate) fn new(bytes: Vec<u8>) -> Bytes
         ensures { bytes_of result ≡ bytes.items }
     {

@@ -12,7 +12,7 @@ use std::alloc::{AllocError, Global};
 use std::marker::Model;
 
 /// The components of a path from a root directory down; the root itself has none. They lie in one piece of memory, each
-/// behind a slash, which no name has.
+/// preceded by a slash, which no name has.
 pub struct Names {
     text: Vec<u8>,
 }
@@ -68,7 +68,7 @@ impl Names {
         Ok(Names { text })
     }
 
-    /// The names, each behind a slash.
+    /// The names, each preceded by a slash.
     pub fn text(&self) -> &[u8]
         ensures text { result.now ≡ names_text self.now }
         ensures valid { IsTrue (list_all is_name self.now) }

@@ -211,7 +211,8 @@ impl Skel {
         self.nodes[dir as usize].fs
     }
 
-    /// The directory of this name in a directory; None also where the directory is not there.
+    /// The directory of this name in a directory; `None` if there is none, or if that directory is
+    /// not there.
     #[tactic(auto, using(crate::proofs::IndexLaws::child_is))]
     pub fn child(&self, dir: Dir, name: &Name) -> Option<Dir>
         ensures child { result ≡ child self.now dir name.now }
@@ -220,7 +221,7 @@ impl Skel {
         self.children.child(dir, name)
     }
 
-    /// Whether the outer directory is the inner one, or above it; false where the inner one is not
+    /// Whether the outer directory is the inner one, or above it; false if the inner one is not
     /// there.
     pub fn holds(&self, outer: Dir, inner: Dir) -> bool
         ensures { result ≡ holds self.now outer inner }
@@ -268,7 +269,7 @@ impl Skel {
         depth
     }
 
-    /// Appends the last so many of the names from the root of its filesystem down to a directory, each after a slash
+    /// Appends the last `count` of the names from the root of its filesystem down to a directory, each after a slash
     /// and with its escapes; all of them if there are no more.
     pub fn push_path(&self, text: &mut Vec<u8>, dir: Dir, count: usize) -> Result<(), AllocError>
         requires { IsTrue (is_directory self.now dir) }
@@ -287,8 +288,8 @@ impl Skel {
         Ok(())
     }
 
-    /// A path with the last so many of the names from the root of its filesystem down to a directory at its end; all of
-    /// them where there are no more.
+    /// A path with the last `count` of the names from the root of its filesystem down to a directory at its end; all of
+    /// them if there are no more.
     pub fn add_path(&self, path: Names, dir: Dir, count: usize) -> Result<Names, AllocError>
         requires { IsTrue (is_directory self.now dir) }
         ensures { IfOk result (λ names. names ≡ path ++ drop (length (directory self.now dir).path - count) (directory self.now dir).path) }

@@ -74,7 +74,7 @@ fn candidate_under(world: &World, candidates: &Gone, id: MountId) -> Option<Moun
     }
 }
 
-/// Adds a mount behind the others, if there is one and it is none of them.
+/// Adds a mount after the others, if there is one and it is none of them.
 fn add(set: &mut IndexSet<MountId>, id: Option<MountId>) -> Result<(), Fault>
     ensures keys { OnOk result (set.new.keys ≡ option_map_or (insert_key nat_eq set.old.keys) id set.old.keys) }
     ensures memory { IsOkUnless result Fault.NoMemory }
