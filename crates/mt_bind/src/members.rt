@@ -25,7 +25,7 @@ impl Drop for Judgements {
     }
 }
 
-/// Whether a mount stands at a directory or below it. True where there is no mount to ask for.
+/// Whether a mount stands at a directory or below it. True if there is no mount to ask about.
 fn leads_within(world: &World, dir: Dir, mount: Option<MountId>) -> bool
     ensures { result ≡ leads_within (world_view world.now) dir mount }
 {
@@ -43,7 +43,7 @@ fn leads_within(world: &World, dir: Dir, mount: Option<MountId>) -> bool
 
 /// Whether a recursive bind of a directory copies a mount: it is the directory's own mount, or it
 /// stands on that one at whatever height, within the directory, and neither it nor a mount between
-/// the two is unbindable. The way up ends at a mount of which this was found before.
+/// the two is unbindable. The way up ends at a mount for which this was found before.
 fn is_bound_along(world: &World, from: Place, judged: &IndexMap<MountId, bool>, id: MountId) -> bool
     requires well_formed { IsWellFormed (world_view world.now) }
     requires judged { IsJudged (world_view world.now) from judged.now }
@@ -70,8 +70,8 @@ fn is_bound_along(world: &World, from: Place, judged: &IndexMap<MountId, bool>, 
     here == from.mount && leads_within(world, from.dir, passed)
 }
 
-/// Keeps what was found of a mount for it and for those that were passed on its way up: none of them is unbindable but the
-/// last, so that it is true of them all.
+/// Keeps what was found of a mount, for it and for those that were passed on its way up: only the last of them can be
+/// unbindable, so that it is true of them all.
 fn keep_passed(
     world: &World,
     from: Place,

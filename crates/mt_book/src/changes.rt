@@ -101,8 +101,8 @@ fn changes_in_each(
     })
 }
 
-/// What changes in namespaces that had these numbers. Where there is one, as for most commands, the mounts are not told
-/// apart.
+/// What changes in namespaces that had these numbers. If there is only one, as for most commands, the mounts are not
+/// told apart.
 fn changes_in(
     alloc: Global,
     between: &Between<'_>,
@@ -122,7 +122,7 @@ fn changes_in(
     changes_in_each(alloc, between, ids, numbers)
 }
 
-/// Renews the numbers where all these mounts are in no other namespace than this one, before or after, and answers the
+/// Renews the numbers if all these mounts are in no other namespace than this one, before or after, and answers the
 /// posts: no other number changes.
 fn renew_lone(
     alloc: Global,
@@ -174,8 +174,8 @@ fn renew_touched(
     Ok(changes.posts)
 }
 
-/// Renews the numbers between two worlds with the same directories, where `touched` has each mount that changed, and
-/// answers the posts. Most commands touch one namespace and move no mount: then no other row may differ, and none is
+/// Renews the numbers between two worlds with the same directories, given in `touched` each mount that changed, and
+/// answers the posts. Most commands touch one namespace and move no mount: then no other row can differ, and none is
 /// listed.
 fn renew(
     alloc: Global,
@@ -228,7 +228,7 @@ fn renew_after(
 }
 
 /// What a command that is accepted changes for namespaces that had these numbers: those that are there. One that it
-/// makes had number 0, and one that it drops has none any more; only then is it asked which are there. `touched` has
+/// makes had number 0, and one that it drops no longer has one; only then is it checked which are there. `touched` has
 /// each mount that it changed, by rising ID.
 pub(crate) fn changes_after(
     alloc: Global,

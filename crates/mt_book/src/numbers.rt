@@ -65,7 +65,7 @@ fn push_number(
     Ok(())
 }
 
-/// The numbers of these namespaces, of those that have one.
+/// The numbers of those of these namespaces that have one.
 pub(crate) fn numbers_in(
     alloc: Global,
     numbers: &[(SpaceId, u64)],
@@ -83,7 +83,7 @@ pub(crate) fn numbers_in(
     Ok(some)
 }
 
-/// Puts the new number of a namespace in the place of its number, if it has one.
+/// Replaces the number of a namespace by its new one, if it has one.
 pub(crate) fn put_number(all: &mut Vec<(SpaceId, u64)>, row: (SpaceId, u64))
     requires rising { IsTrue (rises space_in all.old.items) }
     ensures rising { IsTrue (rises space_in all.new.items) }
@@ -95,7 +95,7 @@ pub(crate) fn put_number(all: &mut Vec<(SpaceId, u64)>, row: (SpaceId, u64))
     all[at] = row;
 }
 
-/// Puts new numbers of namespaces in the places of their numbers. One that had none has none.
+/// Replaces the numbers of namespaces by new ones. One that had none gets none.
 pub(crate) fn put_numbers(all: &mut Vec<(SpaceId, u64)>, changed: &[(SpaceId, u64)])
     requires rising { IsTrue (rises space_in all.old.items) }
     requires changed { IsTrue (rises space_in changed.now) }

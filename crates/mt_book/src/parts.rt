@@ -55,7 +55,7 @@ impl Part {
     }
 }
 
-/// Where a namespace stands among some by rising number, if it does.
+/// Where a namespace stands among some by rising number, if it is there.
 pub(crate) fn place_among(numbers: &[(SpaceId, u64)], space: SpaceId) -> Option<usize>
     requires rising { IsTrue (rises space_in numbers.now) }
     ensures within { IfSome result (λ at. at < length numbers.now) }
@@ -89,7 +89,7 @@ fn push_to(
     Ok(())
 }
 
-/// Appends a mount to the part of the namespace that it is in, and to those of both where it is in another one in the
+/// Appends a mount to the part of the namespace that it is in, and to the parts of both if it is in another one in the
 /// second world.
 fn push_mount(
     parts: &mut Vec<Part>,
@@ -113,7 +113,7 @@ fn push_mount(
     push_to(parts, numbers, after, id)
 }
 
-/// So many parts without mounts.
+/// This many parts without mounts.
 fn empty_parts(alloc: Global, count: usize) -> Result<Vec<Part>, Fault>
     ensures len { IfOk result (λ parts. length parts.items ≡ count) }
     ensures parts { IfOk result (λ parts. (k : ℕ) → part_at parts.items k ≡ []) }

@@ -1,4 +1,4 @@
-//! The text of a post. Where memory is wanting, what stood in the text stays in front.
+//! The text of a post. If there is not enough memory, what stood in the text stays in it.
 ghost use Rattle.std.specs.Prelude.{◌≡◌, ◌+◌, ◌++◌, IfOk, OnOk, IsOkUnless};
 ghost use Rattle.std.specs.List.{flat_map, join_with_byte};
 ghost use Rattle.mt_skel.specs.Front.{IsFront};

@@ -116,7 +116,7 @@ impl PrintedPosts {
     }
 }
 
-/// Appends the text of a post, or nothing where memory is wanting.
+/// Appends the text of a post, or nothing if there is not enough memory.
 fn push_whole(text: &mut Vec<u8>, post: &Post) -> Result<(), AllocError>
     ensures text { OnOk result (text.new.items ≡ text.old.items ++ post_text post.now) }
     ensures unchanged { OnErr result (text.new.items ≡ text.old.items) }
@@ -145,8 +145,7 @@ fn push_part(lines: &mut Vec<u8>, part: &Part) -> Result<(), AllocError>
     Ok(())
 }
 
-/// Appends the line in front of a table: `ok`, the count of its rows and how often it has changed. Fails for want of
-/// memory alone, and what stood there stays in front then too.
+/// Appends the line before a table: `ok`, the count of its rows and how often it has changed.
 pub fn push_heading(lines: &mut Vec<u8>, count: u64, number: u64) -> Result<(), AllocError>
     ensures text { OnOk result (lines.new.items ≡ lines.old.items ++ (codes "ok " ++ decimal count ++ codes " " ++ decimal number ++ 10 ∷ [])) }
     ensures kept { IsFront lines.old.items lines.new.items }

@@ -31,7 +31,7 @@ pub(crate) fn is_in(world: &World, space: SpaceId, id: MountId) -> bool
     }
 }
 
-/// The row of a mount in the table of a namespace, or `None` exactly where it is not in there.
+/// The row of a mount in the table of a namespace, or `None` exactly if it is not in that table.
 fn row_in(seen: &mut Findings<'_>, space: SpaceId, id: MountId) -> Result<Option<Row>, Fault>
     requires well_formed { IsWellFormed (world_view seen.old) }
     ensures row { IfOk result (λ row. row ≡ row_at row_id id (table_of (world_view seen.old) space)) }
@@ -76,7 +76,7 @@ pub(crate) fn new_row(
     Ok(Some(row))
 }
 
-/// Those of the mounts touched that are in the namespace before and not after.
+/// Those of the touched mounts that are in the namespace before but not after.
 fn gone(
     before: &World,
     after: &World,
@@ -119,7 +119,7 @@ fn push_new(
     Ok(())
 }
 
-/// The rows after of the mounts touched that are new or not as they were.
+/// The rows, after the change, of the touched mounts that are new or not as they were.
 fn new_rows(
     before: &World,
     after: &World,
@@ -163,9 +163,10 @@ fn delta_of(
     })
 }
 
-/// What changed in the table of a namespace from one world to another, or `None` exactly where it is the same table.
-/// `touched` has, by rising ID, every mount whose row changed, and may have more; no other mount is looked at. A namespace
-/// that is not there counts as the empty table. Where something changed, it can be told by a post (`Post::telling`).
+/// What changed in the table of a namespace from one world to another, or `None` exactly if the table is the same.
+/// `touched` has, by rising ID, every mount whose row changed, and may have more; no other mount is looked at. A
+/// namespace that is not there counts as the empty table. If something changed, it can be told by a post
+/// (`Post::telling`).
 pub fn change_of(
     before: &World,
     after: &World,

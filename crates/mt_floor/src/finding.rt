@@ -15,7 +15,7 @@ use std::alloc::Global;
 /// The most watchers at once.
 pub const MOST_WATCHERS: usize = 64;
 
-/// Whether the one namespace of a scope is not there. Where the scope names all namespaces, it is not missing.
+/// Whether the one namespace of a scope is not there. If the scope names all namespaces, none is missing.
 fn is_missing(book: &Book, scope: Scope) -> bool
     ensures { result ≡ is_missing book.now.journal scope }
 {
@@ -26,7 +26,7 @@ fn is_missing(book: &Book, scope: Scope) -> bool
 }
 
 /// Why no watcher of this scope begins at a floor, or at a desk, with this book and this many watchers, of which the
-/// last one to begin got this key, and which has stopped or not: `NoNamespace`, otherwise `TooManyWatchers`, otherwise
+/// last one to begin got this key, and which may have stopped: `NoNamespace`, otherwise `TooManyWatchers`, otherwise
 /// `Stopped`.
 pub fn opening_refusal(
     book: &Book,

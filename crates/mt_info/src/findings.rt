@@ -1,4 +1,4 @@
-//! What was found in a world for the rows that were made of it.
+//! What was found in a world while its rows were made.
 ghost use Rattle.std.specs.Prelude.{◌≡◌, ◌++◌, Some, IfOk, OnOk, IsOkUnless};
 ghost use Rattle.mt_skel.specs.Front.{IsFront};
 ghost use Rattle.mt_mounts.specs.Forest.{mount_at};
@@ -17,8 +17,8 @@ use mt_skel::fault::Fault;
 use mt_skel::names::Names;
 use std::marker::Model;
 
-/// A world, and what was found in it for the rows of its mounts: the groups that are seen in their namespaces, and where
-/// mounts above them stand. So what many rows of one world need is looked for once.
+/// A world, and what was found in it for the rows of its mounts: the groups that are seen in their namespaces, and
+/// where mounts above them stand. So what many rows of one world need is looked for only once.
 pub struct Findings<'a> {
     groups: SeenGroups<'a>,
     points: Points<'a>,

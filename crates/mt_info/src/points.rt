@@ -1,7 +1,7 @@
 //! Where mounts stand: their mount points, from those that are known above them.
 //!
-//! A mount's point is that of its parent, and the names from the parent's root down to the mount. So the way up from a
-//! mount ends where a point is known, and points along long ways are kept for the mounts to come.
+//! The point of a mount is that of its parent, followed by the names from the parent's root down to the mount. So the
+//! way up from a mount ends where a point is known, and points along long ways are kept for later mounts.
 ghost use Rattle.std.specs.Prelude.{◌≡◌, ◌++◌, ◌∷◌, ◌-◌, ℕ, List, length, drop, reverse, unwrap_or, option_copied, [], IfOk, OnOk, IsOkUnless, MatchOption, Some, IsTrue, ⊤};
 ghost use Rattle.std.specs.List.{flat_map, list_all};
 ghost use Rattle.mt_skel.specs.Front.{IsFront};
@@ -24,7 +24,7 @@ use mt_skel::skel::{Dir, Skel};
 use std::alloc::AllocError;
 use std::marker::Model;
 
-/// A way of more steps is long: the point in its middle is kept.
+/// A way with more steps is long: the point in its middle is kept.
 const LONG: usize = 8;
 
 /// A step down: from the root of a mount to the directory where another one stands on it.
@@ -66,7 +66,7 @@ impl<'a> Drop for Points<'a> {
 }
 
 impl<'a> Points<'a> {
-    /// No point is known. It takes memory where a way is long, and not before.
+    /// No point is known. It takes memory only once a way is long.
     pub(crate) fn new(world: &'a World) -> Self
         ensures { result ≡ world.now }
     {
@@ -175,8 +175,8 @@ impl<'a> Points<'a> {
         Ok(())
     }
 
-    /// Keeps the point in the middle of a way, where it is long and not the first such one, so that the next way there
-    /// is half as long.
+    /// Keeps the point in the middle of a way, if it is long and not the first such way, so that the next way there is
+    /// half as long.
     fn learn_from(&mut self, way: &[Step]) -> Result<(), Fault>
         requires { IsWellFormed (world_view self.old) }
         ensures kept { self.new ≡ self.old }
@@ -192,7 +192,7 @@ impl<'a> Points<'a> {
         self.learn(way[way.len() / 2].parent)
     }
 
-    /// Where a mount stands, from the root of its namespace down. What is in `way` goes: it is lent so that not each
+    /// Where a mount stands, from the root of its namespace down. What is in `way` is lost: it is lent so that not each
     /// point takes memory of its own.
     pub(crate) fn point(&mut self, way: &mut Vec<Step>, mount: &Mount) -> Result<Names, Fault>
         requires well_formed { IsWellFormed (world_view self.old) }
@@ -206,7 +206,7 @@ impl<'a> Points<'a> {
         Ok(point)
     }
 
-    /// Appends the path where a mount stands, from the root of its namespace down. What is in `way` goes.
+    /// Appends the path where a mount stands, from the root of its namespace down. What is in `way` is lost.
     pub(crate) fn push_point(
         &mut self,
         text: &mut Vec<u8>,
@@ -295,8 +295,8 @@ fn push_steps(text: &mut Vec<u8>, skel: &Skel, way: &[Step]) -> Result<(), Alloc
     Ok(())
 }
 
-/// Makes the names of a path, each preceded by a slash, its text: where there is none, since the text is as long as it
-/// was when they began, a slash is appended.
+/// Completes the text of a path after its names, each preceded by a slash: if there were none, so that the text is as
+/// long as it was before them, a slash is appended.
 pub(crate) fn push_root(text: &mut Vec<u8>, start: usize) -> Result<(), AllocError>
     ensures text { OnOk result ((front : List ℕ) (names : List (List ℕ)) → length front ≡ start → text.old.items ≡ front ++ flat_map (λ n. 47 ∷ escaped n) names → text.new.items ≡ front ++ path_text names) }
     ensures kept { IsFront text.old.items text.new.items }

@@ -1,11 +1,11 @@
-//! IDs of what was changed.
+//! The IDs of what was changed.
 ghost use Rattle.std.specs.Prelude.{◌≡◌, ◌+◌, ◌<◌, ◌≤◌, [], ◌∷◌, ◌++◌, OnOk, IsOkUnless};
 
 use mt_skel::fault::Fault;
 use std::alloc::Global;
 use std::marker::Model;
 
-/// The IDs that were noted since the log was last emptied, in the order of their coming. One that was noted twice is
+/// The IDs that were noted since the log was last emptied, in the order in which they came. One that was noted twice is
 /// there twice.
 #[derive(Drop)]
 pub struct Log {

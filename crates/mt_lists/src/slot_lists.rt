@@ -85,7 +85,7 @@ impl SlotLists {
         Ok(())
     }
 
-    /// How many IDs may come with no more memory.
+    /// How many more IDs there can be without more memory.
     pub fn room(&self) -> usize
         ensures { result ≡ self.now.room }
     {

@@ -20,7 +20,7 @@ use std::alloc::Global;
 
 /// Which mount stands at a place, the root mount of each namespace, and where stacks of mounts lead.
 ///
-/// It holds IDs alone: a change of a forest is told to it with the mount as it was before.
+/// It holds only IDs: a change of a forest is told to it with the mount as it was before.
 pub(crate) struct Indexes {
     pub(crate) places: IndexMap<Place, MountId>,
     pub(crate) roots: Lists,

@@ -23,13 +23,13 @@ pub(crate) struct Reach {
 
 /// Stacks of mounts, as far as they are known.
 ///
-/// A stack is known from a place on, over the roots of mounts that stand on each other. What is not known
-/// is walked step by step, and so is the rest of a stack that was cut in the middle. Two stacks that meet,
-/// since a mount was put below another, stay two.
+/// A stack is known from a place on, over the roots of mounts that stand on each other. What is not known is walked
+/// step by step, and so is the rest of a stack that was cut in the middle. Two stacks that meet, because a mount was
+/// put below another, remain two.
 pub(crate) struct Stacks {
     /// From the first place of a stack to its last.
     pub(crate) ends: IndexMap<Place, Reach>,
-    /// From each later place of a stack to its first. There may be others, that no stack has.
+    /// From each later place of a stack to its first. There may be others, which are in no stack.
     pub(crate) starts: IndexMap<Place, Reach>,
 }
 
@@ -58,7 +58,7 @@ fn write(table: &mut IndexMap<Place, Reach>, place: Place, reach: Reach)
     table.insert(place, reach).unwrap();
 }
 
-/// Writes anew what a table has of a place that is there.
+/// Replaces what a table has of a place that is there.
 fn write_again(table: &mut IndexMap<Place, Reach>, place: Place, reach: Reach)
     requires there { IsTrue (is_some (get place_eq table.old place)) }
     ensures table { (p : Place) → get place_eq table.new p ≡ cond (place_eq place p) (Some reach) (get place_eq table.old p) }
@@ -102,8 +102,8 @@ fn rest(end: Reach, start: Reach, place: Place, root: Place) -> Option<Reach>
     None
 }
 
-/// The mount with this root has gone from a place, to which a stack goes on from this start: only where
-/// it was the last of the stack is the rest known.
+/// The mount with this root has gone from a place to which a stack goes on from this start: the rest is known only if
+/// it was the last of the stack.
 fn shorten(ends: &mut IndexMap<Place, Reach>, start: Option<Reach>, place: Place, root: Place)
     ensures ends { (s : Place) (e : Reach) → get place_eq ends.new s ≡ Some e → IsShortened place root start s (get place_eq ends.old s) e }
     ensures room { spare ends.old ≤ spare ends.new }

@@ -11,7 +11,7 @@ use mt_skel::fault::Fault;
 
 impl Forest {
     /// Adds the IDs of the mounts that stand on a mount, except for the one where the gathering
-    /// began: where parents form a cycle, that stands on one of those below it.
+    /// began: if parents form a cycle, that one stands on one of those below it.
     fn gather_children(
         &self,
         id: MountId,
@@ -50,8 +50,8 @@ impl Forest {
         Ok(gathered)
     }
 
-    /// The IDs of [`subtree`](Forest::subtree), in any order. An ID that is not there stays out,
-    /// even where mounts stand on it.
+    /// The IDs of [`subtree`](Forest::subtree), in any order. An ID that is not there is left out,
+    /// even if mounts stand on it.
     fn members(&self, id: MountId) -> Result<Vec<MountId>, Fault>
         ensures members { IfOk result (λ ids. (q : ℕ) → occ q ids.items ≡ occ q (subtree self.now.mounts id)) }
         ensures rising { OnOk result (IsTrue (rises id_of self.now.mounts)) }

@@ -22,9 +22,9 @@ use std::marker::Model;
 /// The mounts, each in a slot, for each ID the key of its slot, and lists, by rising ID, of the children of each mount
 /// and of the mounts of each namespace.
 ///
-/// A call that names one mount takes the time of a look-up in a hash table. A list of all takes
-/// their number and a sort. The other lists lie in the slots of the mounts, so that a mount comes and goes with one
-/// look-up for each list.
+/// A call that names one mount takes the time of a look-up in a hash table. A list of all takes time by their number,
+/// and a sort. The other lists lie in the slots of the mounts, so that a mount comes and goes with one look-up for each
+/// list.
 pub(crate) struct Table {
     slots: Slab<Mount>,
     keys: IndexMap<MountId, usize>,
@@ -120,7 +120,7 @@ fn copy_of(lists: &SlotLists, width: usize) -> Result<SlotLists, Fault>
 
 /// The same slots, with room for this many more mounts.
 ///
-/// A table's slab grows in a copy: its lists have a slot for each key that it has room for, even where they cannot grow.
+/// A table's slab grows in a copy: its lists have a slot for each key that it has room for, even if they cannot grow.
 fn grown(slots: &Slab<Mount>, additional: usize) -> Result<Slab<Mount>, Fault>
     ensures slots { IfOk result (λ grown. grown.slots ≡ slots.now.slots) }
     ensures room { IfOk result (λ grown. HasRoomFor grown additional) }
@@ -180,7 +180,7 @@ impl Table {
         Ok(())
     }
 
-    /// How many mounts may come with no more memory.
+    /// How many more mounts there can be without more memory.
     pub(crate) fn room(&self) -> usize
         ensures { result ≡ self.now.room }
     {
@@ -206,7 +206,7 @@ impl Table {
         ensures { result ≡ mount_at self.now.mounts id }
     {
         let key = self.keys.get(&id).copied()?;
-        // Not `copied`, which copies the mount once more, at each look at one.
+        // Not `copied`, which would copy the mount once more at each look.
         let mount = self.slots.get(key)?;
         Some(*mount)
     }
@@ -272,8 +272,8 @@ impl Table {
         None
     }
 
-    /// Makes the mount with the ID of this one, if it differs in attributes alone, this one, in its slot. Answers
-    /// whether it did.
+    /// Replaces the mount with the ID of this one by this one, in its slot, if the two differ only in attributes.
+    /// Answers whether it did.
     pub(crate) fn renew(&mut self, mount: Mount) -> bool
         ensures renewed { result ≡ true → option_map (given_attrs mount.attrs) (mount_at self.old.mounts mount.id) ≡ Some mount }
         ensures mounts { self.new.mounts ≡ cond result (with_attrs mount.id mount.attrs self.old.mounts) self.old.mounts }

@@ -83,7 +83,7 @@ fn reached(
     here
 }
 
-/// Keeps of each group that was passed on the way up from one where the way ended.
+/// Keeps where the way up from a group ended, for each group that was passed on it.
 fn keep_passed(
     world: &World,
     standing: &Standing,

@@ -1,5 +1,5 @@
-//! Peer groups that are seen otherwise after a change than before, and the mounts below them, which may tell another
-//! group above their master.
+//! Peer groups that are seen differently after a change, and the mounts below them, which may tell another group above
+//! their master.
 ghost use Rattle.std.specs.Prelude.{◌≡◌, ℕ, ◌++◌, ◌||◌, false, map, nat_eq, IsTrue, OnOk, IfOk, IsOkUnless};
 ghost use Rattle.std.specs.List.{filter_map, flat_map, list_any};
 ghost use Rattle.std.specs.Option.{option_map_or};
@@ -142,7 +142,7 @@ fn turned_groups(before: &World, after: &World, groups: &[GroupId]) -> Result<Ve
     Ok(turned)
 }
 
-/// Appends the groups that are entered at slaves of a group, where all began at `start`.
+/// Appends the groups that are entered at slaves of a group, when the search began at `start`.
 fn push_entered(
     groups: &mut Vec<GroupId>,
     world: &World,
@@ -199,7 +199,8 @@ fn has_one_above(world: &World, groups: &Order, group: GroupId) -> bool
     false
 }
 
-/// Appends the mounts below a group, unless one of these groups is above it, below which they are found as well.
+/// Appends the mounts below a group, unless one of these groups is above it, since they are found below that one as
+/// well.
 fn push_below(
     ids: &mut Vec<MountId>,
     world: &World,
@@ -232,9 +233,9 @@ fn push_all_below(ids: &mut Vec<MountId>, world: &World, groups: &[GroupId]) -> 
     Ok(())
 }
 
-/// Appends to the mounts that came, went or changed those that may tell another group above their master for it: those
-/// below a group that got another master, or that has members in a namespace before or after alone. Where no mount has
-/// a master, none is looked at.
+/// Appends, to the mounts that came, went or changed, those that may tell another group above their master because of
+/// it: those below a group that got another master, or that has members in a namespace only before or only after. If no
+/// mount has a master, none is looked at.
 pub(crate) fn push_turned_below(
     ids: &mut Vec<MountId>,
     before: &World,

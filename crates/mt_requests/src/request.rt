@@ -1,4 +1,4 @@
-//! Requests, as lines say them.
+//! Requests, as lines give them.
 ghost use Rattle.std.specs.Prelude.{◌≡◌, IfOk, None, Some, MatchOption};
 ghost use Rattle.mt_requests.specs.Requests.{ReadsAs, request_of, HasNoFault, prior_of_two, prior_fault, Reads, two_paths_of, mkfs_of, mkdir_of, newns_of, copy_said, copyns_of, dropns_of, space_and_two, mount_of, bind_of, move_of, pivot_of, one_path_of, umount_of, detach_of, setattr_of, show_of, find_of, one_word, read_by, HasRightCount};
 
@@ -37,7 +37,7 @@ pub enum Request {
     Stop,
 }
 
-/// The fault of two words that is refused first.
+/// Of the faults of two words, the one that is refused first.
 fn prior_of_two(first: Option<Fault>, second: Option<Fault>) -> Option<Fault>
     ensures { result ≡ prior_of_two first second }
 {
@@ -51,7 +51,7 @@ fn prior_of_two(first: Option<Fault>, second: Option<Fault>) -> Option<Fault>
     }
 }
 
-/// The fault among those of a line's words that is refused first.
+/// Of the faults of a line's words, the one that is refused first.
 fn prior_fault(faults: &[Option<Fault>]) -> Option<Fault>
     ensures prior_fault { result ≡ prior_fault faults.now }
     ensures none { result ≡ None → HasNoFault faults.now }
@@ -149,8 +149,8 @@ fn read_dropns(words: &mut Words<'_>) -> Result<Request, Fault>
     Ok(Request::Run(Command::DropSpace { space }))
 }
 
-/// The namespace that a line names, and the two words after it. None where these are not three words, or the first is
-/// no number.
+/// The namespace that a line names, and the two words after it. `None` if these are not three words, or the first is
+/// not a number.
 fn space_and_two<'a>(words: &mut Words<'a>) -> Option<(u64, &'a [u8], &'a [u8])>
     ensures { MatchOption result (space_and_two words.old ≡ None) (λ (space, first, second). space_and_two words.old ≡ Some (space, first.now, second.now)) }
 {
@@ -345,13 +345,12 @@ fn read_line(alloc: Global, line: &[u8]) -> Result<Request, Fault>
     read_by(alloc, verb, &mut words)
 }
 
-/// The request that a line says. The line is without its end.
+/// The request that a line makes. The line is without its end.
 ///
-/// Refused as `BadLine` where the line is none of the requests, or one of its words cannot stand
-/// there; otherwise as `TooLong` where a label or a component of a path has more than 255 bytes, or a
-/// path more than 4,095; otherwise as `BadPath` where a path does not begin with `/`, or has a component
-/// that is empty, `.` or `..`. Refusals, `quit`, `stop` and the lines of watchers are found without memory; every
-/// other request may be `NoMemory` in its place.
+/// Refused as `BadLine` if the line is not a request, or one of its words is not allowed there; otherwise as `TooLong`
+/// if a label or a component of a path has more than 255 bytes, or a path more than 4,095; otherwise as `BadPath` if a
+/// path does not begin with `/`, or has a component that is empty, `.` or `..`. Refusals, `quit`, `stop` and the lines
+/// of watchers are found without memory; instead of any other request the answer may be `NoMemory`.
 pub fn read_request(alloc: Global, line: &[u8]) -> Result<Request, Fault>
     ensures read { ReadsAs (request_of line.now) result }
     ensures counted { IfOk result HasRightCount }

@@ -27,7 +27,7 @@ pub(crate) fn read_watch(words: &mut Words<'_>) -> Result<Request, Fault>
     Ok(Request::Watch(Scope::One(space)))
 }
 
-/// How many posts a word asks for, of at most this many and at least one.
+/// How many posts a word asks for, at least one and at most this many.
 fn count_of(word: &[u8], most: u64) -> Option<u64>
     ensures { result ≡ count_of most word.now }
 {

@@ -98,7 +98,7 @@ pub fn unescape(alloc: Global, text: &[u8]) -> Result<Vec<u8>, Fault>
     Ok(bytes)
 }
 
-/// How many bytes a text stands for, or None where a backslash begins no escape. Takes no memory.
+/// How many bytes a text stands for, or `None` where a backslash begins no escape. Takes no memory.
 #[tactic(auto, using(crate::proofs::EscapeLaws::bare_unescaped))]
 pub fn unescaped_len(text: &[u8]) -> Option<usize>
     ensures { result ≡ option_map (λ bytes. length bytes) (unescaped text.now) }

@@ -59,7 +59,7 @@ impl Bytes {
     }
 }
 
-/// The same bytes once more.
+/// The same bytes again.
 fn copied(short: &Few) -> Few
     ensures { result.items ≡ short.now.items }
 {

@@ -59,7 +59,7 @@ fn is_name(bytes: &[u8]) -> bool
 }
 
 impl Label {
-    /// The label of these bytes, or the bytes back where they are none.
+    /// The label of these bytes, or the bytes themselves if they are no label.
     pub fn new(bytes: Vec<u8>) -> Result<Label, Vec<u8>>
         ensures valid { IsOk result ↔ IsTrue (is_label bytes.items) }
         ensures label { IfOk result (λ label. label ≡ bytes.items) }
@@ -138,7 +138,7 @@ impl Model for Name {
 }
 
 impl Name {
-    /// The name of these bytes, or the bytes back where they are none.
+    /// The name of these bytes, or the bytes themselves if they are no name.
     pub fn new(bytes: Vec<u8>) -> Result<Name, Vec<u8>>
         ensures valid { IsOk result ↔ IsTrue (is_name bytes.items) }
         ensures name { IfOk result (λ name. name ≡ bytes.items) }

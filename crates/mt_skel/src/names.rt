@@ -45,7 +45,7 @@ impl Names {
         }
     }
 
-    /// The path whose names stand between the slashes of a text.
+    /// The path whose names are between the slashes of a text.
     #[tactic(auto, using(crate::proofs::NamesLaws::text_between))]
     pub fn between(alloc: Global, text: &[u8]) -> Result<Names, Fault>
         requires names { IsTrue (list_all is_name (pieces 47 text.now)) }
@@ -58,7 +58,7 @@ impl Names {
         Ok(Names { text: all })
     }
 
-    /// The path with one name more at its end.
+    /// The path with one more name at its end.
     pub fn with(self, name: &Name) -> Result<Names, AllocError>
         ensures { IfOk result (λ names. names ≡ self ++ name.now ∷ []) }
     {

@@ -13,10 +13,11 @@ use crate::names::Names;
 use std::alloc::{AllocError, Global};
 use std::marker::Model;
 
-/// The number of a filesystem, from 1 in the order of making: the minor number of its device.
+/// The number of a filesystem, counted from 1 in the order of making: the minor number of its
+/// device.
 pub type FsId = u64;
 
-/// The number of a directory, from 0 in the order of making.
+/// The number of a directory, counted from 0 in the order of making.
 pub type Dir = u64;
 
 const MOST_FILESYSTEMS: usize = 256;
@@ -48,8 +49,8 @@ struct Node {
 
 /// The filesystems and their directories, which are only added to.
 ///
-/// At most 256 filesystems, 16,384 directories in all with the roots, and 32 names from a root down.
-/// The directory of a name in another is found by a table of the names in that one.
+/// There are at most 256 filesystems, 16,384 directories including the roots, and 32 names from a
+/// root down. The directory of a name in another is found by a table of the names in that one.
 pub struct Skel {
     filesystems: Vec<Filesystem>,
     nodes: Vec<Node>,
@@ -108,8 +109,8 @@ impl Skel {
 
     /// Adds a filesystem with its root directory, and answers its number.
     ///
-    /// Refused as `FilesystemExists` where the name is taken, as `TooMany` at the limit of
-    /// filesystems or directories, and as `NoMemory`; then nothing has changed.
+    /// Refused as `FilesystemExists` if the name is taken, as `TooMany` at the limit of filesystems
+    /// or directories, and as `NoMemory`; then nothing has changed.
     pub fn add_fs(&mut self, name: Label, kind: Label, source: Label) -> Result<FsId, Fault>
         ensures done { IfOk result (λ fs. (added_fs self.old (record { name = name; kind = kind; source = source }) ≡ Ok self.new) × (fs ≡ length self.new.filesystems)) }
         ensures refused { IfErr result (λ fault. fault ≢ Fault.NoMemory → added_fs self.old (record { name = name; kind = kind; source = source }) ≡ Err fault) }
@@ -138,9 +139,9 @@ impl Skel {
 
     /// Adds the directory of this path in the filesystem of this name, and answers its number.
     ///
-    /// Refused as `NoFilesystem`, as `NoEntry` where its parent is not there, as `EntryExists` where
-    /// it is there, the root always, as `TooMany` below the depth or above the number that the
-    /// server holds, and as `NoMemory`; then nothing has changed.
+    /// Refused as `NoFilesystem`, as `NoEntry` if its parent is not there, as `EntryExists` if it is
+    /// there, as the root always is, as `TooMany` beyond the depth or the number that the server
+    /// allows, and as `NoMemory`; then nothing has changed.
     pub fn add_dir(&mut self, fs: &Label, path: &[Name]) -> Result<Dir, Fault>
         ensures done { IfOk result (λ dir. (added_dir self.old fs.now path.now ≡ Ok self.new) × (dir ≡ length self.old.directories)) }
         ensures refused { IfErr result (λ fault. fault ≢ Fault.NoMemory → added_dir self.old fs.now path.now ≡ Err fault) }
@@ -317,7 +318,7 @@ impl Skel {
         Some(here)
     }
 
-    /// Adds the directory of this name in a directory that has none of it.
+    /// Adds the directory of this name to a directory that has none of this name.
     fn push_node(&mut self, fs: FsId, parent: Dir, name: Name) -> Result<Dir, Fault>
         requires there { IsTrue (is_directory self.old parent) }
         requires same { fs ≡ (directory self.old parent).fs }

@@ -88,7 +88,7 @@ fn make_room(world: &mut World, gone: &Gone, relocations: &[(MountId, Place)]) -
     world.reserve_states()
 }
 
-/// Takes these mounts away, and moves others to the places that get free. [`make_room`] has made room.
+/// Takes these mounts away, and moves others to the places that become free. [`make_room`] has made room.
 fn replace(world: &mut World, gone: &Gone, relocations: &[(MountId, Place)])
     requires order { IsPeering (peering_of world.old.peers) }
     requires states { length world.old.peers.peers ≤ world.old.peers.room }
