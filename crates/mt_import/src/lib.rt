@@ -4,8 +4,8 @@
 //!
 //! - Each table becomes a [`tree`] of mounts, in the order in which they are made: [`mount`] finds where each one stands. A row
 //!   that has no mount in it is left out for a [`reason`].
-//! - [`plan`] leaves out the mounts that do not agree on their peer groups ([`groups`], [`agreement`], [`choice`]), and those for
-//!   which a server has no room. [`space`] says how the others come to their places.
+//! - [`plan`] leaves out the mounts that do not agree on their peer groups ([`groups`], [`agreement`], [`choice`]), and
+//!   those for which a server has no room. [`space`] says how the others get to their places.
 //! - The script tells what is left out ([`telling`]), makes filesystems and directories and stages what others are bound from
 //!   ([`front`]), and makes the namespaces one after another ([`spaces`]): each mount at its [`turns`], at a place that a hook
 //!   isolates where others would get it, and those at the root of the namespace by pivots ([`covers`]). It is made twice: the

@@ -14,17 +14,18 @@ const MOST_TOLD: usize = 8_000;
 /// What a call answers that can fail only for want of memory.
 pub(crate) type Allocated<T> = Result<T, AllocError>;
 
-/// The same of a call that makes nothing.
+/// The same for a call that makes nothing.
 pub(crate) type Done = Allocated<()>;
 
-/// The same of one that makes a text.
+/// The same for one that makes a text.
 pub(crate) type Text = Allocated<Vec<u8>>;
 
 /// Why a part of a script is not made.
 #[derive(Clone, Copy)]
 pub(crate) enum Unmade {
     NoMemory,
-    /// A line that is to be a command is none that the server reads, or what is planned is not what the tables tell.
+    /// A line that should be a command is not one that the server reads, or what is planned is not what the tables
+    /// tell.
     Refused,
 }
 
@@ -40,7 +41,7 @@ impl<T: Drop> From<AllocFailed<T>> for Unmade {
     }
 }
 
-/// What a call answers that makes a part of a script.
+/// What a call that makes a part of a script answers.
 pub(crate) type Written = Result<(), Unmade>;
 
 /// Texts, one after the other.
@@ -95,7 +96,7 @@ pub(crate) fn spaced(alloc: Global, words: &[&[u8]]) -> Text
     Ok(line)
 }
 
-/// Appends a line that is to be a command, which is refused unless the server reads it as one.
+/// Appends a line that should be a command, and is refused unless the server reads it as one.
 #[tactic(auto, unfolding(crate::specs::Script::line_text, crate::specs::Script::command_line))]
 pub(crate) fn push_command(script: &mut Script, line: &[u8]) -> Written
     ensures { OnOk result (script.new ≡ script.old ++ command_line line.now) }
@@ -144,7 +145,7 @@ pub(crate) fn table_comment(script: &mut Script, table: usize, text: &[u8], last
     comment(script, &[b"# table ", table.as_slice(), text, last])
 }
 
-/// Tells which group of the tables is which one of the server.
+/// Tells which group of the server stands for which one of the tables.
 #[tactic(auto, unfolding(crate::specs::Script::group_comment))]
 pub(crate) fn group_comment(script: &mut Script, there: u64, here: u64) -> Done
     ensures { OnOk result (script.new ≡ script.old ++ group_comment there here) }
