@@ -5,7 +5,7 @@ use Rattle.std.specs.List.{list_any, list_all}
 use Rattle.std.specs.Str.{bytes_eq}
 use Rattle.mt_lines.specs.Words.{pieces}
 
--- the options that are set alone
+-- the options that are set by themselves
 abbrev pub flags : List (List ℕ)
 flags = codes "ro" ∷ codes "nosuid" ∷ codes "nodev" ∷ codes "noexec" ∷ codes "nodiratime" ∷ codes "nosymfollow" ∷ []
 

@@ -7,7 +7,7 @@ use Rattle.std.specs.Str.{bytes_eq}
 use Rattle.mt_lines.specs.Words.{pieces, words, number_in_text}
 use Rattle.mt_import.specs.declared.read.Fields.{Fields}
 
--- what a line tells of a mount: the line itself, words as they stand there, and numbers
+-- what a line tells of a mount: the line itself, words as they are there, and numbers
 pub record ToldMount : Type 0 where
   pub line : List ℕ
   pub id : ℕ
@@ -27,7 +27,7 @@ pub record ToldMount : Type 0 where
 abbrev pub no_fields : Fields
 no_fields = record { shared = None; master = None; via = None; unbindable = false }
 
--- with one more optional field; none where no number stands after a name that has one, and no other name matters
+-- with one more optional field; none if no number comes after a name that has one; other names do not matter
 -- (proc_pid_mountinfo(5), field 7)
 abbrev pub with_field : Fields → List ℕ → Option Fields
 with_field fields field =
@@ -51,7 +51,7 @@ are_numbers pieces = false
 abbrev pub is_device : List ℕ → Bool
 is_device word = are_numbers (pieces 58 word)
 
--- the type and the source stand after the dash, and one word of super options after them, whatever they are
+-- the type and the source come after the dash, and one word of super options after them, whatever it is
 -- (proc_pid_mountinfo(5), fields 9 to 11)
 abbrev pub end_in : List (List ℕ) → Option (List ℕ × List ℕ)
 end_in (kind ∷ source ∷ super ∷ []) = Some (kind, source)

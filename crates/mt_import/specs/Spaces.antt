@@ -14,12 +14,12 @@ use Rattle.mt_import.specs.Slots.{stage}
 use Rattle.mt_import.specs.Telling.{is_made, is_shown}
 use Rattle.mt_import.specs.Turns.{turns_from}
 
--- the numbers of those that pass a test, where that of the first is this one
+-- the numbers of those that pass a test, if that of the first is this one
 abbrev pub numbers_where : {X : Type 0} → (ℕ → X → Bool) → ℕ → List X → List ℕ
 numbers_where test number [] = []
 numbers_where test number (x ∷ xs) = if test number x then number ∷ numbers_where test (suc number) xs else numbers_where test (suc number) xs
 
--- the mounts that are made on the root of the root mount, or of one that stands so
+-- the mounts that are made on the root of the root mount, or of another mount that is
 abbrev pub is_cover : List Way → ℕ → Mount → Bool
 is_cover ways number mount = mount.level == 0 && nat_lt 0 mount.base && is_made ways number
 

@@ -1,5 +1,5 @@
--- What a script tells of the rows of which it makes no mount, or another one than they tell.
--- A word with no source is this project's rule.
+-- What a script tells of the rows for which it makes no mount, or another one than they tell. A
+-- word with no source is this project's rule.
 use Rattle.std.specs.Prelude.{ℕ, Bool, true, false, not, List, [], ◌∷◌, ◌++◌, Option, Some, is_some, slice_get, codes}
 use Rattle.std.specs.Option.{option_map_or}
 use Rattle.mt_import.specs.declared.mount.Mount.{Mount}

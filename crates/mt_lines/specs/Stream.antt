@@ -28,7 +28,7 @@ abbrev pub faults_after_read : List StreamFault → Result ℕ StreamFault → L
 faults_after_read faults (Ok n) = []
 faults_after_read faults (Err e) = e ∷ faults
 
--- the same after a write that took nothing of these bytes: it has failed unless there are none
+-- the same after a write that took none of these bytes: it has failed unless there are none
 abbrev pub faults_after_none : List ℕ → List StreamFault → List StreamFault
 faults_after_none [] faults = []
 faults_after_none (b ∷ bytes) faults = Failed ∷ faults
@@ -39,7 +39,7 @@ faults_after_write bytes faults (Ok zero) = faults_after_none bytes faults
 faults_after_write bytes faults (Ok (suc n)) = []
 faults_after_write bytes faults (Err e) = e ∷ faults
 
--- how many interruptions in succession end a read or a send, this project's rule
+-- how many interruptions in succession end a read or a send, by this project's rule
 abbrev pub most_interruptions : ℕ
 most_interruptions = 1000
 

@@ -4,7 +4,7 @@ use Rattle.std.specs.Prelude.{◌≡◌, ℕ, List, Option, None, Some, ◌-◌,
 use Rattle.std.specs.Option.{option_map}
 use Rattle.mt_lists.specs.Lists.{ListRow}
 
--- the rows by rising ID, the ID in each slot, and how many numbers may be new with no more memory
+-- the rows by rising ID, the ID in each slot, and how many numbers may be new without more memory
 pub record SlotListsView : Type 0 where
   pub rows : List ListRow
   pub slots : List (Option ℕ)

@@ -1,5 +1,5 @@
--- Ways up a chain, on which the first number that passes a test is sought. No public clause cites this module.
--- A word with no source is this project's rule.
+-- Ways up a chain, on which the first number that passes a test is looked for. No public clause cites this module. A
+-- word with no source is this project's rule.
 use Rattle.std.specs.Prelude.{◌≡◌, ℕ, ◌-◌, Bool, cond, Option, Some, None, nat_lt}
 use Rattle.std.specs.List.{find}
 use Rattle.std.specs.Option.{option_and_then}

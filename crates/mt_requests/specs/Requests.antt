@@ -20,7 +20,7 @@ use Rattle.mt_book.specs.declared.command.Command.TheVariants as command
 use Rattle.mt_requests.specs.declared.request.Request.{Request}
 use Rattle.mt_requests.specs.declared.request.Request.TheVariants as request
 
--- how many bytes a word stands for; none where it is empty, has a zero byte, or has a backslash that begins no escape
+-- how many bytes a word stands for; none if it is empty, has a zero byte, or has a backslash that begins no escape
 abbrev pub text_length : List ℕ → Option ℕ
 text_length word =
     if nat_eq (length word) 0 || list_any (λ b. b == 0) word then None else option_map (λ bytes. length bytes) (unescaped word)
@@ -41,11 +41,12 @@ components path = if bytes_eq path (codes "/") then [] else drop 1 (pieces 47 pa
 abbrev pub is_path : List ℕ → Bool
 is_path path = starts_with nat_eq path (codes "/") && list_all is_name (components path)
 
--- whether a piece between slashes, in front of them or after them has more than 255 bytes
+-- whether a piece between slashes, before them or after them has more than 255 bytes
 abbrev pub has_long_piece : List ℕ → Bool
 has_long_piece path = list_any (λ piece. nat_lt 255 (length piece)) (pieces 47 path)
 
--- a word that stands for no text is a bad line, one of more than 4,095 bytes or with a long piece is too long, and any other is to be a path
+-- a word that stands for no text is a bad line, one of more than 4,095 bytes or with a long piece is too long, and any other has to
+-- be a path
 abbrev pub path_fault : List ℕ → Option Fault
 path_fault word =
     option_map_or (λ n. first_fault (refuse_if (nat_lt 4095 n || has_long_piece (label_bytes word)) TooLong
@@ -87,7 +88,7 @@ abbrev pub request_from : {A : Type 0} → (A → Request) → Result A Fault �
 request_from make (Ok said) = Ok (make said)
 request_from make (Err f) = Err f
 
--- what was read is what a line says, or want of memory in place of what is not refused
+-- what was read is what a line says, or want of memory instead of what is not refused
 abbrev pub Reads : {A : Type 0} → Result A Fault → Result A Fault → Type 0
 Reads said read = (read ≡ said) ⊎ ((read ≡ Err NoMemory) × (is_ok said ≡ true))
 
@@ -164,7 +165,7 @@ one_path_of _ = Err BadLine
 abbrev pub umount_of : List (List ℕ) → Result Request Fault
 umount_of words = request_from (λ (space, path). request.Run (command.Unmount space path)) (one_path_of words)
 
--- `detach NS PATH` unmounts with all below
+-- `detach NS PATH` unmounts a mount with all mounts below it
 abbrev pub detach_of : List (List ℕ) → Result Request Fault
 detach_of words = request_from (λ (space, path). request.Run (command.Detach space path)) (one_path_of words)
 

@@ -33,7 +33,7 @@ cons_to (Some b) (Some bytes) = Some (b ∷ bytes)
 cons_to (Some b) None = None
 cons_to None rest = None
 
--- the bytes that a text of a line stands for; none where a backslash begins no escape
+-- the bytes that a text of a line stands for; none if a backslash begins no escape
 unfoldable pub unescaped : List ℕ → Option (List ℕ)
 unescaped [] = Some []
 unescaped (x ∷ []) = if x == 92 then None else Some (x ∷ [])

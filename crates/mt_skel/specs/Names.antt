@@ -17,7 +17,7 @@ is_name l = is_label l && list_all (λ b. not (b == 47)) l && not (bytes_eq l (c
 abbrev pub names_text : List (List ℕ) → List ℕ
 names_text names = flat_map (λ n. 47 ∷ n) names
 
--- the names that stand each preceded by a slash
+-- the names in a text, each preceded by a slash
 abbrev pub names_in : List ℕ → List (List ℕ)
 names_in [] = []
 names_in (b ∷ text) = pieces 47 text
