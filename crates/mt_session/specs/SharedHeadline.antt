@@ -4,7 +4,7 @@
 -- Whatever the other sessions do, what a session's watcher has taken, and so all that `take` and `follow` have told of it or lost, is a prefix of what was posted
 -- for the namespaces it follows since its opening, each once and in order; and applied to the opening that `watch` told, it gives each namespace's table as of
 -- its last taken number.
-use Rattle.std.specs.Prelude.{◌≡◌, ℕ, List, ◌++◌, Option, Some, None, slice_get, Ok}
+use Rattle.std.specs.Prelude.{◌≡◌, ℕ, List, ◌++◌, Option, Some, slice_get, Ok}
 use Rattle.std.specs.Option.{ForSome}
 use Rattle.mt_events.specs.Posts.{PostView}
 use Rattle.mt_events.specs.Following.{IsRun}
@@ -13,7 +13,9 @@ use Rattle.mt_floor.specs.Headline.{answers, posted_since, IsInOrder, TellTables
 use Rattle.mt_desk.specs.Desk.{DeskView, HasHistory}
 use Rattle.mt_desk.specs.Calls.{WatcherView}
 use Rattle.mt_session.specs.declared.serving.End.{End}
-use Rattle.mt_session.specs.SharedSession.{SharedTurn, AreTurns, ServedShared}
+use Rattle.mt_history.specs.Entries.{WitnessView}
+use Rattle.mt_session.specs.SharedTurns.{SharedView}
+use Rattle.mt_session.specs.SharedSession.{SharedTurn, AreTurns, ServedShared, new_session}
 
 -- what a watcher has taken is in order and gives the tables, by the history of a desk
 pub record FollowsInOrder (w : WatcherView) : Type 0 where
@@ -32,5 +34,5 @@ pub record FollowsInOrder (w : WatcherView) : Type 0 where
 -- so it is after each line of a session that has a watcher then
 abbrev pub SharedSessionsFollow : Type 0
 SharedSessionsFollow =
-    (before later sent written : Option (List ℕ)) (by : End) (s : ServedShared before later sent written by) (front back : List SharedTurn) → s.turns ≡ front ++ back
-    → (own : Option WatcherView) × AreTurns None front own × AreTurns own back s.watcher × ForSome own FollowsInOrder
+    (before later sent written : Option (List ℕ)) (by : End) (v v' : WitnessView) (s : ServedShared before later sent written by v v') (front back : List SharedTurn)
+    → s.turns ≡ front ++ back → (mid : SharedView) × AreTurns (new_session v) front mid × AreTurns mid back s.state × ForSome mid.own FollowsInOrder

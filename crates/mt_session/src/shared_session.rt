@@ -1,15 +1,17 @@
 //! What a session in a thread of its own does for a request.
-ghost use Rattle.std.specs.Prelude.{◌≡◌, ◌≢◌, ◌≤◌, List, length, map, true, IfOk, IfErr, OnOk, OnErr, IsOkUnless, IsSome, Err, None, Some};
+ghost use Rattle.std.specs.Prelude.{◌≡◌, ◌≢◌, ◌≤◌, ◌++◌, List, length, map, true, IfOk, IfErr, OnOk, OnErr, IsOkUnless, IsSome, Err, None, Some};
 ghost use Rattle.std.specs.Option.{ForSome};
 ghost use Rattle.std.specs.Arc.{arc_value};
 ghost use Rattle.mt_events.specs.Posts.{PostView};
 ghost use Rattle.mt_events.specs.Following.{IsRun};
+ghost use Rattle.mt_history.specs.Entries.{entries, IsSeen};
 ghost use Rattle.mt_desk.specs.Calls.{WatcherView, IsMet, IsClosed};
 ghost use Rattle.mt_desk.specs.Desk.{IsDesk, floor_of_desk};
 ghost use Rattle.mt_desk.specs.Headline.{Meet, Close, IsScheduledBy};
 ghost use Rattle.mt_events.specs.Texts.{posts_text};
 ghost use Rattle.mt_session.specs.Requests.{answer_to, replied_text, opened_text, closed_text};
-ghost use Rattle.mt_session.specs.SharedTurns.{floor_seen, found_state, is_under_lock, with_taken_posts, IsCommanded, IsBegun, IsDoneBy, IsUndoneBy, HasTaken, KeepsWatcher, HasPopped, HasEnded};
+ghost use Rattle.mt_session.specs.SharedSession.{new_session};
+ghost use Rattle.mt_session.specs.SharedTurns.{IsAtDesk, acts_at, floor_seen, found_state, is_under_lock, with_taken_posts, IsCommanded, IsBegun, IsDoneBy, IsUndoneBy, HasTaken, KeepsWatcher, HasPopped, HasEnded};
 
 use crate::queries::{find, show, told_refusal};
 use crate::text::Text;
@@ -37,13 +39,12 @@ pub struct SharedSession<J: Naming> {
 }
 
 impl<J: Naming> Model for SharedSession<J> {
-    ghost use Rattle.std.specs.Prelude.{Option};
-    ghost use Rattle.mt_desk.specs.Calls.{WatcherView};
+    ghost use Rattle.mt_session.specs.SharedTurns.{SharedView};
     ghost use Rattle.mt_session.specs.Taking.{IsRunning};
 
-    ghost Value = { Option WatcherView };
+    ghost Value = { SharedView };
 
-    ghost view = { λ s. s.watcher };
+    ghost view = { λ s. record { own = s.watcher; sight = s.witness } };
 
     ghost invariant = { λ s. IsRunning s.watcher };
 }
@@ -57,8 +58,11 @@ fn run<J: Naming, R: Wait>(
 ) -> Result<Text, Fault>
     ensures text { IfOk result (λ text. text ≡ replied_text (floor_of_desk desk.old.desk) command.now) }
     ensures done { OnOk result (IsCommanded desk.old.desk command.now desk.new.desk) }
+    ensures log { OnOk result (desk.new.log ≡ desk.old.log ++ entries witness.old.by (acts_at desk.old.desk (Request.Run command.now))) }
     ensures memory { IsOkUnless result Fault.NoMemory }
     ensures unchanged { OnErr result (desk.new ≡ desk.old) }
+    ensures sight { witness.new ≡ record witness.old { seen = desk.new.log } }
+    ensures sees { IsSeen witness.old.by witness.old.seen desk.old.log }
 {
     match desk.apply(rt, witness, command) {
         Ok(reply) => Ok(Text::reply(reply)),
@@ -69,6 +73,7 @@ fn run<J: Naming, R: Wait>(
 /// How far a watcher of the desk is.
 fn met<J: Naming>(desk: &mut Desk<J>, watcher: &mut Watcher<J>) -> Meeting
     ensures met { IsMet desk.old.desk watcher.old result desk.new.desk watcher.new }
+    ensures log { desk.new.log ≡ desk.old.log }
     ensures headline { IsScheduledBy (Meet watcher.old result watcher.new) desk.new.desk }
 {
     match desk.meet(watcher) {
@@ -80,6 +85,7 @@ fn met<J: Naming>(desk: &mut Desk<J>, watcher: &mut Watcher<J>) -> Meeting
 /// Ends a watcher of the desk, and answers what was sent to it and not taken.
 fn closed<J: Naming, R: Wait>(rt: &R, desk: &mut Desk<J>, watcher: Watcher<J>) -> SharedPosts
     ensures closed { IsClosed desk.old.desk watcher result desk.new.desk }
+    ensures log { desk.new.log ≡ desk.old.log }
     ensures headline { IsScheduledBy (Close watcher result) desk.new.desk }
 {
     match desk.close(rt, watcher) {
@@ -110,6 +116,7 @@ fn told_end<J: Naming, R: Wait>(
 ) -> Result<Text, Fault>
     ensures text { IfOk result (λ text. text ≡ closed_text (floor_seen desk.old.desk (Some watcher)) watcher.key) }
     ensures closed { (posts : List PostView) × IsClosed desk.old.desk watcher posts desk.new.desk × IsScheduledBy (Close watcher posts) desk.new.desk }
+    ensures log { desk.new.log ≡ desk.old.log }
     ensures memory { IsOkUnless result Fault.NoMemory }
 {
     let posts = closed(rt, desk, watcher);
@@ -141,9 +148,10 @@ fn taken<J: Naming, R: Wait>(
 }
 
 impl<J: Naming> SharedSession<J> {
-    /// A session with no watcher. Memory for its answers will come from `alloc`.
+    /// A session with no watcher, which has seen of the history what its witness has. Memory for its answers will come from
+    /// `alloc`.
     pub fn new(alloc: Global, witness: DeskWitness<J>) -> SharedSession<J>
-        ensures { result ≡ None }
+        ensures { result ≡ new_session witness }
     {
         SharedSession {
             watcher: None,
@@ -152,14 +160,29 @@ impl<J: Naming> SharedSession<J> {
         }
     }
 
+    /// What a session with no watcher has seen of the history.
+    pub fn into_witness(self) -> DeskWitness<J>
+        requires { self.own ≡ None }
+        ensures { result ≡ self.sight }
+    {
+        let SharedSession {
+            watcher: _,
+            witness,
+            alloc: _,
+        } = self;
+        witness
+    }
+
     /// Begins a watcher, and tells what it finds. Where there is no memory to tell it, the watcher is closed again.
     fn begin<R: Wait>(&mut self, rt: &R, desk: &mut Desk<J>, scope: Scope) -> Result<Text, Fault>
-        requires none { self.old ≡ None }
+        requires none { self.old.own ≡ None }
         requires desk { IsDesk desk.old.desk }
         ensures text { IfOk result (λ text. text ≡ opened_text (floor_of_desk desk.old.desk) scope) }
-        ensures begun { OnOk result (IsBegun desk.old.desk scope desk.new.desk self.new) }
+        ensures begun { OnOk result (IsBegun desk.old.desk scope desk.new.desk self.new.own) }
         ensures memory { IsOkUnless result Fault.NoMemory }
-        ensures undone { OnErr result (IsUndoneBy desk.old.desk None (Request.Watch scope) desk.new.desk self.new) }
+        ensures undone { OnErr result (IsUndoneBy desk.old.desk None (Request.Watch scope) desk.new.desk self.new.own) }
+        ensures log { desk.new.log ≡ desk.old.log }
+        ensures sight { self.new.sight ≡ self.old.sight }
     {
         let watcher = match desk.open(scope) {
             Ok(watcher) => watcher,
@@ -181,10 +204,12 @@ impl<J: Naming> SharedSession<J> {
     #[tactic(auto, unfolding(crate::specs::Requests::answer_to))]
     fn watch<R: Wait>(&mut self, rt: &R, desk: &mut Desk<J>, scope: Scope) -> Result<Text, Fault>
         requires { IsDesk desk.old.desk }
-        ensures text { IfOk result (λ text. text ≡ answer_to (found_state desk.old.desk self.old) (Request.Watch scope)) }
-        ensures done { OnOk result (IsDoneBy desk.old.desk self.old (Request.Watch scope) desk.new.desk self.new) }
+        ensures text { IfOk result (λ text. text ≡ answer_to (found_state desk.old.desk self.old.own) (Request.Watch scope)) }
+        ensures done { OnOk result (IsDoneBy desk.old.desk self.old.own (Request.Watch scope) desk.new.desk self.new.own) }
         ensures memory { IsOkUnless result Fault.NoMemory }
-        ensures undone { OnErr result (IsUndoneBy desk.old.desk self.old (Request.Watch scope) desk.new.desk self.new) }
+        ensures undone { OnErr result (IsUndoneBy desk.old.desk self.old.own (Request.Watch scope) desk.new.desk self.new.own) }
+        ensures log { desk.new.log ≡ desk.old.log }
+        ensures sight { self.new.sight ≡ self.old.sight }
     {
         if self.watcher.is_some() {
             return Ok(Text::refusal(Fault::WatcherOpen));
@@ -195,10 +220,12 @@ impl<J: Naming> SharedSession<J> {
     /// Closes the session's watcher, if it has one, and tells what it has not taken.
     #[tactic(auto, unfolding(crate::specs::Requests::answer_to))]
     fn close<R: Wait>(&mut self, rt: &R, desk: &mut Desk<J>) -> Result<Text, Fault>
-        ensures text { IfOk result (λ text. text ≡ answer_to (found_state desk.old.desk self.old) Request.Close) }
-        ensures done { OnOk result (IsDoneBy desk.old.desk self.old Request.Close desk.new.desk self.new) }
+        ensures text { IfOk result (λ text. text ≡ answer_to (found_state desk.old.desk self.old.own) Request.Close) }
+        ensures done { OnOk result (IsDoneBy desk.old.desk self.old.own Request.Close desk.new.desk self.new.own) }
         ensures memory { IsOkUnless result Fault.NoMemory }
-        ensures undone { OnErr result (IsUndoneBy desk.old.desk self.old Request.Close desk.new.desk self.new) }
+        ensures undone { OnErr result (IsUndoneBy desk.old.desk self.old.own Request.Close desk.new.desk self.new.own) }
+        ensures log { desk.new.log ≡ desk.old.log }
+        ensures sight { self.new.sight ≡ self.old.sight }
     {
         match self.watcher.take() {
             Some(watcher) => told_end(rt, self.alloc, desk, watcher),
@@ -207,7 +234,8 @@ impl<J: Naming> SharedSession<J> {
     }
 
     /// Does a request while the desk is held, any but `take` and `follow`, and answers the lines that are sent for it,
-    /// those of a refusal too: `no` and its name.
+    /// those of a refusal too: `no` and its name. A command that is accepted, and a stop, stand in the history then, once
+    /// and as this session's; else the history stays.
     ///
     /// `watch` is refused as `WatcherOpen` where the session has a watcher, else as the desk refuses it; `close` as
     /// `NoWatcher` where it has none.
@@ -223,14 +251,19 @@ impl<J: Naming> SharedSession<J> {
         request: &Request,
     ) -> Result<Text, Fault>
         requires { is_under_lock request.now ≡ true }
-        ensures text { IfOk result (λ text. text ≡ answer_to (found_state desk.old.desk self.old) request.now) }
-        ensures done { OnOk result (IsDoneBy desk.old.desk self.old request.now desk.new.desk self.new) }
+        ensures text { IfOk result (λ text. text ≡ answer_to (found_state desk.old.desk self.old.own) request.now) }
+        ensures done { OnOk result (IsDoneBy desk.old.desk self.old.own request.now desk.new.desk self.new.own) }
+        ensures log { OnOk result (desk.new.log ≡ desk.old.log ++ entries self.old.sight.by (acts_at desk.old.desk request.now)) }
         ensures memory { IsOkUnless result Fault.NoMemory }
-        ensures undone { OnErr result (IsUndoneBy desk.old.desk self.old request.now desk.new.desk self.new) }
+        ensures undone { OnErr result (IsUndoneBy desk.old.desk self.old.own request.now desk.new.desk self.new.own) }
+        ensures unlogged { OnErr result (desk.new.log ≡ desk.old.log) }
 
-        // What is always true of a desk.
-        ensures kept { IsDesk desk.old.desk }
+        // The session has seen the history as it is then; before, a beginning that had all that it did.
+        ensures sight { self.new.sight ≡ record self.old.sight { seen = desk.new.log } }
+        ensures kept { IsAtDesk self.old.sight desk.old.desk desk.old.log }
     {
+        let _held = desk.book();
+        desk.look(&mut self.witness);
         let book = desk.book();
         match request {
             Request::Run(command) => run(rt, desk, &mut self.witness, command),
@@ -252,15 +285,16 @@ impl<J: Naming> SharedSession<J> {
     /// Refused as `NoWatcher` where the session has none, with nothing changed, and as `NoMemory`, where the posts that
     /// were taken are lost. It may wait for a step of the thread that sends.
     pub fn pops<R: Wait>(&mut self, rt: &R, most: u64) -> Result<PrintedPosts, Fault>
-        ensures popped { IfOk result (λ printed. ForSome self.old (λ (w : WatcherView). HasPopped w most printed self.new)) }
-        ensures watched { OnOk result (IsSome self.old) }
-        ensures refused { IfErr result (λ fault. fault ≢ Fault.NoMemory → (fault ≡ Fault.NoWatcher) × (self.old ≡ None) × (self.new ≡ None)) }
-        ensures lost { result ≡ Err Fault.NoMemory → ForSome self.old (λ (w : WatcherView). (posts : List PostView) × (w' : WatcherView) × HasTaken w posts w' × (self.new ≡ Some w') × (length posts ≤ most)) }
-        ensures refuses { self.old ≡ None → result ≡ Err Fault.NoWatcher }
-        ensures watcher { KeepsWatcher self.old self.new }
+        ensures popped { IfOk result (λ printed. ForSome self.old.own (λ (w : WatcherView). HasPopped w most printed self.new.own)) }
+        ensures watched { OnOk result (IsSome self.old.own) }
+        ensures refused { IfErr result (λ fault. fault ≢ Fault.NoMemory → (fault ≡ Fault.NoWatcher) × (self.old.own ≡ None) × (self.new.own ≡ None)) }
+        ensures lost { result ≡ Err Fault.NoMemory → ForSome self.old.own (λ (w : WatcherView). (posts : List PostView) × (w' : WatcherView) × HasTaken w posts w' × (self.new.own ≡ Some w') × (length posts ≤ most)) }
+        ensures refuses { self.old.own ≡ None → result ≡ Err Fault.NoWatcher }
+        ensures watcher { KeepsWatcher self.old.own self.new.own }
+        ensures sight { self.new.sight ≡ self.old.sight }
 
         // What is always true of the session's watcher.
-        ensures running { ForSome self.old (λ (w : WatcherView). IsRun w.half.opening w.half.taken) }
+        ensures running { ForSome self.old.own (λ (w : WatcherView). IsRun w.half.opening w.half.taken) }
     {
         let Some(watcher) = &mut self.watcher else {
             return Err(Fault::NoWatcher);
@@ -271,13 +305,16 @@ impl<J: Naming> SharedSession<J> {
     /// How many posts were sent to the session's watcher, how many of them it has taken, and whether it is still posted
     /// to; none where the session has no watcher. Takes no memory, and waits for nothing.
     pub fn meet(&mut self, desk: &mut Desk<J>) -> Option<Meeting>
-        ensures none { self.old ≡ None → (result ≡ None) × (self.new ≡ None) × (desk.new ≡ desk.old) }
-        ensures met { ForSome self.old (λ (w : WatcherView). (m : Meeting) × (w' : WatcherView) × IsMet desk.old.desk w m desk.new.desk w' × (result ≡ Some m) × (self.new ≡ Some w') × IsScheduledBy (Meet w m w') desk.new.desk) }
+        ensures none { self.old.own ≡ None → (result ≡ None) × (self.new.own ≡ None) × (desk.new ≡ desk.old) }
+        ensures met { ForSome self.old.own (λ (w : WatcherView). (m : Meeting) × (w' : WatcherView) × IsMet desk.old.desk w m desk.new.desk w' × (result ≡ Some m) × (self.new.own ≡ Some w') × IsScheduledBy (Meet w m w') desk.new.desk) }
+        ensures log { desk.new.log ≡ desk.old.log }
 
-        // What is always true of a desk.
-        ensures kept { IsDesk desk.old.desk }
+        // The session has seen the history as it is then; before, a beginning that had all that it did.
+        ensures sight { self.new.sight ≡ record self.old.sight { seen = desk.old.log } }
+        ensures kept { IsAtDesk self.old.sight desk.old.desk desk.old.log }
     {
         let _book = desk.book();
+        desk.look(&mut self.witness);
         match &mut self.watcher {
             Some(watcher) => Some(met(desk, watcher)),
             None => None,
@@ -287,13 +324,16 @@ impl<J: Naming> SharedSession<J> {
     /// Ends the session's watcher, if it has one, and hands out what was sent to it and not taken. Takes no memory. It may
     /// wait, as each call on a queue may.
     pub fn end<R: Wait>(&mut self, rt: &R, desk: &mut Desk<J>) -> Option<SharedPosts>
-        ensures none { self.new ≡ None }
-        ensures ended { HasEnded desk.old.desk self.old result desk.new.desk }
+        ensures none { self.new.own ≡ None }
+        ensures ended { HasEnded desk.old.desk self.old.own result desk.new.desk }
+        ensures log { desk.new.log ≡ desk.old.log }
 
-        // What is always true of a desk.
-        ensures kept { IsDesk desk.old.desk }
+        // The session has seen the history as it is then; before, a beginning that had all that it did.
+        ensures sight { self.new.sight ≡ record self.old.sight { seen = desk.old.log } }
+        ensures kept { IsAtDesk self.old.sight desk.old.desk desk.old.log }
     {
         let _book = desk.book();
+        desk.look(&mut self.witness);
         match self.watcher.take() {
             Some(watcher) => Some(closed(rt, desk, watcher)),
             None => None,

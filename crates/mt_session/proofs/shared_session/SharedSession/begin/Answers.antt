@@ -19,4 +19,4 @@ returns-in-Ok-opening-clause-begun g c =
 pub returns-in-Err-opening-clause-undone : goal.returns-in-Err-opening-clause-undone
 returns-in-Err-opening-clause-undone g c =
     let e = c.in-Ok.ensures in
-    watch_undone c.args.desk.now.desk c.open.new.self.desk c.closed.new.desk.desk c.args.self.now c.args.scope c.in-Ok.watcher c.closed.result c.requires.none c.requires.desk e.done (ap (λ (v : HeldView). v.desk) e.desk) e.key e.begins c.closed.ensures.closed
+    watch_undone c.args.desk.now.desk c.open.new.self.desk c.closed.new.desk.desk c.args.self.now.own c.args.scope c.in-Ok.watcher c.closed.result c.requires.none c.requires.desk e.done (ap (λ (v : HeldView). v.desk) e.desk) e.key e.begins c.closed.ensures.closed
