@@ -1,0 +1,17 @@
+//! Lines of mount(8), umount(8), unshare(1), nsenter(1) and pivot_root(8), as people write them, and what they ask for.
+//!
+//! [`line::read_line`] makes a [`form::Form`] of the words of a line, or says which [`slip::Slip`] is in it, and
+//! [`script::script_of`] writes what it asks for as lines of a session. [`split::split_line`] makes words of a text, as a
+//! shell does.
+//!
+//! The words behind a program are read by its table of options ([`table`]), one after another ([`reading`]), into what is
+//! given ([`given`]); the list of `-o` has a table of its own ([`listed`]), and so have first words ([`command`]).
+//! [`attribute`] has what is said of attributes.
+#![tactic(auto)]
+
+pub mod attribute;
+pub mod command;
+pub mod form;
+pub mod slip;
+mod table;
+pub mod word;
