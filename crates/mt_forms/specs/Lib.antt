@@ -4,3 +4,6 @@ pub mod Attributes
 pub mod Beginnings
 pub mod Effects
 pub mod Tables
+pub mod ListedWords
+pub mod Given
+pub mod Reading

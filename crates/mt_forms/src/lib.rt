@@ -12,6 +12,9 @@
 pub mod attribute;
 pub mod command;
 pub mod form;
+mod given;
+mod listed;
+mod reading;
 pub mod slip;
 mod table;
 pub mod word;

@@ -89,49 +89,49 @@ impl OptionRow {
 }
 
 /// One mount is made shared.
-const SHARED: Propagation = Propagation {
+pub(crate) const SHARED: Propagation = Propagation {
     kind: Kind::Shared,
     recursive: false,
 };
 
 /// A mount and all below it are made shared.
-const ALL_SHARED: Propagation = Propagation {
+pub(crate) const ALL_SHARED: Propagation = Propagation {
     kind: Kind::Shared,
     recursive: true,
 };
 
 /// One mount is made slave.
-const SLAVE: Propagation = Propagation {
+pub(crate) const SLAVE: Propagation = Propagation {
     kind: Kind::Slave,
     recursive: false,
 };
 
 /// A mount and all below it are made slave.
-const ALL_SLAVE: Propagation = Propagation {
+pub(crate) const ALL_SLAVE: Propagation = Propagation {
     kind: Kind::Slave,
     recursive: true,
 };
 
 /// One mount is made private.
-const PRIVATE: Propagation = Propagation {
+pub(crate) const PRIVATE: Propagation = Propagation {
     kind: Kind::Private,
     recursive: false,
 };
 
 /// A mount and all below it are made private.
-const ALL_PRIVATE: Propagation = Propagation {
+pub(crate) const ALL_PRIVATE: Propagation = Propagation {
     kind: Kind::Private,
     recursive: true,
 };
 
 /// One mount is made unbindable.
-const UNBINDABLE: Propagation = Propagation {
+pub(crate) const UNBINDABLE: Propagation = Propagation {
     kind: Kind::Unbindable,
     recursive: false,
 };
 
 /// A mount and all below it are made unbindable.
-const ALL_UNBINDABLE: Propagation = Propagation {
+pub(crate) const ALL_UNBINDABLE: Propagation = Propagation {
     kind: Kind::Unbindable,
     recursive: true,
 };

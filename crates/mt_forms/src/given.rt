@@ -1,0 +1,373 @@
+//! What the words behind a program give.
+ghost use Rattle.std.specs.Prelude.{◌≡◌, true, cond, fold};
+ghost use Rattle.mt_lines.specs.Words.{pieces};
+ghost use Rattle.mt_forms.specs.Attributes.{turned_all};
+ghost use Rattle.mt_forms.specs.Given.{nothing_given, is_same_change, placed, slipped, with_said, with_change, with_propagation, with_foreign, with_listed, with_list, with_spread, with_option, with_value, with_plain, users, owners};
+
+use crate::attribute::{Attribute, Said};
+use crate::command::Program;
+use crate::form::{Kind, Propagation, Reach};
+use crate::listed::{Listed, listed_of};
+use crate::slip::Slip;
+use crate::table::{Change, Means};
+use crate::word::Word;
+use mt_lines::words::Pieces;
+
+/// The words that are no options, the first ones.
+#[derive(Drop)]
+pub(crate) enum Places<'a> {
+    None,
+    One(Word<'a>),
+    Two(Word<'a>, Word<'a>),
+    /// More than two.
+    Many,
+}
+
+impl<'a> Places<'a> {
+    /// These words, and one behind them.
+    pub(crate) fn with(self, word: Word<'a>) -> Places<'a>
+        ensures { result ≡ placed self.entry word.entry }
+    {
+        match self {
+            Places::None => Places::One(word),
+            Places::One(first) => Places::Two(first, word),
+            Places::Two(_first, _second) => Places::Many,
+            Places::Many => Places::Many,
+        }
+    }
+}
+
+/// What the words behind a program give, as far as they are read.
+#[derive(Drop)]
+pub(crate) struct Given<'a> {
+    /// What the option means whose value is the next word.
+    pub(crate) waiting: Option<Means>,
+    /// Whether `--` has come, behind which no word is an option.
+    pub(crate) has_ended: bool,
+    /// Bind, rbind or move.
+    pub(crate) change: Option<Change>,
+    /// Whether a mount that is there gets other attributes.
+    pub(crate) remounts: bool,
+    /// The propagation.
+    pub(crate) propagation: Option<Propagation>,
+    /// Whether the propagation of a new namespace's mounts stays as it is.
+    pub(crate) is_unchanged: bool,
+    /// What is said of attributes.
+    pub(crate) said: Said,
+    /// Whether there was a list of options, or one in its place.
+    pub(crate) has_list: bool,
+    /// The type of the filesystem.
+    pub(crate) kind: Option<Word<'a>>,
+    /// The namespace.
+    pub(crate) space: Option<Word<'a>>,
+    /// The source that an option names.
+    pub(crate) source: Option<Word<'a>>,
+    /// The target that an option names.
+    pub(crate) target: Option<Word<'a>>,
+    /// The words that are no options.
+    pub(crate) places: Places<'a>,
+    /// Whether mount namespaces are meant.
+    pub(crate) has_mounts: bool,
+    /// Whether busy mounts are unmounted too.
+    pub(crate) is_lazy: bool,
+    /// Which mounts are unmounted.
+    pub(crate) reach: Reach,
+    /// Whether an unmount is forced.
+    pub(crate) is_forced: bool,
+    /// Whether a user namespace is made.
+    pub(crate) is_less: bool,
+    /// The first option of a filesystem.
+    pub(crate) foreign: Option<Word<'a>>,
+    /// Whether there are more.
+    pub(crate) has_more_foreign: bool,
+    /// What is wrong, the first thing.
+    pub(crate) slip: Option<Slip<'a>>,
+}
+
+/// What is given where nothing is read.
+pub(crate) fn nothing_given<'a>() -> Given<'a>
+    ensures { result ≡ nothing_given }
+{
+    Given {
+        waiting: None,
+        has_ended: false,
+        change: None,
+        remounts: false,
+        propagation: None,
+        is_unchanged: false,
+        said: Said::nothing(),
+        has_list: false,
+        kind: None,
+        space: None,
+        source: None,
+        target: None,
+        places: Places::None,
+        has_mounts: false,
+        is_lazy: false,
+        reach: Reach::One,
+        is_forced: false,
+        is_less: false,
+        foreign: None,
+        has_more_foreign: false,
+        slip: None,
+    }
+}
+
+/// Whether two changes are the same.
+fn is_same_change(one: Change, other: Change) -> bool
+    ensures { result ≡ is_same_change one other }
+{
+    match (one, other) {
+        (Change::Bind, Change::Bind) => true,
+        (Change::Rbind, Change::Rbind) => true,
+        (Change::Move, Change::Move) => true,
+        _ => false,
+    }
+}
+
+impl<'a> Given<'a> {
+    /// The same, where something is wrong.
+    pub(crate) fn slipped(self, slip: Slip<'a>) -> Given<'a>
+        ensures { result ≡ slipped slip.entry self.entry }
+    {
+        if self.slip.is_some() {
+            return self;
+        }
+        Given {
+            slip: Some(slip),
+            ..self
+        }
+    }
+
+    /// The same, where more is said of attributes.
+    fn with_said(self, said: Said) -> Given<'a>
+        ensures { result ≡ with_said said self.entry }
+    {
+        Given {
+            said,
+            has_list: true,
+            ..self
+        }
+    }
+
+    /// The same, with one change, which is no second one.
+    fn with_change(self, change: Change) -> Given<'a>
+        ensures { result ≡ with_change change self.entry }
+    {
+        match self.change {
+            None => Given {
+                change: Some(change),
+                ..self
+            },
+            Some(first) => {
+                if is_same_change(first, change) {
+                    self
+                } else {
+                    self.slipped(Slip::TwoChanges)
+                }
+            }
+        }
+    }
+
+    /// The same, with one propagation, which is no second one.
+    fn with_propagation(self, propagation: Propagation) -> Given<'a>
+        ensures { result ≡ with_propagation propagation self.entry }
+    {
+        match self.propagation {
+            None => Given {
+                propagation: Some(propagation),
+                ..self
+            },
+            Some(_) => self.slipped(Slip::TwoPropagations),
+        }
+    }
+
+    /// The same, with an option of a filesystem.
+    fn with_foreign(self, word: &'a [u8]) -> Given<'a>
+        ensures { result ≡ with_foreign word.entry.now self.entry }
+    {
+        if self.foreign.is_some() {
+            return Given {
+                has_more_foreign: true,
+                ..self
+            };
+        }
+        Given {
+            foreign: Some(Word::new(word)),
+            ..self
+        }
+    }
+
+    /// The same, with a word of the list of `-o`.
+    fn with_listed(self, word: &'a [u8]) -> Given<'a>
+        ensures { result ≡ with_listed self.entry word.entry.now }
+    {
+        let Some(listed) = listed_of(word) else {
+            return self.with_foreign(word);
+        };
+        match listed {
+            Listed::Turns(attribute, on) => {
+                let said = self.said.turned(attribute, on);
+                self.with_said(said)
+            }
+            Listed::Users => {
+                let said = self.said.turned_all(&[
+                    Attribute::Nosuid,
+                    Attribute::Nodev,
+                    Attribute::Noexec,
+                ]);
+                self.with_said(said)
+            }
+            Listed::Owners => {
+                let said = self.said.turned_all(&[Attribute::Nosuid, Attribute::Nodev]);
+                self.with_said(said)
+            }
+            Listed::Changes(change) => self.with_change(change),
+            Listed::Remounts => Given {
+                remounts: true,
+                ..self
+            },
+            Listed::Makes(propagation) => self.with_propagation(propagation),
+            Listed::Unseen => self,
+        }
+    }
+
+    /// The same, with a list of options.
+    #[tactic(auto, unfolding(crate::specs::Given::with_list))]
+    fn with_list(self, list: &'a [u8]) -> Given<'a>
+        ensures { result ≡ with_list list.entry.now self.entry }
+    {
+        let mut given = Given {
+            has_list: true,
+            ..self
+        };
+        let mut words = Pieces::new(b',', list);
+        'words: while let Some(word) = words.next() {
+            given = given.with_listed(word);
+        }
+        given
+    }
+
+    /// The same, with what the mounts of a new namespace are made.
+    fn with_spread(self, word: &'a [u8]) -> Given<'a>
+        ensures { result ≡ with_spread word.entry.now self.entry }
+    {
+        let kind = if word == b"shared".as_slice() {
+            Kind::Shared
+        } else if word == b"private".as_slice() {
+            Kind::Private
+        } else if word == b"slave".as_slice() {
+            Kind::Slave
+        } else if word == b"unchanged".as_slice() {
+            return Given {
+                is_unchanged: true,
+                ..self
+            };
+        } else {
+            return self.slipped(Slip::NoKind {
+                word: Word::new(word),
+            });
+        };
+        Given {
+            propagation: Some(Propagation {
+                kind,
+                recursive: true,
+            }),
+            ..self
+        }
+    }
+
+    /// The same, with an option that has no value.
+    pub(crate) fn with_option(self, program: Program, means: Means) -> Given<'a>
+        ensures { result ≡ with_option program means self.entry }
+    {
+        match means {
+            Means::Changes(change) => self.with_change(change),
+            Means::Makes(propagation) => self.with_propagation(propagation),
+            Means::Turns(attribute, on) => {
+                let said = self.said.turned(attribute, on);
+                self.with_said(said)
+            }
+            Means::Mounts => Given {
+                has_mounts: true,
+                ..self
+            },
+            Means::Lazy => Given {
+                is_lazy: true,
+                ..self
+            },
+            Means::Reaches(reach) => Given { reach, ..self },
+            Means::Forced => Given {
+                is_forced: true,
+                ..self
+            },
+            Means::Less => Given {
+                is_less: true,
+                ..self
+            },
+            Means::Fstab => self.slipped(Slip::Fstab { program }),
+            Means::Options
+            | Means::FilesystemType
+            | Means::Source
+            | Means::Target
+            | Means::Space
+            | Means::Spread
+            | Means::Unseen => self,
+        }
+    }
+
+    /// The same, with an option and its value.
+    pub(crate) fn with_value(
+        self,
+        program: Program,
+        means: Means,
+        value: &'a [u8],
+    ) -> Given<'a>
+        ensures { result ≡ with_value program means value.entry.now self.entry }
+    {
+        match means {
+            Means::Options => self.with_list(value),
+            Means::FilesystemType => Given {
+                kind: Some(Word::new(value)),
+                ..self
+            },
+            Means::Source => Given {
+                source: Some(Word::new(value)),
+                ..self
+            },
+            Means::Target => Given {
+                target: Some(Word::new(value)),
+                ..self
+            },
+            Means::Space => Given {
+                space: Some(Word::new(value)),
+                ..self
+            },
+            Means::Mounts => Given {
+                has_mounts: true,
+                space: Some(Word::new(value)),
+                ..self
+            },
+            Means::Spread => self.with_spread(value),
+            Means::Changes(_)
+            | Means::Makes(_)
+            | Means::Turns(_, _)
+            | Means::Lazy
+            | Means::Reaches(_)
+            | Means::Forced
+            | Means::Less
+            | Means::Fstab
+            | Means::Unseen => self.with_option(program, means),
+        }
+    }
+
+    /// The same, with a word that is no option.
+    pub(crate) fn with_plain(self, word: &'a [u8]) -> Given<'a>
+        ensures { result ≡ with_plain word.entry.now self.entry }
+    {
+        Given {
+            places: self.places.with(Word::new(word)),
+            ..self
+        }
+    }
+}
