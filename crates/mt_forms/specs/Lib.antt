@@ -7,3 +7,8 @@ pub mod Tables
 pub mod ListedWords
 pub mod Given
 pub mod Reading
+pub mod Forms
+pub mod Lines
+pub mod Settings
+pub mod Scripts
+pub mod Splitting

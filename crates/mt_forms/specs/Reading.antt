@@ -1,8 +1,8 @@
 -- The words behind a program, as its table of options reads them (getopt_long(3)).
 -- A word with no source is this project's rule.
-use Rattle.std.specs.Prelude.{ℕ, ◌+◌, Bool, true, false, not, ◌==◌, ◌&&◌, ◌||◌, List, [], ◌∷◌, take, drop, fold, position, Option, None, Some, is_none, if◌then◌else◌, codes}
-use Rattle.std.specs.Option.{option_map, option_map_or}
+use Rattle.std.specs.Prelude.{ℕ, ◌+◌, Bool, true, false, not, nat_lt, ◌&&◌, ◌||◌, List, [], ◌∷◌, length, drop, fold, Option, None, Some, is_none, if◌then◌else◌, codes}
 use Rattle.std.specs.Str.{bytes_eq}
+use Rattle.mt_lines.specs.Words.{pieces}
 use Rattle.mt_forms.specs.Written.{begins_with}
 use Rattle.mt_forms.specs.Tables.{option_of_letter, option_of_name}
 use Rattle.mt_forms.specs.Given.{nothing_given, slipped, with_option, with_value, with_plain}
@@ -19,14 +19,15 @@ abbrev pub is_plain : List ℕ → Bool
 is_plain word = not (begins_with (codes "-") word) || bytes_eq word (codes "-")
 
 -- the name of an option in front of the first `=`, and the value behind it
-abbrev pub equals_at : List ℕ → Option ℕ
-equals_at option = position (λ b. b == 61) option
+abbrev pub first_of : List (List ℕ) → List ℕ
+first_of [] = []
+first_of (piece ∷ pieces) = piece
 
 abbrev pub name_in : List ℕ → List ℕ
-name_in option = option_map_or (λ k. take k option) (equals_at option) option
+name_in option = first_of (pieces 61 option)
 
 abbrev pub value_in : List ℕ → Option (List ℕ)
-value_in option = option_map (λ k. drop (k + 1) option) (equals_at option)
+value_in option = if nat_lt (length (name_in option)) (length option) then Some (drop (length (name_in option) + 1) option) else None
 
 -- a value has to stand behind it
 abbrev pub takes_value : Takes → Bool
@@ -66,13 +67,15 @@ by_name (Some effect) value program word g = by_takes effect.takes effect.means 
 abbrev pub with_name : Program → List ℕ → List ℕ → Given → Given
 with_name program word option g = by_name (option_of_name program (name_in option)) (value_in option) program word g
 
+-- an option with a name, or several of one letter each
+abbrev pub with_dashed : Program → List ℕ → Given → Given
+with_dashed program word g = if begins_with (codes "--") word then with_name program word (drop 2 word) g else with_letters program word (drop 1 word) g
+
 -- a word where no value is waited for: behind `--` none is an option
 abbrev pub with_free_word : Program → Given → List ℕ → Given
 with_free_word program g word =
     if g.has_ended || is_plain word then with_plain word g
-    else (if bytes_eq word (codes "--") then record g { has_ended = true }
-    else (if begins_with (codes "--") word then with_name program word (drop 2 word) g
-    else with_letters program word (drop 1 word) g))
+    else (if bytes_eq word (codes "--") then record g { has_ended = true } else with_dashed program word g)
 
 -- a word, which is the value of the option in front of it where that waits for one
 abbrev pub by_waiting : Option Means → Program → Given → List ℕ → Given

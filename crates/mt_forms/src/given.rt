@@ -234,7 +234,7 @@ impl<'a> Given<'a> {
 
     /// The same, with a list of options.
     #[tactic(auto, unfolding(crate::specs::Given::with_list))]
-    fn with_list(self, list: &'a [u8]) -> Given<'a>
+    pub(crate) fn with_list(self, list: &'a [u8]) -> Given<'a>
         ensures { result ≡ with_list list.entry.now self.entry }
     {
         let mut given = Given {

@@ -6,15 +6,22 @@
 //!
 //! The words behind a program are read by its table of options ([`table`]), one after another ([`reading`]), into what is
 //! given ([`given`]); the list of `-o` has a table of its own ([`listed`]), and so have first words ([`command`]).
-//! [`attribute`] has what is said of attributes.
+//! [`attribute`] has what is said of attributes, and [`setting`] what a line does to those of a mount. [`nearest`] finds the
+//! word that was meant.
 #![tactic(auto)]
 
 pub mod attribute;
 pub mod command;
 pub mod form;
+mod forms;
 mod given;
+pub mod line;
 mod listed;
+pub mod nearest;
 mod reading;
+pub mod script;
+pub mod setting;
 pub mod slip;
+pub mod split;
 mod table;
 pub mod word;

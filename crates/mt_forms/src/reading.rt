@@ -1,17 +1,14 @@
 //! The words behind a program, read by its table of options, as getopt_long(3) reads them.
-ghost use Rattle.std.specs.Prelude.{◌≡◌, ◌==◌, ◌+◌, ◌&&◌, ◌||◌, not, cond, nat_eq, codes, is_none, fold, position, take, drop};
-ghost use Rattle.std.specs.List.{starts_with};
-ghost use Rattle.std.specs.Option.{option_copied, option_map, option_map_or};
-ghost use Rattle.std.specs.Str.{bytes_eq};
-ghost use Rattle.mt_forms.specs.Given.{nothing_given};
-ghost use Rattle.mt_forms.specs.Reading.{is_plain, name_in, value_in, takes_value, value_behind, by_takes, with_letters, with_name, with_word, begins_command, given_of};
+ghost use Rattle.std.specs.Prelude.{◌≡◌, fold};
+ghost use Rattle.std.specs.Option.{option_copied};
+ghost use Rattle.mt_forms.specs.Reading.{is_plain, name_in, value_in, takes_value, value_behind, by_takes, with_letters, with_name, with_dashed, with_free_word, with_word, begins_command, given_of};
 
 use crate::command::Program;
 use crate::given::{Given, nothing_given};
 use crate::slip::Slip;
 use crate::table::{Means, Takes, option_of_letter, option_of_name};
 use crate::word::Word;
-use mt_lines::words::Words;
+use mt_lines::words::{Pieces, Words};
 
 /// Whether a word is no option where options may stand. A dash alone is none.
 fn is_plain(word: &[u8]) -> bool
@@ -24,9 +21,9 @@ fn is_plain(word: &[u8]) -> bool
 fn name_in(option: &[u8]) -> &[u8]
     ensures { result.now ≡ name_in option.now }
 {
-    match option.iter().position(|byte| *byte == b'=') {
-        Some(place) => &option[..place],
-        None => option,
+    match Pieces::new(b'=', option).next() {
+        Some(name) => name,
+        None => &[],
     }
 }
 
@@ -34,9 +31,12 @@ fn name_in(option: &[u8]) -> &[u8]
 fn value_in(option: &[u8]) -> Option<&[u8]>
     ensures { option_copied result ≡ value_in option.now }
 {
-    match option.iter().position(|byte| *byte == b'=') {
-        Some(place) => Some(&option[place + 1..]),
-        None => None,
+    let name = name_in(option);
+    if name.len() < option.len() {
+        let (_name, value) = option.split_at(name.len() + 1);
+        Some(value)
+    } else {
+        None
     }
 }
 
@@ -132,17 +132,23 @@ impl<'a> Given<'a> {
         )
     }
 
-    /// The same, with one word more.
-    pub(crate) fn with_word(self, program: Program, word: &'a [u8]) -> Given<'a>
-        ensures { result ≡ with_word program self.entry word.entry.now }
+    /// The same, with an option, or with several of one letter each.
+    fn with_dashed(self, program: Program, word: &'a [u8]) -> Given<'a>
+        ensures { result ≡ with_dashed program word.entry.now self.entry }
     {
-        if let Some(means) = self.waiting {
-            let given = Given {
-                waiting: None,
-                ..self
-            };
-            return given.with_value(program, means, word);
+        if let Some(option) = word.strip_prefix(b"--") {
+            return self.with_name(program, word, option);
         }
+        match word.split_first() {
+            Some((_dash, letters)) => self.with_letters(program, word, letters),
+            None => self,
+        }
+    }
+
+    /// The same, with a word that is not the value of the option in front of it.
+    fn with_free_word(self, program: Program, word: &'a [u8]) -> Given<'a>
+        ensures { result ≡ with_free_word program self.entry word.entry.now }
+    {
         if self.has_ended || is_plain(word) {
             return self.with_plain(word);
         }
@@ -152,10 +158,33 @@ impl<'a> Given<'a> {
                 ..self
             };
         }
-        match word.strip_prefix(b"--") {
-            Some(option) => self.with_name(program, word, option),
-            None => self.with_letters(program, word, &word[1..]),
+        self.with_dashed(program, word)
+    }
+
+    /// The same, with one word more.
+    pub(crate) fn with_word(self, program: Program, word: &'a [u8]) -> Given<'a>
+        ensures { result ≡ with_word program self.entry word.entry.now }
+    {
+        let Some(means) = self.waiting else {
+            return self.with_free_word(program, word);
+        };
+        let given = Given {
+            waiting: None,
+            ..self
+        };
+        given.with_value(program, means, word)
+    }
+
+    /// The same, with these words.
+    pub(crate) fn with_words(self, program: Program, words: Words<'a>) -> Given<'a>
+        ensures { result ≡ fold (with_word program) self.entry words.entry }
+    {
+        let mut given = self;
+        let mut words = words;
+        'words: while let Some(word) = words.next() {
+            given = given.with_word(program, word);
         }
+        given
     }
 
     /// Whether a word is none of the options in front of a command, nor a value of one.
@@ -171,10 +200,5 @@ impl<'a> Given<'a> {
 pub(crate) fn given_of<'a>(program: Program, words: Words<'a>) -> Given<'a>
     ensures { result ≡ given_of program words.entry }
 {
-    let mut given = nothing_given();
-    let mut words = words;
-    'words: while let Some(word) = words.next() {
-        given = given.with_word(program, word);
-    }
-    given
+    nothing_given().with_words(program, words)
 }

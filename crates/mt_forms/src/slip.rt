@@ -2,6 +2,9 @@
 
 use crate::command::Program;
 use crate::word::Word;
+use mt_terminal::message::Shown;
+use std::fmt;
+use std::fmt::{Display, Formatter};
 
 /// What is wrong with a line. Words are as the line has them.
 #[derive(Drop)]
@@ -46,4 +49,92 @@ pub enum Slip<'a> {
     NoMounts { program: Program },
     /// `nsenter` without a line.
     NoLine,
+}
+
+/// A word, as a terminal is given it.
+fn shown<'a>(word: &Word<'a>) -> Shown<'a> {
+    Shown(word.bytes())
+}
+
+impl<'a> Slip<'a> {
+    /// Writes what is wrong with an option, or with a path.
+    fn write_word<W: fmt::Write>(&self, f: &mut Formatter<W>) -> fmt::Result {
+        match self {
+            Slip::NoOption { program, word } => {
+                write!(f, "{} has no {} here", program.name(), shown(word))
+            }
+            Slip::NoneTaken { program, word } => {
+                write!(f, "{}: {} takes no value", shown(word), program.name())
+            }
+            Slip::NotRooted { word } => write!(
+                f,
+                "{} is no path from the root: a path begins with /",
+                shown(word)
+            ),
+            Slip::Dots { word } => {
+                write!(f, "{} has . or ..: write the path out", shown(word))
+            }
+            Slip::Alone { word } => write!(
+                f,
+                "mount {} alone: no fstab is read; name the source too",
+                shown(word)
+            ),
+            Slip::NoKind { word } => write!(
+                f,
+                "{}: --propagation takes private, shared, slave or unchanged",
+                shown(word)
+            ),
+            _ => self.write_program(f),
+        }
+    }
+
+    /// Writes what is wrong with a line of a program.
+    fn write_program<W: fmt::Write>(&self, f: &mut Formatter<W>) -> fmt::Result {
+        match self {
+            Slip::NoValue { program } => write!(
+                f,
+                "{}: a value is missing behind the last option",
+                program.name()
+            ),
+            Slip::NoTarget { program } => {
+                write!(f, "{} without a target changes nothing", program.name())
+            }
+            Slip::Many { program } => write!(
+                f,
+                "{} has too many words: name one target a line",
+                program.name()
+            ),
+            Slip::OnePath { program } => write!(f, "{} takes two paths here", program.name()),
+            Slip::Fstab { program } => write!(
+                f,
+                "{}: no fstab is read; name source and target of one mount",
+                program.name()
+            ),
+            Slip::NoMounts { program } => write!(
+                f,
+                "{} is of a mount namespace with -m alone",
+                program.name()
+            ),
+            Slip::WholeRemount => {
+                f.write_str("mount -o remount without bind changes the filesystem itself, for all its mounts; -o remount,bind,.. changes this mount")
+            }
+            Slip::TwoChanges => f.write_str("bind, rbind and move are three lines"),
+            Slip::TwoPropagations => {
+                f.write_str("a line makes a mount one thing; the next one is a line of its own")
+            }
+            Slip::NoProcess => f.write_str("nsenter takes -t and a process"),
+            _ => f.write_str("nsenter takes a command behind its options"),
+        }
+    }
+}
+
+impl<'a> Display for Slip<'a> {
+    fn fmt<W: fmt::Write>(&self, f: &mut Formatter<W>) -> fmt::Result {
+        match self {
+            Slip::Empty => f.write_str("the line has no words"),
+            Slip::Unknown { word } => write!(f, "no line begins with {}", shown(word)),
+            Slip::NoChange { word } => write!(f, "{} changes nothing", shown(word)),
+            _ => self.write_word(f),
+        }
+    }
 }

@@ -1,6 +1,6 @@
 use Rattle.std.proofs.Common.{◌≡◌, length}
 use Rattle.mt_forms.specs.Reading.{with_letters}
-use Rattle.mt_forms.proofs.reading.Given.with_letters.Given as goal
+use Rattle.mt_forms.proofs.given.Given.with_letters.Given as goal
 
 abbrev pub invariant-letters : goal.invariant-letters
 invariant-letters l =

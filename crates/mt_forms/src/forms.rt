@@ -1,0 +1,336 @@
+//! What a line asks for, by its program and what its words give.
+ghost use Rattle.std.specs.Prelude.{◌≡◌};
+ghost use Rattle.mt_forms.specs.Forms.{path_slip, two_slip, in_front, behind, moved_form, change_form, remount_form, alone_form, new_form, mount_form, umount_form, spread, unshare_form, pivot_form, form_by};
+
+use crate::attribute::Said;
+use crate::command::Program;
+use crate::form::{Form, Kind, Propagation};
+use crate::given::{Given, Places};
+use crate::slip::Slip;
+use crate::table::Change;
+use crate::word::{Word, has_dots, is_rooted};
+
+/// Why a word is no path from the root, if it is none.
+fn path_slip<'a>(word: &Word<'a>) -> Option<Slip<'a>>
+    ensures { result ≡ path_slip word.entry.now }
+{
+    let path = word.bytes();
+    if !is_rooted(path) {
+        return Some(Slip::NotRooted {
+            word: Word::new(path),
+        });
+    }
+    if has_dots(path) {
+        return Some(Slip::Dots {
+            word: Word::new(path),
+        });
+    }
+    None
+}
+
+/// Why one of two words is no path from the root, the first of those that are none.
+fn two_slip<'a>(first: &Word<'a>, second: &Word<'a>) -> Option<Slip<'a>>
+    ensures { result ≡ two_slip first.entry.now second.entry.now }
+{
+    match path_slip(first) {
+        Some(slip) => Some(slip),
+        None => path_slip(second),
+    }
+}
+
+/// These words, and one in front of them, if there is one.
+fn in_front<'a>(word: Option<Word<'a>>, places: Places<'a>) -> Places<'a>
+    ensures { result ≡ in_front word.entry places.entry }
+{
+    let Some(word) = word else {
+        return places;
+    };
+    match places {
+        Places::None => Places::One(word),
+        Places::One(first) => Places::Two(word, first),
+        Places::Two(_first, _second) => Places::Many,
+        Places::Many => Places::Many,
+    }
+}
+
+/// These words, and one behind them, if there is one.
+fn behind<'a>(places: Places<'a>, word: Option<Word<'a>>) -> Places<'a>
+    ensures { result ≡ behind places.entry word.entry }
+{
+    match word {
+        Some(word) => places.with(word),
+        None => places,
+    }
+}
+
+/// What a bind, rbind or move of two paths asks for.
+fn moved_form<'a>(
+    change: Change,
+    said: Said,
+    propagation: Option<Propagation>,
+    from: Word<'a>,
+    to: Word<'a>,
+) -> Form<'a>
+    ensures { result ≡ moved_form change said propagation from.entry to.entry }
+{
+    match change {
+        Change::Bind => Form::Bind {
+            from,
+            to,
+            recursive: false,
+            said,
+            propagation,
+        },
+        Change::Rbind => Form::Bind {
+            from,
+            to,
+            recursive: true,
+            said,
+            propagation,
+        },
+        Change::Move => Form::Move {
+            from,
+            to,
+            propagation,
+        },
+    }
+}
+
+/// What a bind, rbind or move asks for.
+fn change_form<'a>(
+    change: Change,
+    said: Said,
+    propagation: Option<Propagation>,
+    places: Places<'a>,
+) -> Result<Form<'a>, Slip<'a>>
+    ensures { result ≡ change_form change said propagation places.entry }
+{
+    match places {
+        Places::None => Err(Slip::NoTarget {
+            program: Program::Mount,
+        }),
+        Places::One(_word) => Err(Slip::OnePath {
+            program: Program::Mount,
+        }),
+        Places::Two(from, to) => match two_slip(&from, &to) {
+            Some(slip) => Err(slip),
+            None => Ok(moved_form(change, said, propagation, from, to)),
+        },
+        Places::Many => Err(Slip::Many {
+            program: Program::Mount,
+        }),
+    }
+}
+
+/// What a remount asks for, of which the target is the last word.
+fn remount_form<'a>(
+    change: Option<Change>,
+    said: Said,
+    propagation: Option<Propagation>,
+    places: Places<'a>,
+) -> Result<Form<'a>, Slip<'a>>
+    ensures { result ≡ remount_form change said propagation places.entry }
+{
+    match change {
+        None | Some(Change::Move) => return Err(Slip::WholeRemount),
+        Some(Change::Bind) | Some(Change::Rbind) => {}
+    }
+    let to = match places {
+        Places::None => {
+            return Err(Slip::NoTarget {
+                program: Program::Mount,
+            });
+        }
+        Places::One(to) => to,
+        Places::Two(_source, to) => to,
+        Places::Many => {
+            return Err(Slip::Many {
+                program: Program::Mount,
+            });
+        }
+    };
+    match path_slip(&to) {
+        Some(slip) => Err(slip),
+        None => Ok(Form::Remount {
+            to,
+            said,
+            propagation,
+        }),
+    }
+}
+
+/// What a line of mount(8) with one word asks for: another propagation, or what stands in fstab(5).
+fn alone_form<'a>(
+    is_bare: bool,
+    propagation: Option<Propagation>,
+    to: Word<'a>,
+) -> Result<Form<'a>, Slip<'a>>
+    ensures { result ≡ alone_form is_bare propagation to.entry }
+{
+    let Some(propagation) = propagation else {
+        return Err(Slip::Alone { word: to });
+    };
+    if !is_bare {
+        return Err(Slip::Alone { word: to });
+    }
+    match path_slip(&to) {
+        Some(slip) => Err(slip),
+        None => Ok(Form::Propagation { to, propagation }),
+    }
+}
+
+/// What a line of mount(8) without bind, rbind, move and remount asks for.
+fn new_form<'a>(
+    kind: Option<Word<'a>>,
+    has_list: bool,
+    said: Said,
+    propagation: Option<Propagation>,
+    places: Places<'a>,
+) -> Result<Form<'a>, Slip<'a>>
+    ensures { result ≡ new_form kind.entry has_list said propagation places.entry }
+{
+    match places {
+        Places::None => Err(Slip::NoTarget {
+            program: Program::Mount,
+        }),
+        Places::One(to) => alone_form(!has_list && kind.is_none(), propagation, to),
+        Places::Two(source, to) => match path_slip(&to) {
+            Some(slip) => Err(slip),
+            None => Ok(Form::Mount {
+                source,
+                kind,
+                to,
+                said,
+                propagation,
+            }),
+        },
+        Places::Many => Err(Slip::Many {
+            program: Program::Mount,
+        }),
+    }
+}
+
+/// What a line of mount(8) asks for.
+fn mount_form<'a>(given: Given<'a>) -> Result<Form<'a>, Slip<'a>>
+    ensures { result ≡ mount_form given.entry }
+{
+    let Given {
+        change,
+        remounts,
+        propagation,
+        said,
+        has_list,
+        kind,
+        source,
+        target,
+        places,
+        ..
+    } = given;
+    let places = behind(in_front(source, places), target);
+    if remounts {
+        return remount_form(change, said, propagation, places);
+    }
+    match change {
+        Some(change) => change_form(change, said, propagation, places),
+        None => new_form(kind, has_list, said, propagation, places),
+    }
+}
+
+/// What a line of umount(8) asks for.
+fn umount_form<'a>(given: Given<'a>) -> Result<Form<'a>, Slip<'a>>
+    ensures { result ≡ umount_form given.entry }
+{
+    let Given {
+        places,
+        is_lazy,
+        reach,
+        ..
+    } = given;
+    match places {
+        Places::None => Err(Slip::NoTarget {
+            program: Program::Umount,
+        }),
+        Places::One(target) => {
+            if has_dots(target.bytes()) {
+                return Err(Slip::Dots { word: target });
+            }
+            Ok(Form::Umount {
+                target,
+                lazy: is_lazy,
+                reach,
+            })
+        }
+        Places::Two(_first, _second) => Err(Slip::Many {
+            program: Program::Umount,
+        }),
+        Places::Many => Err(Slip::Many {
+            program: Program::Umount,
+        }),
+    }
+}
+
+/// What the mounts of a new namespace are made.
+fn spread(is_unchanged: bool, propagation: Option<Propagation>) -> Option<Propagation>
+    ensures { result ≡ spread is_unchanged propagation }
+{
+    if is_unchanged {
+        return None;
+    }
+    match propagation {
+        Some(propagation) => Some(propagation),
+        None => Some(Propagation {
+            kind: Kind::Private,
+            recursive: true,
+        }),
+    }
+}
+
+/// What a line of unshare(1) asks for. A command behind the options has no effect on mounts here.
+fn unshare_form<'a>(given: Given<'a>) -> Result<Form<'a>, Slip<'a>>
+    ensures { result ≡ unshare_form given.entry }
+{
+    if !given.has_mounts {
+        return Err(Slip::NoMounts {
+            program: Program::Unshare,
+        });
+    }
+    Ok(Form::CopySpace {
+        less: given.is_less,
+        propagation: spread(given.is_unchanged, given.propagation),
+    })
+}
+
+/// What a line of pivot_root(8) asks for.
+fn pivot_form<'a>(given: Given<'a>) -> Result<Form<'a>, Slip<'a>>
+    ensures { result ≡ pivot_form given.entry }
+{
+    let Given { places, .. } = given;
+    match places {
+        Places::None => Err(Slip::NoTarget {
+            program: Program::PivotRoot,
+        }),
+        Places::One(_word) => Err(Slip::OnePath {
+            program: Program::PivotRoot,
+        }),
+        Places::Two(new, old) => match two_slip(&new, &old) {
+            Some(slip) => Err(slip),
+            None => Ok(Form::Pivot { new, old }),
+        },
+        Places::Many => Err(Slip::Many {
+            program: Program::PivotRoot,
+        }),
+    }
+}
+
+/// What a line of a program asks for. One of nsenter(1) is of another program, which stands behind it.
+pub(crate) fn form_by<'a>(program: Program, given: Given<'a>) -> Result<Form<'a>, Slip<'a>>
+    ensures { result ≡ form_by program given.entry }
+{
+    match program {
+        Program::Mount => mount_form(given),
+        Program::Umount => umount_form(given),
+        Program::Unshare => unshare_form(given),
+        Program::Nsenter => Err(Slip::NoLine),
+        Program::PivotRoot => pivot_form(given),
+    }
+}
