@@ -14,9 +14,6 @@ use std::io;
 use std::io::Print;
 use std::process::ExitCode;
 
-/// What is said of a word that is not to be explained.
-const UNKNOWN: &str = "neither a refusal nor an errno";
-
 /// The sentence of mountd-lines(7) on a refusal.
 fn sentence_of(refusal: Refusal) -> &'static str {
     match refusal {
@@ -51,15 +48,17 @@ fn sentence_of(refusal: Refusal) -> &'static str {
     }
 }
 
-/// Why Linux has no error in the place of a refusal.
+/// The sentence on a refusal in whose place Linux has no error, and why.
 fn none_in_linux(refusal: Refusal) -> &'static str {
     match refusal {
-        Refusal::BadLine | Refusal::BadPath => "its calls take no lines",
-        Refusal::JournalFull | Refusal::TooMany => "the limits are those of the server",
+        Refusal::BadLine | Refusal::BadPath => "Linux has none such: its calls take no lines.",
+        Refusal::JournalFull | Refusal::TooMany => {
+            "Linux has none such: the limits are those of the server."
+        },
         Refusal::NoFilesystem | Refusal::FilesystemExists | Refusal::NoNamespace => {
-            "it names neither filesystems nor namespaces so"
+            "Linux has none such: it names neither filesystems nor namespaces so."
         }
-        _ => "it has no server, and no watchers",
+        _ => "Linux has none such: it has no server, and no watchers.",
     }
 }
 
@@ -75,7 +74,7 @@ fn print_cases<O: Print>(out: &O, refusal: Refusal) -> io::Result<()> {
     if separator == "; " {
         println!(out; ".")
     } else {
-        println!(out; "Linux has none such: {}.", none_in_linux(refusal))
+        println!(out; "{}", none_in_linux(refusal))
     }
 }
 
@@ -116,7 +115,7 @@ enum Explained {
 }
 
 /// What a word names: a refusal, or an error of Linux in letters of any case or by its number.
-fn explained(word: &str) -> Option<Explained> {
+fn explained_by(word: &str) -> Option<Explained> {
     match refusal_named(word.as_bytes()) {
         Some(refusal) => Some(Explained::Refusal(refusal)),
         None => Some(Explained::Errno(Errno::of(word.as_bytes())?)),
@@ -129,11 +128,11 @@ fn refuse_word(rt: &HostRuntime, word: &str) -> ExitCode {
     match nearest_explained(rt.alloc(), word.as_bytes()) {
         Ok(Some(nearest)) => {
             let nearest = Shown(nearest);
-            let _ = eprintln!(rt; "{NAME}: {shown}: {UNKNOWN}; the nearest is {nearest}");
+            let _ = eprintln!(rt; "{NAME}: {shown}: neither a refusal nor an errno; the nearest is {nearest}");
             ExitCode::from(2)
         }
         Ok(None) => {
-            let _ = eprintln!(rt; "{NAME}: {shown}: {UNKNOWN}");
+            let _ = eprintln!(rt; "{NAME}: {shown}: neither a refusal nor an errno");
             ExitCode::from(2)
         }
         Err(_) => PROGRAM.fail(rt, Fault::NoMemory.message()),
@@ -145,7 +144,7 @@ pub(crate) fn explain(rt: &HostRuntime, words: &[&str]) -> ExitCode {
     let [word] = words else {
         return PROGRAM.refuse(rt, WordFault::Explain.message());
     };
-    let printed = match explained(word) {
+    let printed = match explained_by(word) {
         Some(Explained::Refusal(refusal)) => print_refusal(rt, refusal),
         Some(Explained::Errno(errno)) => print_errno(rt, errno),
         None => return refuse_word(rt, word),

@@ -215,6 +215,7 @@ fn push_words(text: &mut Vec<u8>, words: &[&str]) -> Result<(), AllocError>
 }
 
 /// Words with a zero byte between two, for [`mt_lines::words::Pieces`] at zero bytes. Fails for want of memory alone.
+#[tactic(auto, using(crate::proofs::SplitLaws::behind_zeros))]
 pub fn joined(alloc: Global, words: &[&str]) -> Result<Vec<u8>, AllocError>
     ensures { IfOk result (λ text. text.items ≡ joined_text (map (λ word. word.now) words.now)) }
 {

@@ -117,72 +117,72 @@ pub struct Advice {
 }
 
 /// Advice of these texts.
-fn advice(look: &'static str, change: &'static str) -> Advice {
+fn advice_from(look: &'static str, change: &'static str) -> Advice {
     Advice { look, change }
 }
 
 /// What to do about a refusal of a line, or of a session.
 fn advice_on_lines(refusal: Fault) -> Advice {
     match refusal {
-        Fault::BadLine => advice("the word at fault, and the form of the line", "the form"),
-        Fault::TooLong => advice("which word it is, and its limit", "a shorter one"),
-        Fault::BadPath => advice(
+        Fault::BadLine => advice_from("the word at fault, and the form of the line", "the form"),
+        Fault::TooLong => advice_from("which word it is, and its limit", "a shorter one"),
+        Fault::BadPath => advice_from(
             "the component that is empty, . or .., or the missing first slash",
             "the path written out",
         ),
-        Fault::NoWatcher => advice("whether watch came before, and close behind it", "watch NS"),
-        Fault::WatcherOpen => advice("what it follows", "close"),
-        Fault::TooManyWatchers => advice("which sessions have one", "close in one of them"),
-        Fault::Lagged => advice(
+        Fault::NoWatcher => advice_from("whether watch came before, and close behind it", "watch NS"),
+        Fault::WatcherOpen => advice_from("what it follows", "close"),
+        Fault::TooManyWatchers => advice_from("which sessions have one", "close in one of them"),
+        Fault::Lagged => advice_from(
             "the number of the last post, and that of the namespace now",
             "close and watch again, or a longer queue of the server (--queue)",
         ),
-        Fault::JournalFull | Fault::Stopped => advice("the server", "a new one"),
-        Fault::NoFilesystem => advice("the names that mkfs was given", "mkfs NAME TYPE SOURCE"),
-        Fault::FilesystemExists => advice("its type and source", "another name, or the one there"),
-        Fault::NoNamespace => advice("the namespaces that there are (spaces)", "one of these"),
-        Fault::TooMany => advice(
+        Fault::JournalFull | Fault::Stopped => advice_from("the server", "a new one"),
+        Fault::NoFilesystem => advice_from("the names that mkfs was given", "mkfs NAME TYPE SOURCE"),
+        Fault::FilesystemExists => advice_from("its type and source", "another name, or the one there"),
+        Fault::NoNamespace => advice_from("the namespaces that there are (spaces)", "one of these"),
+        Fault::TooMany => advice_from(
             "how many mounts, copies, namespaces or directories there would be",
             "fewer receivers, by prop=private, or dropns",
         ),
-        _ => advice("how much memory there is", "the same line again"),
+        _ => advice_from("how much memory there is", "the same line again"),
     }
 }
 
 /// What to do about a refusal.
 pub fn advice_of(refusal: Fault) -> Advice {
     match refusal {
-        Fault::NoEntry => advice(
+        Fault::NoEntry => advice_from(
             "the longest front of the path that is there, and what is mounted there",
             "mkdir of the missing component, in the filesystem of that mount",
         ),
-        Fault::EntryExists => advice("the mounts that show it", "nothing: it is there"),
-        Fault::NotMountRoot => advice(
+        Fault::EntryExists => advice_from("the mounts that show it", "nothing: it is there"),
+        Fault::NotMountRoot => advice_from(
             "the mount that it is on (find), and the mounts below it",
             "the mount point, or a bind of the directory on itself",
         ),
-        Fault::RootPlace => advice(
+        Fault::RootPlace => advice_from(
             "the root mount, and what covers it",
             "pivot to another root, then detach the old one",
         ),
-        Fault::Unbindable => advice("the mount of the source", "setattr NS PATH prop=private of it"),
-        Fault::SharedParent => advice(
+        Fault::Unbindable => advice_from("the mount of the source", "setattr NS PATH prop=private of it"),
+        Fault::SharedParent => advice_from(
             "the parent of the mount, and the members of its peer group",
             "setattr NS PATH prop=private, or prop=slave, of the parent",
         ),
-        Fault::IntoItself => advice(
+        Fault::IntoItself => advice_from(
             "the mounts from the moved one down to the destination",
             "another place",
         ),
-        Fault::UnbindableInside => advice(
+        Fault::UnbindableInside => advice_from(
             "the unbindable mounts in the tree, and the peer group of the destination",
             "setattr prop=private of either",
         ),
-        Fault::Busy => advice(
+        Fault::Busy => advice_from(
             "the mounts on it, hidden ones too; in Linux also open files and working directories (fuser -vm)",
             "umount of those first, or detach",
         ),
-        Fault::BadAttr => advice("the words of set= and clr=", "one access time, with clr=atime"),
+        Fault::BadAttr => advice_from("the words of set= and clr=", "one access time, with clr=atime"),
         _ => advice_on_lines(refusal),
     }
 }

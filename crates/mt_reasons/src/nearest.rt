@@ -50,7 +50,7 @@ struct Near {
 }
 
 /// A word that may be meant, if few edits lead to it.
-fn near(alloc: Global, meant: &'static [u8], word: &[u8]) -> Result<Option<Near>, AllocError> {
+fn near_to(alloc: Global, meant: &'static [u8], word: &[u8]) -> Result<Option<Near>, AllocError> {
     let edits = generic_levenshtein(alloc, word, meant)?;
     if edits > MOST_EDITS || edits >= word.len() {
         return Ok(None);
@@ -64,7 +64,7 @@ fn near_in(alloc: Global, row: &'static [u8], word: &[u8]) -> Result<Option<Near
         return Ok(None);
     };
     match command_of(usage) {
-        Some(command) => near(alloc, command, word),
+        Some(command) => near_to(alloc, command, word),
         None => Ok(None),
     }
 }
@@ -95,7 +95,7 @@ pub(crate) fn nearest_to(alloc: Global, word: &[u8]) -> Result<Option<&'static [
 fn nearest_refusal(alloc: Global, word: &[u8]) -> Result<Option<Near>, AllocError> {
     let mut nearest = None;
     for refusal in REFUSALS {
-        nearest = nearer(nearest, near(alloc, refusal.name(), word)?);
+        nearest = nearer(nearest, near_to(alloc, refusal.name(), word)?);
     }
     Ok(nearest)
 }
@@ -104,7 +104,7 @@ fn nearest_refusal(alloc: Global, word: &[u8]) -> Result<Option<Near>, AllocErro
 fn nearest_errno(alloc: Global, word: &[u8]) -> Result<Option<Near>, AllocError> {
     let mut nearest = None;
     for errno in ERRNOS {
-        nearest = nearer(nearest, near(alloc, errno.name().as_bytes(), word)?);
+        nearest = nearer(nearest, near_to(alloc, errno.name().as_bytes(), word)?);
     }
     Ok(nearest)
 }
