@@ -1,11 +1,11 @@
 //! Lines of mount(8) and its kin, and the lines of a session that they ask for.
 
-use mt_forms::form::{Asked, Form};
+use mt_forms::operation::{Asked, Operation};
 use mt_forms::line::read_line;
 use mt_forms::nearest::meant_by;
-use mt_forms::script::{later_script_of, script_of};
+use mt_forms::script::{later_session_lines, session_lines};
 use mt_forms::slip::Slip;
-use mt_forms::split::{joined, split_line};
+use mt_forms::split::{joined_words, split_line};
 use mt_lines::words::Pieces;
 use std::alloc::Global;
 use std::test::Fail;
@@ -227,9 +227,9 @@ const REMOUNTS: [(&[u8], &[u8], &[u8]); 5] = [
 ];
 
 /// The name of the filesystem of a form, which is its source here.
-fn filesystem_of<'a>(form: &Form<'a>) -> &'a [u8] {
-    match form {
-        Form::Mount { source, .. } => source.bytes(),
+fn filesystem_of<'a>(operation: &Operation<'a>) -> &'a [u8] {
+    match operation {
+        Operation::Mount { source, .. } => source.bytes(),
         _ => b"",
     }
 }
@@ -240,9 +240,9 @@ fn script_in(alloc: Global, asked: &Asked<'_>, options: &[u8]) -> Result<Vec<u8>
         Some(space) => space.bytes(),
         None => b"1",
     };
-    let filesystem = filesystem_of(&asked.form);
-    let mut script = script_of(alloc, &asked.form, space, filesystem, options)?;
-    let later = later_script_of(alloc, &asked.form, b"3")?;
+    let filesystem = filesystem_of(&asked.operation);
+    let mut script = session_lines(alloc, &asked.operation, space, filesystem, options)?;
+    let later = later_session_lines(alloc, &asked.operation, b"3")?;
     script.extend_from_slice(later.as_slice())?;
     Ok(script)
 }
@@ -313,7 +313,7 @@ fn is_told(
     has_more: bool,
     is_forced: bool,
 ) -> Result<bool, Fail> {
-    let words = joined(alloc, words)?;
+    let words = joined_words(alloc, words)?;
     match read_line(Pieces::new(0, words.as_slice())) {
         Ok(asked) => {
             let first = asked.foreign.as_ref().map(|word| word.bytes());

@@ -11,16 +11,16 @@ abbrev pub no_attributes : Attributes
 no_attributes = record { ro = false; nosuid = false; nodev = false; noexec = false; nosymfollow = false; nodiratime = false; relatime = false; noatime = false; strictatime = false }
 
 -- an attribute is among these
-abbrev pub has : Attribute → Attributes → Bool
-has Ro a = a.ro
-has Nosuid a = a.nosuid
-has Nodev a = a.nodev
-has Noexec a = a.noexec
-has Nosymfollow a = a.nosymfollow
-has Nodiratime a = a.nodiratime
-has Relatime a = a.relatime
-has Noatime a = a.noatime
-has Strictatime a = a.strictatime
+abbrev pub has_attribute : Attribute → Attributes → Bool
+has_attribute Ro a = a.ro
+has_attribute Nosuid a = a.nosuid
+has_attribute Nodev a = a.nodev
+has_attribute Noexec a = a.noexec
+has_attribute Nosymfollow a = a.nosymfollow
+has_attribute Nodiratime a = a.nodiratime
+has_attribute Relatime a = a.relatime
+has_attribute Noatime a = a.noatime
+has_attribute Strictatime a = a.strictatime
 
 -- these attributes, with one of them or without it
 abbrev pub with_attribute : Attribute → Bool → Attributes → Attributes
@@ -50,8 +50,8 @@ abbrev pub turned_all : List Attribute → Said → Said
 turned_all attributes s = fold (turned true) s attributes
 
 -- what is said, over the attributes that a mount had
-abbrev pub over : Attributes → Said → Attributes
-over old s = record {
+abbrev pub laid_over : Attributes → Said → Attributes
+laid_over old s = record {
   ro = (old.ro && not s.clear.ro) || s.set.ro;
   nosuid = (old.nosuid && not s.clear.nosuid) || s.set.nosuid;
   nodev = (old.nodev && not s.clear.nodev) || s.set.nodev;

@@ -3,15 +3,15 @@
 use Rattle.std.specs.Prelude.{ℕ, List, [], ◌∷◌, Option, codes}
 use Rattle.std.specs.Str.{bytes_eq}
 use Rattle.mt_forms.specs.Lookup.{looked_up}
-use Rattle.mt_forms.specs.declared.command.Program.TheVariants as program
+use Rattle.mt_forms.specs.declared.command.Tool.TheVariants as tool
 use Rattle.mt_forms.specs.declared.command.Beginning.{Beginning}
 use Rattle.mt_forms.specs.declared.command.Beginning.TheVariants.{Runs, Mkdir, Line, NoChange}
 
 -- each first word, and what a line with it is
 abbrev pub beginnings : List (List ℕ × Beginning)
 beginnings =
-    (codes "mount", Runs program.Mount) ∷ (codes "umount", Runs program.Umount) ∷ (codes "unshare", Runs program.Unshare)
-    ∷ (codes "nsenter", Runs program.Nsenter) ∷ (codes "pivot_root", Runs program.PivotRoot) ∷ (codes "mkdir", Mkdir)
+    (codes "mount", Runs tool.Mount) ∷ (codes "umount", Runs tool.Umount) ∷ (codes "unshare", Runs tool.Unshare)
+    ∷ (codes "nsenter", Runs tool.Nsenter) ∷ (codes "pivot_root", Runs tool.PivotRoot) ∷ (codes "mkdir", Mkdir)
     ∷ (codes "mkfs", Line) ∷ (codes "newns", Line) ∷ (codes "copyns", Line) ∷ (codes "dropns", Line) ∷ (codes "bind", Line) ∷ (codes "rbind", Line)
     ∷ (codes "move", Line) ∷ (codes "pivot", Line) ∷ (codes "detach", Line) ∷ (codes "setattr", Line)
     ∷ (codes "show", NoChange) ∷ (codes "find", NoChange) ∷ (codes "watch", NoChange) ∷ (codes "take", NoChange) ∷ (codes "follow", NoChange)

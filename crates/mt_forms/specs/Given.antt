@@ -9,10 +9,10 @@ use Rattle.mt_forms.specs.Tables.{all_made}
 use Rattle.mt_forms.specs.declared.attribute.Attribute.{Attribute}
 use Rattle.mt_forms.specs.declared.attribute.Attribute.TheVariants.{Nosuid, Nodev, Noexec}
 use Rattle.mt_forms.specs.declared.attribute.Said.{Said}
-use Rattle.mt_forms.specs.declared.command.Program.{Program}
-use Rattle.mt_forms.specs.declared.form.Kind.TheVariants.{Shared, Private, Slave}
-use Rattle.mt_forms.specs.declared.form.Propagation.{Propagation}
-use Rattle.mt_forms.specs.declared.form.Reach.TheVariants as reach
+use Rattle.mt_forms.specs.declared.command.Tool.{Tool}
+use Rattle.mt_forms.specs.declared.operation.PropagationKind.TheVariants.{Shared, Private, Slave}
+use Rattle.mt_forms.specs.declared.operation.Propagation.{Propagation}
+use Rattle.mt_forms.specs.declared.operation.Reach.TheVariants as reach
 use Rattle.mt_forms.specs.declared.given.Given.{Given}
 use Rattle.mt_forms.specs.declared.given.Places.{Places}
 use Rattle.mt_forms.specs.declared.given.Places.TheVariants as places
@@ -70,8 +70,8 @@ abbrev pub change_over : Option Change → Change → Given → Given
 change_over None change g = record g { change = Some change }
 change_over (Some first) change g = if is_same_change first change then g else slipped slip.TwoChanges g
 
-abbrev pub with_change : Change → Given → Given
-with_change change g = change_over g.change change g
+abbrev pub with_one_change : Change → Given → Given
+with_one_change change g = change_over g.change change g
 
 -- a line asks for one propagation
 abbrev pub propagation_over : Option Propagation → Propagation → Given → Given
@@ -98,7 +98,7 @@ with_meaning None word g = with_foreign word g
 with_meaning (Some (listed.Turns attribute on)) word g = with_said (turned on g.said attribute) g
 with_meaning (Some listed.Users) word g = with_said (turned_all users g.said) g
 with_meaning (Some listed.Owners) word g = with_said (turned_all owners g.said) g
-with_meaning (Some (listed.Changes change)) word g = with_change change g
+with_meaning (Some (listed.Changes change)) word g = with_one_change change g
 with_meaning (Some listed.Remounts) word g = record g { remounts = true }
 with_meaning (Some (listed.Makes propagation)) word g = with_propagation propagation g
 with_meaning (Some listed.Unseen) word g = g
@@ -120,35 +120,35 @@ with_spread word g =
     else slipped (slip.NoKind word) g)))
 
 -- an option that has no value
-abbrev pub with_option : Program → Means → Given → Given
-with_option program (means.Changes change) g = with_change change g
-with_option program (means.Makes propagation) g = with_propagation propagation g
-with_option program (means.Turns attribute on) g = with_said (turned on g.said attribute) g
-with_option program means.Mounts g = record g { has_mounts = true }
-with_option program means.Lazy g = record g { is_lazy = true }
-with_option program (means.Reaches reach) g = record g { reach = reach }
-with_option program means.Forced g = record g { is_forced = true }
-with_option program means.Less g = record g { is_less = true }
-with_option program means.Fstab g = slipped (slip.Fstab program) g
-with_option program m g = g
+abbrev pub with_option : Tool → Means → Given → Given
+with_option tool (means.Changes change) g = with_one_change change g
+with_option tool (means.Makes propagation) g = with_propagation propagation g
+with_option tool (means.Turns attribute on) g = with_said (turned on g.said attribute) g
+with_option tool means.Mounts g = record g { has_mounts = true }
+with_option tool means.Lazy g = record g { is_lazy = true }
+with_option tool (means.Reaches reach) g = record g { reach = reach }
+with_option tool means.Forced g = record g { is_forced = true }
+with_option tool means.Less g = record g { is_less = true }
+with_option tool means.Fstab g = slipped (slip.Fstab tool) g
+with_option tool m g = g
 
 -- an option and its value
-abbrev pub with_value : Program → Means → List ℕ → Given → Given
-with_value program means.Options value g = with_list value g
-with_value program means.FilesystemType value g = record g { kind = Some value }
-with_value program means.Source value g = record g { source = Some value }
-with_value program means.Target value g = record g { target = Some value }
-with_value program means.Space value g = record g { space = Some value }
-with_value program means.Mounts value g = record g { has_mounts = true; space = Some value }
-with_value program means.Spread value g = with_spread value g
-with_value program m value g = with_option program m g
+abbrev pub with_value : Tool → Means → List ℕ → Given → Given
+with_value tool means.Options value g = with_list value g
+with_value tool means.FilesystemType value g = record g { kind = Some value }
+with_value tool means.Source value g = record g { source = Some value }
+with_value tool means.Target value g = record g { target = Some value }
+with_value tool means.Space value g = record g { space = Some value }
+with_value tool means.Mounts value g = record g { has_mounts = true; space = Some value }
+with_value tool means.Spread value g = with_spread value g
+with_value tool m value g = with_option tool m g
 
 -- a word that is no option: the first two are places
-abbrev pub placed : Places → List ℕ → Places
-placed places.None word = places.One word
-placed (places.One first) word = places.Two first word
-placed (places.Two first second) word = places.Many
-placed places.Many word = places.Many
+abbrev pub one_more_place : Places → List ℕ → Places
+one_more_place places.None word = places.One word
+one_more_place (places.One first) word = places.Two first word
+one_more_place (places.Two first second) word = places.Many
+one_more_place places.Many word = places.Many
 
 abbrev pub with_plain : List ℕ → Given → Given
-with_plain word g = record g { places = placed g.places word }
+with_plain word g = record g { places = one_more_place g.places word }

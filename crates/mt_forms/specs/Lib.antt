@@ -7,7 +7,7 @@ pub mod Tables
 pub mod ListedWords
 pub mod Given
 pub mod Reading
-pub mod Forms
+pub mod Operations
 pub mod Lines
 pub mod Settings
 pub mod Scripts

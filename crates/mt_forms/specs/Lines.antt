@@ -1,39 +1,40 @@
 -- Lines, and what they ask for (mount(8), umount(8), unshare(1), nsenter(1), pivot_root(8)).
 -- A word with no source is this project's rule.
-use Rattle.std.specs.Prelude.{ℕ, Bool, true, false, not, ◌&&◌, if◌then◌else◌, List, [], ◌∷◌, Option, None, Some, is_some, Result, Ok, Err, codes}
+use Rattle.std.specs.Prelude.{ℕ, nat_eq, Bool, true, false, not, ◌&&◌, if◌then◌else◌, List, [], ◌∷◌, Option, None, Some, is_some, Result, Ok, Err, codes}
+use Rattle.std.specs.List.{starts_with}
 use Rattle.std.specs.Option.{option_map_or}
 use Rattle.std.specs.Str.{bytes_eq}
-use Rattle.mt_forms.specs.Written.{begins_with, base_name}
+use Rattle.mt_forms.specs.Written.{base_name}
 use Rattle.mt_forms.specs.Beginnings.{beginning_of}
 use Rattle.mt_forms.specs.Given.{nothing_given}
 use Rattle.mt_forms.specs.Reading.{given_of, begins_command, with_word}
-use Rattle.mt_forms.specs.Forms.{form_by}
+use Rattle.mt_forms.specs.Operations.{operation_by}
 use Rattle.mt_forms.specs.declared.command.Beginning.{Beginning}
 use Rattle.mt_forms.specs.declared.command.Beginning.TheVariants as beginning
-use Rattle.mt_forms.specs.declared.command.Program.{Program}
-use Rattle.mt_forms.specs.declared.command.Program.TheVariants.{Mount, Umount, Unshare, Nsenter, PivotRoot}
-use Rattle.mt_forms.specs.declared.form.Asked.{Asked}
-use Rattle.mt_forms.specs.declared.form.Form.{Form}
-use Rattle.mt_forms.specs.declared.form.Form.TheVariants as form
+use Rattle.mt_forms.specs.declared.command.Tool.{Tool}
+use Rattle.mt_forms.specs.declared.command.Tool.TheVariants.{Mount, Umount, Unshare, Nsenter, PivotRoot}
+use Rattle.mt_forms.specs.declared.operation.Asked.{Asked}
+use Rattle.mt_forms.specs.declared.operation.Operation.{Operation}
+use Rattle.mt_forms.specs.declared.operation.Operation.TheVariants as operation
 use Rattle.mt_forms.specs.declared.given.Given.{Given}
 use Rattle.mt_forms.specs.declared.slip.Slip.{Slip}
 use Rattle.mt_forms.specs.declared.slip.Slip.TheVariants as slip
 
 -- a word that may name a namespace or a filesystem in a line of a session: neither a path nor an option
-abbrev pub is_label : List ℕ → Bool
-is_label word = not (begins_with (codes "/") word) && not (begins_with (codes "-") word)
+abbrev pub may_name : List ℕ → Bool
+may_name word = not (starts_with nat_eq word (codes "/")) && not (starts_with nat_eq word (codes "-"))
 
 -- `umount NS PATH` and `mkdir FS DIR` are lines of a session
 abbrev pub are_space_and_path : List (List ℕ) → Bool
-are_space_and_path (space ∷ path ∷ []) = is_label space && begins_with (codes "/") path
+are_space_and_path (space ∷ path ∷ []) = may_name space && starts_with nat_eq path (codes "/")
 are_space_and_path words = false
 
 -- and so is `mount NS FS PATH`
 abbrev pub are_space_label_and_path : List (List ℕ) → Bool
-are_space_label_and_path (space ∷ fs ∷ path ∷ []) = is_label space && is_label fs && begins_with (codes "/") path
+are_space_label_and_path (space ∷ fs ∷ path ∷ []) = may_name space && may_name fs && starts_with nat_eq path (codes "/")
 are_space_label_and_path words = false
 
-abbrev pub is_own_line : Program → List (List ℕ) → Bool
+abbrev pub is_own_line : Tool → List (List ℕ) → Bool
 is_own_line Mount words = are_space_label_and_path words
 is_own_line Umount words = are_space_and_path words
 is_own_line Unshare words = false
@@ -41,27 +42,27 @@ is_own_line Nsenter words = false
 is_own_line PivotRoot words = false
 
 -- a form with nothing else
-abbrev pub asked_without : Form → Asked
-asked_without form = record { space = None; form = form; foreign = None; has_more_foreign = false; is_forced = false }
+abbrev pub asked_without : Operation → Asked
+asked_without operation = record { space = None; operation = operation; foreign = None; has_more_foreign = false; is_forced = false }
 
 -- what the words behind a program ask for: no slip, and no option that waits for its value
-abbrev pub asked_with : Given → Result Form Slip → Result Asked Slip
-asked_with g (Ok form) = Ok (record { space = g.space; form = form; foreign = g.foreign; has_more_foreign = g.has_more_foreign; is_forced = g.is_forced })
+abbrev pub asked_with : Given → Result Operation Slip → Result Asked Slip
+asked_with g (Ok operation) = Ok (record { space = g.space; operation = operation; foreign = g.foreign; has_more_foreign = g.has_more_foreign; is_forced = g.is_forced })
 asked_with g (Err slip) = Err slip
 
-abbrev pub unless_waiting : Program → Given → Result Asked Slip
-unless_waiting program g = if is_some g.waiting then Err (slip.NoValue program) else asked_with g (form_by program g)
+abbrev pub unless_waiting : Tool → Given → Result Asked Slip
+unless_waiting tool g = if is_some g.waiting then Err (slip.NoValue tool) else asked_with g (operation_by tool g)
 
-abbrev pub asked_by : Program → Given → Result Asked Slip
-asked_by program g = option_map_or (λ s. Err s) g.slip (unless_waiting program g)
+abbrev pub asked_by : Tool → Given → Result Asked Slip
+asked_by tool g = option_map_or (λ s. Err s) g.slip (unless_waiting tool g)
 
 -- what a first word and others ask for; `mkdir` of a shell changes no table
 abbrev pub by_beginning : Option Beginning → List ℕ → List (List ℕ) → Result Asked Slip
-by_beginning (Some (beginning.Runs program)) first words =
-    if is_own_line program words then Ok (asked_without (form.Line first words)) else asked_by program (given_of program words)
+by_beginning (Some (beginning.Runs tool)) first words =
+    if is_own_line tool words then Ok (asked_without (operation.Line first words)) else asked_by tool (given_of tool words)
 by_beginning (Some beginning.Mkdir) first words =
-    if are_space_and_path words then Ok (asked_without (form.Line first words)) else Ok (asked_without form.Mkdir)
-by_beginning (Some beginning.Line) first words = Ok (asked_without (form.Line first words))
+    if are_space_and_path words then Ok (asked_without (operation.Line first words)) else Ok (asked_without operation.Mkdir)
+by_beginning (Some beginning.Line) first words = Ok (asked_without (operation.Line first words))
 by_beginning (Some beginning.NoChange) first words = Err (slip.NoChange first)
 by_beginning None first words = Err (slip.Unknown first)
 
@@ -74,8 +75,8 @@ abbrev pub in_named : Option (List ℕ) → List ℕ → List (List ℕ) → Res
 in_named None command words = Err slip.NoProcess
 in_named (Some space) command words = over_space space (by_beginning (beginning_of (base_name command)) command words)
 
-abbrev pub in_space : Given → List ℕ → List (List ℕ) → Result Asked Slip
-in_space g command words =
+abbrev pub asked_in : Given → List ℕ → List (List ℕ) → Result Asked Slip
+asked_in g command words =
     option_map_or (λ s. Err s) g.slip (if g.has_mounts then in_named g.space command words else Err (slip.NoMounts Nsenter))
 
 abbrev pub without_command : Given → Slip
@@ -83,14 +84,14 @@ without_command g = option_map_or (λ s. s) g.slip slip.NoLine
 
 abbrev pub entered_from : Given → List (List ℕ) → Result Asked Slip
 entered_from g [] = Err (without_command g)
-entered_from g (word ∷ words) = if begins_command g word then in_space g word words else entered_from (with_word Nsenter g word) words
+entered_from g (word ∷ words) = if begins_command g word then asked_in g word words else entered_from (with_word Nsenter g word) words
 
 -- what a line asks for
 abbrev pub by_entry : Option Beginning → List ℕ → List (List ℕ) → Result Asked Slip
 by_entry (Some (beginning.Runs Nsenter)) first words = entered_from nothing_given words
 by_entry beginning first words = by_beginning beginning first words
 
-abbrev pub by_first : List ℕ → List (List ℕ) → Result Asked Slip
+unfoldable pub by_first : List ℕ → List (List ℕ) → Result Asked Slip
 by_first first words = by_entry (beginning_of (base_name first)) first words
 
 abbrev pub behind_sudo : List (List ℕ) → Result Asked Slip

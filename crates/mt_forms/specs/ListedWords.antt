@@ -1,12 +1,12 @@
 -- The words of the list of `-o` that are not of a filesystem alone (mount(8), the options of any filesystem).
 -- A word with no source is this project's rule.
-use Rattle.std.specs.Prelude.{ℕ, Bool, true, false, ◌||◌, cond, List, [], ◌∷◌, Option, Some, codes}
+use Rattle.std.specs.Prelude.{ℕ, nat_eq, Bool, true, false, ◌||◌, cond, List, [], ◌∷◌, Option, Some, codes}
+use Rattle.std.specs.List.{starts_with}
 use Rattle.std.specs.Str.{bytes_eq}
 use Rattle.mt_forms.specs.Lookup.{looked_up}
-use Rattle.mt_forms.specs.Written.{begins_with}
 use Rattle.mt_forms.specs.Tables.{made_alone, all_made}
 use Rattle.mt_forms.specs.declared.attribute.Attribute.TheVariants.{Ro, Nosuid, Nodev, Noexec, Nosymfollow, Nodiratime, Relatime, Noatime, Strictatime}
-use Rattle.mt_forms.specs.declared.form.Kind.TheVariants.{Shared, Private, Slave, Unbindable}
+use Rattle.mt_forms.specs.declared.operation.PropagationKind.TheVariants.{Shared, Private, Slave, Unbindable}
 use Rattle.mt_forms.specs.declared.table.Change.TheVariants.{Bind, Rbind, Move}
 use Rattle.mt_forms.specs.declared.listed.Listed.{Listed}
 use Rattle.mt_forms.specs.declared.listed.Listed.TheVariants.{Turns, Users, Owners, Changes, Remounts, Makes, Unseen}
@@ -30,9 +30,9 @@ listed_words =
     ∷ (codes "", Unseen) ∷ []
 
 -- a word that programs keep for themselves (mount(8), X- and x-, comment=)
-abbrev pub is_comment : List ℕ → Bool
-is_comment word = begins_with (codes "x-") word || begins_with (codes "X-") word || begins_with (codes "comment=") word
+abbrev pub is_private_word : List ℕ → Bool
+is_private_word word = starts_with nat_eq word (codes "x-") || starts_with nat_eq word (codes "X-") || starts_with nat_eq word (codes "comment=")
 
 -- what a word of the list means; none where it is an option of a filesystem
 unfoldable pub listed_of : List ℕ → Option Listed
-listed_of word = cond {A = Option Listed} (is_comment word) (Some Unseen) (looked_up (λ row. bytes_eq row.0 word) (λ row. row.1) listed_words)
+listed_of word = cond {A = Option Listed} (is_private_word word) (Some Unseen) (looked_up (λ row. bytes_eq row.0 word) (λ row. row.1) listed_words)

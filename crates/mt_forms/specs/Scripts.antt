@@ -7,18 +7,18 @@ use Rattle.mt_lines.specs.Words.{pieces}
 use Rattle.mt_forms.specs.Given.{nothing_given, with_list}
 use Rattle.mt_forms.specs.Settings.{for_bind, for_new, for_remount, is_empty_setting, setting_text}
 use Rattle.mt_forms.specs.declared.attribute.Attributes.{Attributes}
-use Rattle.mt_forms.specs.declared.form.Form.{Form}
-use Rattle.mt_forms.specs.declared.form.Form.TheVariants as form
-use Rattle.mt_forms.specs.declared.form.Kind.{Kind}
-use Rattle.mt_forms.specs.declared.form.Kind.TheVariants.{Shared, Private, Slave, Unbindable}
-use Rattle.mt_forms.specs.declared.form.Propagation.{Propagation}
-use Rattle.mt_forms.specs.declared.form.Reach.{Reach}
-use Rattle.mt_forms.specs.declared.form.Reach.TheVariants.{One, Below, Filesystem}
+use Rattle.mt_forms.specs.declared.operation.Operation.{Operation}
+use Rattle.mt_forms.specs.declared.operation.Operation.TheVariants as operation
+use Rattle.mt_forms.specs.declared.operation.PropagationKind.{PropagationKind}
+use Rattle.mt_forms.specs.declared.operation.PropagationKind.TheVariants.{Shared, Private, Slave, Unbindable}
+use Rattle.mt_forms.specs.declared.operation.Propagation.{Propagation}
+use Rattle.mt_forms.specs.declared.operation.Reach.{Reach}
+use Rattle.mt_forms.specs.declared.operation.Reach.TheVariants.{One, Below, Filesystem}
 use Rattle.mt_forms.specs.declared.setting.Setting.{Setting}
 
 -- a path without a name is the root
-abbrev pub is_root : List ℕ → Bool
-is_root path = list_all (λ name. nat_eq (length name) 0) (pieces 47 path)
+abbrev pub has_no_name : List ℕ → Bool
+has_no_name path = list_all (λ name. nat_eq (length name) 0) (pieces 47 path)
 
 -- a name behind a slash; where slashes stand side by side, there is none between them
 abbrev pub behind_slash : List ℕ → List ℕ
@@ -30,7 +30,7 @@ abbrev pub behind_word : List ℕ → List ℕ
 behind_word word = 32 ∷ escaped word
 
 abbrev pub behind_path : List ℕ → List ℕ
-behind_path path = if is_root path then codes " /" else 32 ∷ flat_map behind_slash (pieces 47 path)
+behind_path path = if has_no_name path then codes " /" else 32 ∷ flat_map behind_slash (pieces 47 path)
 
 -- lines with a namespace and a path, or two
 abbrev pub one_path_line : List ℕ → List ℕ → List ℕ → List ℕ
@@ -40,14 +40,14 @@ abbrev pub two_paths_line : List ℕ → List ℕ → List ℕ → List ℕ → 
 two_paths_line verb space first second = verb ++ behind_word space ++ behind_path first ++ behind_path second ++ 10 ∷ []
 
 -- a propagation as options of `setattr`
-abbrev pub kind_text : Kind → List ℕ
-kind_text Shared = codes " prop=shared"
-kind_text Private = codes " prop=private"
-kind_text Slave = codes " prop=slave"
-kind_text Unbindable = codes " prop=unbindable"
+abbrev pub kind_option : PropagationKind → List ℕ
+kind_option Shared = codes " prop=shared"
+kind_option Private = codes " prop=private"
+kind_option Slave = codes " prop=slave"
+kind_option Unbindable = codes " prop=unbindable"
 
 abbrev pub propagation_text : Propagation → List ℕ
-propagation_text p = if p.recursive then codes " rec" ++ kind_text p.kind else kind_text p.kind
+propagation_text p = if p.recursive then codes " rec" ++ kind_option p.kind else kind_option p.kind
 
 -- a mount is made so, if it is to be
 abbrev pub then_made : List ℕ → List ℕ → Option Propagation → List ℕ
@@ -59,50 +59,50 @@ abbrev pub change_line : List ℕ → List ℕ → Setting → List ℕ
 change_line space to setting =
     if is_empty_setting setting then [] else codes "setattr" ++ behind_word space ++ behind_path to ++ setting_text setting ++ 10 ∷ []
 
-abbrev pub attributes_text : List ℕ → List ℕ → Setting → Option Propagation → List ℕ
-attributes_text space to setting propagation = change_line space to setting ++ then_made space to propagation
+abbrev pub changed_lines : List ℕ → List ℕ → Setting → Option Propagation → List ℕ
+changed_lines space to setting propagation = change_line space to setting ++ then_made space to propagation
 
 -- each form
-abbrev pub bind_text : List ℕ → List ℕ → List ℕ → Bool → List ℕ
-bind_text space from to recursive = two_paths_line (if recursive then codes "rbind" else codes "bind") space from to
+abbrev pub bind_line : List ℕ → List ℕ → List ℕ → Bool → List ℕ
+bind_line space from to recursive = two_paths_line (if recursive then codes "rbind" else codes "bind") space from to
 
-abbrev pub mount_text : List ℕ → List ℕ → List ℕ → List ℕ
-mount_text space filesystem to = codes "mount" ++ behind_word space ++ behind_word filesystem ++ behind_path to ++ 10 ∷ []
+abbrev pub new_mount_line : List ℕ → List ℕ → List ℕ → List ℕ
+new_mount_line space filesystem to = codes "mount" ++ behind_word space ++ behind_word filesystem ++ behind_path to ++ 10 ∷ []
 
 -- the attributes that the options of a mount in a table tell
 abbrev pub told_attributes : List ℕ → Attributes
 told_attributes options = (with_list options nothing_given).said.set
 
 -- more mounts than one are for a table to tell
-abbrev pub umount_text : List ℕ → List ℕ → Bool → Reach → List ℕ
-umount_text space target lazy One = one_path_line (if lazy then codes "detach" else codes "umount") space target
-umount_text space target lazy Below = []
-umount_text space target lazy Filesystem = []
+abbrev pub umount_line : List ℕ → List ℕ → Bool → Reach → List ℕ
+umount_line space target lazy One = one_path_line (if lazy then codes "detach" else codes "umount") space target
+umount_line space target lazy Below = []
+umount_line space target lazy Filesystem = []
 
-abbrev pub copy_text : List ℕ → Bool → List ℕ
-copy_text space less = codes "copyns" ++ behind_word space ++ (if less then codes " less\n" else codes "\n")
+abbrev pub copy_line : List ℕ → Bool → List ℕ
+copy_line space less = codes "copyns" ++ behind_word space ++ (if less then codes " less\n" else codes "\n")
 
-abbrev pub line_text : List ℕ → List (List ℕ) → List ℕ
-line_text verb words = escaped verb ++ flat_map behind_word words ++ 10 ∷ []
+abbrev pub own_line : List ℕ → List (List ℕ) → List ℕ
+own_line verb words = escaped verb ++ flat_map behind_word words ++ 10 ∷ []
 
 -- the lines of a form in a namespace; the filesystem is that of a mount, and the options those that a remount changes
-abbrev pub script_text : Form → List ℕ → List ℕ → List ℕ → List ℕ
-script_text (form.Bind from to recursive said propagation) space filesystem options =
-    bind_text space from to recursive ++ attributes_text space to (for_bind said) propagation
-script_text (form.Move from to propagation) space filesystem options =
+abbrev pub script_text : Operation → List ℕ → List ℕ → List ℕ → List ℕ
+script_text (operation.Bind from to recursive said propagation) space filesystem options =
+    bind_line space from to recursive ++ changed_lines space to (for_bind said) propagation
+script_text (operation.Move from to propagation) space filesystem options =
     two_paths_line (codes "move") space from to ++ then_made space to propagation
-script_text (form.Mount source kind to said propagation) space filesystem options =
-    mount_text space filesystem to ++ attributes_text space to (for_new said) propagation
-script_text (form.Remount to said propagation) space filesystem options =
-    attributes_text space to (for_remount said (told_attributes options)) propagation
-script_text (form.Propagation to propagation) space filesystem options = then_made space to (Some propagation)
-script_text (form.Umount target lazy reach) space filesystem options = umount_text space target lazy reach
-script_text (form.Pivot new old) space filesystem options = two_paths_line (codes "pivot") space new old
-script_text (form.CopySpace less propagation) space filesystem options = copy_text space less
-script_text form.Mkdir space filesystem options = []
-script_text (form.Line verb words) space filesystem options = line_text verb words
+script_text (operation.Mount source kind to said propagation) space filesystem options =
+    new_mount_line space filesystem to ++ changed_lines space to (for_new said) propagation
+script_text (operation.Remount to said propagation) space filesystem options =
+    changed_lines space to (for_remount said (told_attributes options)) propagation
+script_text (operation.Propagation to propagation) space filesystem options = then_made space to (Some propagation)
+script_text (operation.Umount target lazy reach) space filesystem options = umount_line space target lazy reach
+script_text (operation.Pivot new old) space filesystem options = two_paths_line (codes "pivot") space new old
+script_text (operation.CopySpace less propagation) space filesystem options = copy_line space less
+script_text operation.Mkdir space filesystem options = []
+script_text (operation.Line verb words) space filesystem options = own_line verb words
 
 -- a copied namespace's mounts are made so once it is there
-abbrev pub later_text : Form → List ℕ → List ℕ
-later_text (form.CopySpace less propagation) made = then_made made (codes "/") propagation
-later_text form made = []
+abbrev pub later_text : Operation → List ℕ → List ℕ
+later_text (operation.CopySpace less propagation) made = then_made made (codes "/") propagation
+later_text operation made = []

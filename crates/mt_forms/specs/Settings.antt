@@ -2,7 +2,7 @@
 -- A word with no source is this project's rule.
 use Rattle.std.specs.Prelude.{ℕ, Bool, true, false, not, ◌&&◌, ◌||◌, if◌then◌else◌, List, [], ◌∷◌, ◌++◌, codes}
 use Rattle.std.specs.List.{flat_map}
-use Rattle.mt_forms.specs.Attributes.{no_attributes, has, is_timed, over}
+use Rattle.mt_forms.specs.Attributes.{no_attributes, has_attribute, is_timed, laid_over}
 use Rattle.mt_forms.specs.declared.attribute.Attribute.{Attribute}
 use Rattle.mt_forms.specs.declared.attribute.Attribute.TheVariants.{Ro, Nosuid, Nodev, Noexec, Nosymfollow, Nodiratime, Relatime, Noatime, Strictatime}
 use Rattle.mt_forms.specs.declared.attribute.Attributes.{Attributes}
@@ -16,8 +16,8 @@ is_passed a = a.ro || a.nosuid || a.nodev || a.noexec || a.nosymfollow || a.nodi
 abbrev pub are_none : Attributes → Bool
 are_none a = not (is_passed a) && not a.strictatime
 
-abbrev pub nothing_set : Setting
-nothing_set = record { set = no_attributes; clear = no_attributes; clears_atime = false }
+abbrev pub no_setting : Setting
+no_setting = record { set = no_attributes; clear = no_attributes; clears_atime = false }
 
 -- of access times the strict one counts, then none at all, then the relative one (mount(2))
 abbrev pub timed_by : Attributes → Attributes
@@ -47,11 +47,11 @@ set_exactly a =
 
 -- a bind with attributes is remounted with these alone, and so without those of its source (mount(8), util-linux 2.38)
 abbrev pub for_bind : Said → Setting
-for_bind s = if is_passed s.set then set_exactly s.set else nothing_set
+for_bind s = if is_passed s.set then set_exactly s.set else no_setting
 
 -- a remount reads the attributes that there are, and lays what is said over them (mount(8), remount)
 abbrev pub for_remount : Said → Attributes → Setting
-for_remount s old = set_exactly (over old s)
+for_remount s old = set_exactly (laid_over old s)
 
 -- a new mount is rw,relatime
 abbrev pub for_new : Said → Setting
@@ -77,10 +77,10 @@ all_attributes = Ro ∷ Nosuid ∷ Nodev ∷ Noexec ∷ Nosymfollow ∷ Nodirati
 
 -- the words of the attributes that are there, each behind a comma
 abbrev pub listed_word : Attributes → Attribute → List ℕ
-listed_word a attribute = if has attribute a then 44 ∷ attribute_word attribute else []
+listed_word a attribute = if has_attribute attribute a then 44 ∷ attribute_word attribute else []
 
-unfoldable pub listed_words : Attributes → List ℕ
-listed_words a = flat_map (listed_word a) all_attributes
+unfoldable pub attribute_words : Attributes → List ℕ
+attribute_words a = flat_map (listed_word a) all_attributes
 
 -- an option with its list, which has a comma in front of each word, if there is one
 abbrev pub option_text : List ℕ → List ℕ → List ℕ
@@ -88,7 +88,7 @@ option_text key [] = []
 option_text key (comma ∷ words) = key ++ words
 
 abbrev pub cleared_words : Setting → List ℕ
-cleared_words c = listed_words c.clear ++ (if c.clears_atime then codes ",atime" else [])
+cleared_words c = attribute_words c.clear ++ (if c.clears_atime then codes ",atime" else [])
 
 abbrev pub setting_text : Setting → List ℕ
-setting_text c = option_text (codes " set=") (listed_words c.set) ++ option_text (codes " clr=") (cleared_words c)
+setting_text c = option_text (codes " set=") (attribute_words c.set) ++ option_text (codes " clr=") (cleared_words c)

@@ -19,16 +19,16 @@ abbrev pub is_kept : ℕ → Bool
 is_kept b = b == 34 || b == 92 || b == 36 || b == 96
 
 -- a word has begun
-abbrev pub begun : Before → Before
-begun s = record s { is_inside = true; has_word = true }
+abbrev pub inside_word : Before → Before
+inside_word s = record s { is_inside = true; has_word = true }
 
 -- what a byte says of the next: outside of quotes, in single ones (39) and in double ones (34); a backslash is 92
 abbrev pub next_bare : Before → ℕ → Before
 next_bare s b =
     if is_blank b then record s { is_inside = false }
-    else (if b == 39 then record (begun s) { quotes = quotes.Single }
-    else (if b == 34 then record (begun s) { quotes = quotes.Double }
-    else record (begun s) { is_escaped = b == 92 }))
+    else (if b == 39 then record (inside_word s) { quotes = quotes.Single }
+    else (if b == 34 then record (inside_word s) { quotes = quotes.Double }
+    else record (inside_word s) { is_escaped = b == 92 }))
 
 abbrev pub next_in : Quotes → Before → ℕ → Before
 next_in quotes.None s b = next_bare s b
@@ -39,10 +39,10 @@ abbrev pub next_byte : Before → ℕ → Before
 next_byte s b = if s.is_escaped then record s { is_escaped = false } else next_in s.quotes s b
 
 -- no quote is open, and no backslash is the last byte
-abbrev pub is_bare : Quotes → Bool
-is_bare quotes.None = true
-is_bare quotes.Single = false
-is_bare quotes.Double = false
+abbrev pub is_unquoted : Quotes → Bool
+is_unquoted quotes.None = true
+is_unquoted quotes.Single = false
+is_unquoted quotes.Double = false
 
 abbrev pub is_double : Quotes → Bool
 is_double quotes.None = false
@@ -50,7 +50,7 @@ is_double quotes.Single = false
 is_double quotes.Double = true
 
 abbrev pub is_closed : Before → Bool
-is_closed s = is_bare s.quotes && not s.is_escaped
+is_closed s = is_unquoted s.quotes && not s.is_escaped
 
 -- what a byte gives: itself, unless it is left out
 abbrev pub unless_left_out : ℕ → Bool → List ℕ

@@ -5,12 +5,12 @@ use Rattle.std.specs.Prelude.{ℕ, true, false, List, [], ◌∷◌, Option, cod
 use Rattle.std.specs.Str.{bytes_eq}
 use Rattle.mt_forms.specs.Lookup.{looked_up}
 use Rattle.mt_forms.specs.declared.attribute.Attribute.TheVariants.{Ro}
-use Rattle.mt_forms.specs.declared.command.Program.{Program}
-use Rattle.mt_forms.specs.declared.command.Program.TheVariants.{Mount, Umount, Unshare, Nsenter, PivotRoot}
-use Rattle.mt_forms.specs.declared.form.Kind.{Kind}
-use Rattle.mt_forms.specs.declared.form.Kind.TheVariants.{Shared, Private, Slave, Unbindable}
-use Rattle.mt_forms.specs.declared.form.Propagation.{Propagation}
-use Rattle.mt_forms.specs.declared.form.Reach.TheVariants.{Below, Filesystem}
+use Rattle.mt_forms.specs.declared.command.Tool.{Tool}
+use Rattle.mt_forms.specs.declared.command.Tool.TheVariants.{Mount, Umount, Unshare, Nsenter, PivotRoot}
+use Rattle.mt_forms.specs.declared.operation.PropagationKind.{PropagationKind}
+use Rattle.mt_forms.specs.declared.operation.PropagationKind.TheVariants.{Shared, Private, Slave, Unbindable}
+use Rattle.mt_forms.specs.declared.operation.Propagation.{Propagation}
+use Rattle.mt_forms.specs.declared.operation.Reach.TheVariants.{Below, Filesystem}
 use Rattle.mt_forms.specs.declared.table.Change.TheVariants.{Bind, Rbind, Move}
 use Rattle.mt_forms.specs.declared.table.Means.{Means}
 use Rattle.mt_forms.specs.declared.table.Means.TheVariants.{Changes, Makes, Turns, Options, FilesystemType, Source, Target, Space, Mounts, Lazy, Reaches, Forced, Less, Spread, Fstab, Unseen}
@@ -23,10 +23,10 @@ abbrev pub OptionRow : Type 0
 OptionRow = List ℕ × List ℕ × Takes × Means
 
 -- one mount is made so, or a mount and all below it
-abbrev pub made_alone : Kind → Propagation
+abbrev pub made_alone : PropagationKind → Propagation
 made_alone k = record { kind = k; recursive = false }
 
-abbrev pub all_made : Kind → Propagation
+abbrev pub all_made : PropagationKind → Propagation
 all_made k = record { kind = k; recursive = true }
 
 -- mount(8)
@@ -78,20 +78,20 @@ nsenter_options =
     ∷ (codes "G", codes "setgid", Value, Unseen) ∷ []
 
 -- the options of a program
-abbrev pub options_of : Program → List OptionRow
-options_of Mount = mount_options
-options_of Umount = umount_options
-options_of Unshare = unshare_options
-options_of Nsenter = nsenter_options
-options_of PivotRoot = []
+abbrev pub options_of_tool : Tool → List OptionRow
+options_of_tool Mount = mount_options
+options_of_tool Umount = umount_options
+options_of_tool Unshare = unshare_options
+options_of_tool Nsenter = nsenter_options
+options_of_tool PivotRoot = []
 
 -- what an option does
 abbrev pub effect_of : OptionRow → Effect
 effect_of row = record { takes = row.2; means = row.3 }
 
 -- what the option with a letter, or with a name, does, if the program has it
-unfoldable pub option_of_letter : Program → List ℕ → Option Effect
-option_of_letter program letter = looked_up (λ row. bytes_eq row.0 letter) effect_of (options_of program)
+unfoldable pub option_of_letter : Tool → List ℕ → Option Effect
+option_of_letter tool letter = looked_up (λ row. bytes_eq row.0 letter) effect_of (options_of_tool tool)
 
-unfoldable pub option_of_name : Program → List ℕ → Option Effect
-option_of_name program name = looked_up (λ row. bytes_eq row.1 name) effect_of (options_of program)
+unfoldable pub option_of_name : Tool → List ℕ → Option Effect
+option_of_name tool name = looked_up (λ row. bytes_eq row.1 name) effect_of (options_of_tool tool)

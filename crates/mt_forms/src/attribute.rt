@@ -1,6 +1,6 @@
 //! Attributes of a mount, as mount(2) has a flag for each, and what options say of them.
-ghost use Rattle.std.specs.Prelude.{◌≡◌, ◌&&◌, ◌||◌, true, not};
-ghost use Rattle.mt_forms.specs.Attributes.{no_attributes, has, with_attribute, nothing_said, turned, turned_all, is_timed, over};
+ghost use Rattle.std.specs.Prelude.{◌≡◌, ◌&&◌, ◌||◌, not};
+ghost use Rattle.mt_forms.specs.Attributes.{no_attributes, has_attribute, with_attribute, nothing_said, turned, turned_all, is_timed, laid_over};
 
 /// An attribute of a mount, with its flag of mount(2).
 #[derive(Clone, Copy, PartialEq, Eq, Debug)]
@@ -59,7 +59,7 @@ impl Attributes {
 
     /// Whether an attribute is among them.
     pub fn has(self, attribute: Attribute) -> bool
-        ensures { result ≡ has attribute self }
+        ensures { result ≡ has_attribute attribute self }
     {
         match attribute {
             Attribute::Ro => self.ro,
@@ -163,8 +163,8 @@ impl Said {
     }
 
     /// The attributes that there are where those of a mount were these.
-    pub fn over(self, old: Attributes) -> Attributes
-        ensures { result ≡ over old self }
+    pub fn laid_over(self, old: Attributes) -> Attributes
+        ensures { result ≡ laid_over old self }
     {
         let Said { set, clear } = self;
         Attributes {

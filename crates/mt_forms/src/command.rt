@@ -6,7 +6,7 @@ ghost use Rattle.mt_forms.specs.Beginnings.{beginning_of};
 
 /// A program whose options are read.
 #[derive(Clone, Copy, PartialEq, Eq, Debug)]
-pub enum Program {
+pub enum Tool {
     /// mount(8).
     Mount,
     /// umount(8).
@@ -19,15 +19,15 @@ pub enum Program {
     PivotRoot,
 }
 
-impl Program {
+impl Tool {
     /// Its name.
     pub fn name(self) -> &'static str {
         match self {
-            Program::Mount => "mount",
-            Program::Umount => "umount",
-            Program::Unshare => "unshare",
-            Program::Nsenter => "nsenter",
-            Program::PivotRoot => "pivot_root",
+            Tool::Mount => "mount",
+            Tool::Umount => "umount",
+            Tool::Unshare => "unshare",
+            Tool::Nsenter => "nsenter",
+            Tool::PivotRoot => "pivot_root",
         }
     }
 }
@@ -36,7 +36,7 @@ impl Program {
 #[derive(Clone, Copy, PartialEq, Eq, Debug)]
 pub enum Beginning {
     /// One of a program.
-    Runs(Program),
+    Runs(Tool),
     /// `mkdir`, of a shell or of a session.
     Mkdir,
     /// One of a session, which changes something.
@@ -51,11 +51,11 @@ pub(crate) struct BeginningRow(pub(crate) &'static [u8], Beginning);
 
 /// All first words. Those of mount(8) and umount(8) begin lines of a session too, which have another form.
 pub(crate) const BEGINNINGS: [BeginningRow; 24] = [
-    BeginningRow(b"mount", Beginning::Runs(Program::Mount)),
-    BeginningRow(b"umount", Beginning::Runs(Program::Umount)),
-    BeginningRow(b"unshare", Beginning::Runs(Program::Unshare)),
-    BeginningRow(b"nsenter", Beginning::Runs(Program::Nsenter)),
-    BeginningRow(b"pivot_root", Beginning::Runs(Program::PivotRoot)),
+    BeginningRow(b"mount", Beginning::Runs(Tool::Mount)),
+    BeginningRow(b"umount", Beginning::Runs(Tool::Umount)),
+    BeginningRow(b"unshare", Beginning::Runs(Tool::Unshare)),
+    BeginningRow(b"nsenter", Beginning::Runs(Tool::Nsenter)),
+    BeginningRow(b"pivot_root", Beginning::Runs(Tool::PivotRoot)),
     BeginningRow(b"mkdir", Beginning::Mkdir),
     BeginningRow(b"mkfs", Beginning::Line),
     BeginningRow(b"newns", Beginning::Line),

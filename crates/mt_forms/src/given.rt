@@ -1,12 +1,10 @@
 //! What the words behind a program give.
-ghost use Rattle.std.specs.Prelude.{◌≡◌, true, cond, fold};
-ghost use Rattle.mt_lines.specs.Words.{pieces};
-ghost use Rattle.mt_forms.specs.Attributes.{turned_all};
-ghost use Rattle.mt_forms.specs.Given.{nothing_given, is_same_change, placed, slipped, with_said, with_change, with_propagation, with_foreign, with_listed, with_list, with_spread, with_option, with_value, with_plain, users, owners};
+ghost use Rattle.std.specs.Prelude.{◌≡◌};
+ghost use Rattle.mt_forms.specs.Given.{nothing_given, is_same_change, one_more_place, slipped, with_said, with_one_change, with_propagation, with_foreign, with_listed, with_list, with_spread, with_option, with_value, with_plain};
 
 use crate::attribute::{Attribute, Said};
-use crate::command::Program;
-use crate::form::{Kind, Propagation, Reach};
+use crate::command::Tool;
+use crate::operation::{PropagationKind, Propagation, Reach};
 use crate::listed::{Listed, listed_of};
 use crate::slip::Slip;
 use crate::table::{Change, Means};
@@ -26,7 +24,7 @@ pub(crate) enum Places<'a> {
 impl<'a> Places<'a> {
     /// These words, and one behind them.
     pub(crate) fn with(self, word: Word<'a>) -> Places<'a>
-        ensures { result ≡ placed self.entry word.entry }
+        ensures { result ≡ one_more_place self.entry word.entry }
     {
         match self {
             Places::None => Places::One(word),
@@ -151,8 +149,8 @@ impl<'a> Given<'a> {
     }
 
     /// The same, with one change, which is no second one.
-    fn with_change(self, change: Change) -> Given<'a>
-        ensures { result ≡ with_change change self.entry }
+    fn with_one_change(self, change: Change) -> Given<'a>
+        ensures { result ≡ with_one_change change self.entry }
     {
         match self.change {
             None => Given {
@@ -222,7 +220,7 @@ impl<'a> Given<'a> {
                 let said = self.said.turned_all(&[Attribute::Nosuid, Attribute::Nodev]);
                 self.with_said(said)
             }
-            Listed::Changes(change) => self.with_change(change),
+            Listed::Changes(change) => self.with_one_change(change),
             Listed::Remounts => Given {
                 remounts: true,
                 ..self
@@ -253,11 +251,11 @@ impl<'a> Given<'a> {
         ensures { result ≡ with_spread word.entry.now self.entry }
     {
         let kind = if word == b"shared".as_slice() {
-            Kind::Shared
+            PropagationKind::Shared
         } else if word == b"private".as_slice() {
-            Kind::Private
+            PropagationKind::Private
         } else if word == b"slave".as_slice() {
-            Kind::Slave
+            PropagationKind::Slave
         } else if word == b"unchanged".as_slice() {
             return Given {
                 is_unchanged: true,
@@ -278,11 +276,11 @@ impl<'a> Given<'a> {
     }
 
     /// The same, with an option that has no value.
-    pub(crate) fn with_option(self, program: Program, means: Means) -> Given<'a>
-        ensures { result ≡ with_option program means self.entry }
+    pub(crate) fn with_option(self, tool: Tool, means: Means) -> Given<'a>
+        ensures { result ≡ with_option tool means self.entry }
     {
         match means {
-            Means::Changes(change) => self.with_change(change),
+            Means::Changes(change) => self.with_one_change(change),
             Means::Makes(propagation) => self.with_propagation(propagation),
             Means::Turns(attribute, on) => {
                 let said = self.said.turned(attribute, on);
@@ -305,7 +303,7 @@ impl<'a> Given<'a> {
                 is_less: true,
                 ..self
             },
-            Means::Fstab => self.slipped(Slip::Fstab { program }),
+            Means::Fstab => self.slipped(Slip::Fstab { tool }),
             Means::Options
             | Means::FilesystemType
             | Means::Source
@@ -319,11 +317,11 @@ impl<'a> Given<'a> {
     /// The same, with an option and its value.
     pub(crate) fn with_value(
         self,
-        program: Program,
+        tool: Tool,
         means: Means,
         value: &'a [u8],
     ) -> Given<'a>
-        ensures { result ≡ with_value program means value.entry.now self.entry }
+        ensures { result ≡ with_value tool means value.entry.now self.entry }
     {
         match means {
             Means::Options => self.with_list(value),
@@ -357,7 +355,7 @@ impl<'a> Given<'a> {
             | Means::Forced
             | Means::Less
             | Means::Fstab
-            | Means::Unseen => self.with_option(program, means),
+            | Means::Unseen => self.with_option(tool, means),
         }
     }
 

@@ -1,7 +1,7 @@
 //! Lines of mount(8), umount(8), unshare(1), nsenter(1) and pivot_root(8), as people write them, and what they ask for.
 //!
-//! [`line::read_line`] makes a [`form::Form`] of the words of a line, or says which [`slip::Slip`] is in it, and
-//! [`script::script_of`] writes what it asks for as lines of a session. [`split::split_line`] makes words of a text, as a
+//! [`line::read_line`] makes a [`operation::Operation`] of the words of a line, or says which [`slip::Slip`] is in it, and
+//! [`script::session_lines`] writes what it asks for as lines of a session. [`split::split_line`] makes words of a text, as a
 //! shell does.
 //!
 //! The words behind a program are read by its table of options ([`table`]), one after another ([`reading`]), into what is
@@ -12,12 +12,12 @@
 
 pub mod attribute;
 pub mod command;
-pub mod form;
-mod forms;
 mod given;
 pub mod line;
 mod listed;
 pub mod nearest;
+pub mod operation;
+mod operations;
 mod reading;
 pub mod script;
 pub mod setting;

@@ -1,10 +1,10 @@
 //! Lines, and what they ask for.
 ghost use Rattle.std.specs.Prelude.{◌≡◌};
-ghost use Rattle.mt_forms.specs.Lines.{is_label, are_space_and_path, are_space_label_and_path, is_own_line, asked_without, asked_by, by_beginning, in_space, without_command, entered_from, by_first, asked_of};
+ghost use Rattle.mt_forms.specs.Lines.{may_name, are_space_and_path, are_space_label_and_path, is_own_line, asked_without, asked_by, by_beginning, asked_in, without_command, entered_from, by_first, behind_sudo, asked_of};
 
-use crate::command::{Beginning, Program, beginning_of};
-use crate::form::{Asked, Form};
-use crate::forms::form_by;
+use crate::command::{Beginning, Tool, beginning_of};
+use crate::operation::{Asked, Operation};
+use crate::operations::operation_by;
 use crate::given::{Given, nothing_given};
 use crate::reading::given_of;
 use crate::slip::Slip;
@@ -12,8 +12,8 @@ use crate::word::{Word, base_name, is_rooted};
 use mt_lines::words::Words;
 
 /// Whether a word may name a namespace or a filesystem in a line of a session: it is neither a path nor an option.
-fn is_label(word: &[u8]) -> bool
-    ensures { result ≡ is_label word.now }
+fn may_name(word: &[u8]) -> bool
+    ensures { result ≡ may_name word.now }
 {
     !is_rooted(word) && !word.starts_with(b"-")
 }
@@ -26,7 +26,7 @@ fn are_space_and_path(words: Words<'_>) -> bool
     let (Some(space), Some(path), None) = (words.next(), words.next(), words.next()) else {
         return false;
     };
-    is_label(space) && is_rooted(path)
+    may_name(space) && is_rooted(path)
 }
 
 /// Whether words are a namespace, a filesystem and a path.
@@ -42,27 +42,27 @@ fn are_space_label_and_path(words: Words<'_>) -> bool
     ) else {
         return false;
     };
-    is_label(space) && is_label(fs) && is_rooted(path)
+    may_name(space) && may_name(fs) && is_rooted(path)
 }
 
 /// Whether a line of a program is one of a session, which begins with the same word.
-fn is_own_line(program: Program, words: Words<'_>) -> bool
-    ensures { result ≡ is_own_line program words.entry }
+fn is_own_line(tool: Tool, words: Words<'_>) -> bool
+    ensures { result ≡ is_own_line tool words.entry }
 {
-    match program {
-        Program::Mount => are_space_label_and_path(words),
-        Program::Umount => are_space_and_path(words),
-        Program::Unshare | Program::Nsenter | Program::PivotRoot => false,
+    match tool {
+        Tool::Mount => are_space_label_and_path(words),
+        Tool::Umount => are_space_and_path(words),
+        Tool::Unshare | Tool::Nsenter | Tool::PivotRoot => false,
     }
 }
 
 /// A form that is asked for, with nothing else.
-fn asked_without<'a>(form: Form<'a>) -> Asked<'a>
-    ensures { result ≡ asked_without form.entry }
+fn asked_without<'a>(operation: Operation<'a>) -> Asked<'a>
+    ensures { result ≡ asked_without operation.entry }
 {
     Asked {
         space: None,
-        form,
+        operation,
         foreign: None,
         has_more_foreign: false,
         is_forced: false,
@@ -70,24 +70,24 @@ fn asked_without<'a>(form: Form<'a>) -> Asked<'a>
 }
 
 /// What a line of a program asks for, by what its words give.
-fn asked_by<'a>(program: Program, given: Given<'a>) -> Result<Asked<'a>, Slip<'a>>
-    ensures { result ≡ asked_by program given.entry }
+fn asked_by<'a>(tool: Tool, given: Given<'a>) -> Result<Asked<'a>, Slip<'a>>
+    ensures { result ≡ asked_by tool given.entry }
 {
     let mut given = given;
     if let Some(slip) = given.slip.take() {
         return Err(slip);
     }
     if given.waiting.is_some() {
-        return Err(Slip::NoValue { program });
+        return Err(Slip::NoValue { tool });
     }
     let space = given.space.take();
     let foreign = given.foreign.take();
     let has_more_foreign = given.has_more_foreign;
     let is_forced = given.is_forced;
-    match form_by(program, given) {
-        Ok(form) => Ok(Asked {
+    match operation_by(tool, given) {
+        Ok(operation) => Ok(Asked {
             space,
-            form,
+            operation,
             foreign,
             has_more_foreign,
             is_forced,
@@ -106,19 +106,19 @@ fn asked_by_beginning<'a>(
 {
     let verb = Word::new(first);
     match beginning {
-        Some(Beginning::Runs(program)) => {
-            if is_own_line(program, words.again()) {
-                return Ok(asked_without(Form::Line { verb, words }));
+        Some(Beginning::Runs(tool)) => {
+            if is_own_line(tool, words.again()) {
+                return Ok(asked_without(Operation::Line { verb, words }));
             }
-            asked_by(program, given_of(program, words))
+            asked_by(tool, given_of(tool, words))
         }
         Some(Beginning::Mkdir) => {
             if are_space_and_path(words.again()) {
-                return Ok(asked_without(Form::Line { verb, words }));
+                return Ok(asked_without(Operation::Line { verb, words }));
             }
-            Ok(asked_without(Form::Mkdir))
+            Ok(asked_without(Operation::Mkdir))
         }
-        Some(Beginning::Line) => Ok(asked_without(Form::Line { verb, words })),
+        Some(Beginning::Line) => Ok(asked_without(Operation::Line { verb, words })),
         Some(Beginning::NoChange) => Err(Slip::NoChange { word: verb }),
         None => Err(Slip::Unknown { word: verb }),
     }
@@ -131,7 +131,7 @@ fn asked_in_space<'a>(
     command: &'a [u8],
     words: Words<'a>,
 ) -> Result<Asked<'a>, Slip<'a>>
-    ensures { result ≡ in_space given.entry command.entry.now words.entry }
+    ensures { result ≡ asked_in given.entry command.entry.now words.entry }
 {
     let mut given = given;
     if let Some(slip) = given.slip.take() {
@@ -139,7 +139,7 @@ fn asked_in_space<'a>(
     }
     if !given.has_mounts {
         return Err(Slip::NoMounts {
-            program: Program::Nsenter,
+            tool: Tool::Nsenter,
         });
     }
     let Some(space) = given.space.take() else {
@@ -180,18 +180,30 @@ fn asked_entered<'a>(given: Given<'a>, words: Words<'a>) -> Result<Asked<'a>, Sl
         if given.begins_command(word) {
             return asked_in_space(given, word, words);
         }
-        given = given.with_word(Program::Nsenter, word);
+        given = given.with_word(Tool::Nsenter, word);
     }
     Err(slip_without_command(given))
 }
 
 /// What a line asks for that has a first word and others.
+#[tactic(auto, unfolding(crate::specs::Lines::by_first))]
 fn asked_by_first<'a>(first: &'a [u8], words: Words<'a>) -> Result<Asked<'a>, Slip<'a>>
     ensures { result ≡ by_first first.entry.now words.entry }
 {
     match beginning_of(base_name(first)) {
-        Some(Beginning::Runs(Program::Nsenter)) => asked_entered(nothing_given(), words),
+        Some(Beginning::Runs(Tool::Nsenter)) => asked_entered(nothing_given(), words),
         beginning => asked_by_beginning(beginning, first, words),
+    }
+}
+
+/// What a line behind `sudo` asks for.
+fn asked_behind_sudo<'a>(words: Words<'a>) -> Result<Asked<'a>, Slip<'a>>
+    ensures { result ≡ behind_sudo words.entry }
+{
+    let mut words = words;
+    match words.next() {
+        Some(command) => asked_by_first(command, words),
+        None => Err(Slip::Empty),
     }
 }
 
@@ -209,11 +221,8 @@ pub fn read_line<'a>(words: Words<'a>) -> Result<Asked<'a>, Slip<'a>>
     if first.is_empty() {
         return Err(Slip::Empty);
     }
-    if base_name(first) != b"sudo".as_slice() {
-        return asked_by_first(first, words);
+    if base_name(first) == b"sudo".as_slice() {
+        return asked_behind_sudo(words);
     }
-    match words.next() {
-        Some(command) => asked_by_first(command, words),
-        None => Err(Slip::Empty),
-    }
+    asked_by_first(first, words)
 }

@@ -1,12 +1,11 @@
 //! The words of the list of `-o` that are not of a filesystem alone.
-ghost use Rattle.std.specs.Prelude.{◌≡◌, nat_eq, codes};
-ghost use Rattle.std.specs.List.{starts_with};
+ghost use Rattle.std.specs.Prelude.{◌≡◌};
 ghost use Rattle.std.specs.Str.{bytes_eq};
 ghost use Rattle.mt_forms.specs.Lookup.{looked_up};
-ghost use Rattle.mt_forms.specs.ListedWords.{listed_of, is_comment};
+ghost use Rattle.mt_forms.specs.ListedWords.{listed_of, is_private_word};
 
 use crate::attribute::Attribute;
-use crate::form::Propagation;
+use crate::operation::Propagation;
 use crate::table::{
     ALL_PRIVATE, ALL_SHARED, ALL_SLAVE, ALL_UNBINDABLE, Change, PRIVATE, SHARED, SLAVE, UNBINDABLE,
 };
@@ -94,8 +93,8 @@ fn listed_among(word: &[u8], rows: &[ListedRow]) -> Option<Listed>
 }
 
 /// Whether a word is a comment, which programs keep for themselves.
-fn is_comment(word: &[u8]) -> bool
-    ensures { result ≡ is_comment word.now }
+fn is_private_word(word: &[u8]) -> bool
+    ensures { result ≡ is_private_word word.now }
 {
     word.starts_with(b"x-") || word.starts_with(b"X-") || word.starts_with(b"comment=")
 }
@@ -105,7 +104,7 @@ fn is_comment(word: &[u8]) -> bool
 pub(crate) fn listed_of(word: &[u8]) -> Option<Listed>
     ensures { result ≡ listed_of word.now }
 {
-    if is_comment(word) {
+    if is_private_word(word) {
         return Some(Listed::Unseen);
     }
     listed_among(word, &LISTED)

@@ -1,6 +1,6 @@
 //! The word that was meant.
 
-use crate::command::{BEGINNINGS, BeginningRow, Program};
+use crate::command::{BEGINNINGS, BeginningRow, Tool};
 use crate::slip::Slip;
 use crate::table::{MOUNT, NSENTER, OptionRow, UMOUNT, UNSHARE};
 use std::alloc::{AllocError, Global};
@@ -75,16 +75,16 @@ pub fn meant_by(alloc: Global, slip: &Slip<'_>) -> Result<Option<&'static [u8]>,
         Slip::Unknown { word } if word.bytes().len() <= MOST_LETTERS => {
             nearest_beginning(alloc, word.bytes(), &BEGINNINGS)
         }
-        Slip::NoOption { program, word } if word.bytes().len() <= MOST_LETTERS => {
+        Slip::NoOption { tool, word } if word.bytes().len() <= MOST_LETTERS => {
             let Some(name) = word.bytes().strip_prefix(b"--") else {
                 return Ok(None);
             };
-            match program {
-                Program::Mount => nearest_option(alloc, name, &MOUNT),
-                Program::Umount => nearest_option(alloc, name, &UMOUNT),
-                Program::Unshare => nearest_option(alloc, name, &UNSHARE),
-                Program::Nsenter => nearest_option(alloc, name, &NSENTER),
-                Program::PivotRoot => Ok(None),
+            match tool {
+                Tool::Mount => nearest_option(alloc, name, &MOUNT),
+                Tool::Umount => nearest_option(alloc, name, &UMOUNT),
+                Tool::Unshare => nearest_option(alloc, name, &UNSHARE),
+                Tool::Nsenter => nearest_option(alloc, name, &NSENTER),
+                Tool::PivotRoot => Ok(None),
             }
         }
         _ => Ok(None),

@@ -1,12 +1,11 @@
 //! Forms as lines of a session.
-ghost use Rattle.std.specs.Prelude.{◌≡◌, ◌∷◌, [], ◌++◌, nat_eq, length, codes, IfOk, OnOk};
-ghost use Rattle.std.specs.List.{flat_map, list_all};
-ghost use Rattle.mt_skel.specs.Escapes.{escaped};
+ghost use Rattle.std.specs.Prelude.{◌≡◌, ◌++◌, IfOk, OnOk};
+ghost use Rattle.std.specs.List.{flat_map};
 ghost use Rattle.mt_lines.specs.Words.{pieces};
-ghost use Rattle.mt_forms.specs.Scripts.{is_root, behind_slash, behind_word, behind_path, one_path_line, two_paths_line, propagation_text, then_made, attributes_text, change_line, bind_text, mount_text, told_attributes, umount_text, copy_text, line_text, script_text, later_text};
+ghost use Rattle.mt_forms.specs.Scripts.{has_no_name, behind_slash, behind_word, behind_path, one_path_line, two_paths_line, propagation_text, then_made, changed_lines, change_line, bind_line, new_mount_line, told_attributes, umount_line, copy_line, own_line, script_text, later_text};
 
 use crate::attribute::Attributes;
-use crate::form::{Form, Kind, Propagation, Reach};
+use crate::operation::{Operation, PropagationKind, Propagation, Reach};
 use crate::given::nothing_given;
 use crate::setting::{Setting, for_bind, for_new, for_remount, push_setting};
 use mt_lines::words::{Pieces, Words};
@@ -17,8 +16,8 @@ use std::alloc::{AllocError, Global};
 type Done = Result<(), AllocError>;
 
 /// Whether a path has no name, so that it is the root.
-fn is_root(path: &[u8]) -> bool
-    ensures { result ≡ is_root path.now }
+fn has_no_name(path: &[u8]) -> bool
+    ensures { result ≡ has_no_name path.now }
 {
     Pieces::new(b'/', path).all(|name| name.is_empty())
 }
@@ -50,7 +49,7 @@ fn push_names(text: &mut Vec<u8>, path: &[u8]) -> Done
 pub(crate) fn push_word(text: &mut Vec<u8>, word: &[u8]) -> Done
     ensures { OnOk result (text.new.items ≡ text.old.items ++ behind_word word.now) }
 {
-    text.push(b' ')?;
+    text.extend_from_slice(b" ")?;
     push_escaped(text, word)?;
     Ok(())
 }
@@ -59,7 +58,7 @@ pub(crate) fn push_word(text: &mut Vec<u8>, word: &[u8]) -> Done
 pub(crate) fn push_path(text: &mut Vec<u8>, path: &[u8]) -> Done
     ensures { OnOk result (text.new.items ≡ text.old.items ++ behind_path path.now) }
 {
-    if is_root(path) {
+    if has_no_name(path) {
         text.extend_from_slice(b" /")?;
         return Ok(());
     }
@@ -102,14 +101,14 @@ fn propagation_words(propagation: Propagation) -> &'static [u8]
     ensures { result.now ≡ propagation_text propagation }
 {
     match (propagation.kind, propagation.recursive) {
-        (Kind::Shared, false) => b" prop=shared",
-        (Kind::Private, false) => b" prop=private",
-        (Kind::Slave, false) => b" prop=slave",
-        (Kind::Unbindable, false) => b" prop=unbindable",
-        (Kind::Shared, true) => b" rec prop=shared",
-        (Kind::Private, true) => b" rec prop=private",
-        (Kind::Slave, true) => b" rec prop=slave",
-        (Kind::Unbindable, true) => b" rec prop=unbindable",
+        (PropagationKind::Shared, false) => b" prop=shared",
+        (PropagationKind::Private, false) => b" prop=private",
+        (PropagationKind::Slave, false) => b" prop=slave",
+        (PropagationKind::Unbindable, false) => b" prop=unbindable",
+        (PropagationKind::Shared, true) => b" rec prop=shared",
+        (PropagationKind::Private, true) => b" rec prop=private",
+        (PropagationKind::Slave, true) => b" rec prop=slave",
+        (PropagationKind::Unbindable, true) => b" rec prop=unbindable",
     }
 }
 
@@ -157,7 +156,7 @@ fn push_attributes(
     setting: Setting,
     propagation: Option<Propagation>,
 ) -> Done
-    ensures { OnOk result (text.new.items ≡ text.old.items ++ attributes_text space.now to.now setting propagation) }
+    ensures { OnOk result (text.new.items ≡ text.old.items ++ changed_lines space.now to.now setting propagation) }
 {
     push_change(text, space, to, setting)?;
     push_made(text, space, to, propagation)?;
@@ -172,7 +171,7 @@ fn push_bind(
     to: &[u8],
     recursive: bool,
 ) -> Done
-    ensures { OnOk result (text.new.items ≡ text.old.items ++ bind_text space.now from.now to.now recursive) }
+    ensures { OnOk result (text.new.items ≡ text.old.items ++ bind_line space.now from.now to.now recursive) }
 {
     if recursive {
         push_two_paths(text, b"rbind", space, from, to)?;
@@ -184,7 +183,7 @@ fn push_bind(
 
 /// Appends the line of a new mount of a filesystem.
 fn push_mount(text: &mut Vec<u8>, space: &[u8], filesystem: &[u8], to: &[u8]) -> Done
-    ensures { OnOk result (text.new.items ≡ text.old.items ++ mount_text space.now filesystem.now to.now) }
+    ensures { OnOk result (text.new.items ≡ text.old.items ++ new_mount_line space.now filesystem.now to.now) }
 {
     text.extend_from_slice(b"mount")?;
     push_word(text, space)?;
@@ -209,7 +208,7 @@ fn push_umount(
     lazy: bool,
     reach: Reach,
 ) -> Done
-    ensures { OnOk result (text.new.items ≡ text.old.items ++ umount_text space.now target.now lazy reach) }
+    ensures { OnOk result (text.new.items ≡ text.old.items ++ umount_line space.now target.now lazy reach) }
 {
     match (reach, lazy) {
         (Reach::One, false) => push_one_path(text, b"umount", space, target),
@@ -221,7 +220,7 @@ fn push_umount(
 
 /// Appends the line that copies a namespace.
 fn push_copy(text: &mut Vec<u8>, space: &[u8], less: bool) -> Done
-    ensures { OnOk result (text.new.items ≡ text.old.items ++ copy_text space.now less) }
+    ensures { OnOk result (text.new.items ≡ text.old.items ++ copy_line space.now less) }
 {
     text.extend_from_slice(b"copyns")?;
     push_word(text, space)?;
@@ -235,7 +234,7 @@ fn push_copy(text: &mut Vec<u8>, space: &[u8], less: bool) -> Done
 
 /// Appends a line of a session.
 fn push_line(text: &mut Vec<u8>, verb: &[u8], words: Words<'_>) -> Done
-    ensures { OnOk result (text.new.items ≡ text.old.items ++ line_text verb.now words.entry) }
+    ensures { OnOk result (text.new.items ≡ text.old.items ++ own_line verb.now words.entry) }
 {
     push_escaped(text, verb)?;
     let mut words = words;
@@ -247,17 +246,17 @@ fn push_line(text: &mut Vec<u8>, verb: &[u8], words: Words<'_>) -> Done
 }
 
 /// Appends the lines of a form.
-fn push_form(
+fn push_operation(
     text: &mut Vec<u8>,
-    form: &Form<'_>,
+    operation: &Operation<'_>,
     space: &[u8],
     filesystem: &[u8],
     options: &[u8],
 ) -> Done
-    ensures { OnOk result (text.new.items ≡ text.old.items ++ script_text form.now space.now filesystem.now options.now) }
+    ensures { OnOk result (text.new.items ≡ text.old.items ++ script_text operation.now space.now filesystem.now options.now) }
 {
-    match form {
-        Form::Bind {
+    match operation {
+        Operation::Bind {
             from,
             to,
             recursive,
@@ -267,7 +266,7 @@ fn push_form(
             push_bind(text, space, from.bytes(), to.bytes(), *recursive)?;
             push_attributes(text, space, to.bytes(), for_bind(*said), *propagation)
         }
-        Form::Move {
+        Operation::Move {
             from,
             to,
             propagation,
@@ -275,7 +274,7 @@ fn push_form(
             push_two_paths(text, b"move", space, from.bytes(), to.bytes())?;
             push_made(text, space, to.bytes(), *propagation)
         }
-        Form::Mount {
+        Operation::Mount {
             to,
             said,
             propagation,
@@ -284,7 +283,7 @@ fn push_form(
             push_mount(text, space, filesystem, to.bytes())?;
             push_attributes(text, space, to.bytes(), for_new(*said), *propagation)
         }
-        Form::Remount {
+        Operation::Remount {
             to,
             said,
             propagation,
@@ -292,18 +291,18 @@ fn push_form(
             let setting = for_remount(*said, attributes_in(options));
             push_attributes(text, space, to.bytes(), setting, *propagation)
         }
-        Form::Propagation { to, propagation } =>
+        Operation::Propagation { to, propagation } =>
             push_made(text, space, to.bytes(), Some(*propagation)),
-        Form::Umount {
+        Operation::Umount {
             target,
             lazy,
             reach,
         } => push_umount(text, space, target.bytes(), *lazy, *reach),
-        Form::Pivot { new, old } =>
+        Operation::Pivot { new, old } =>
             push_two_paths(text, b"pivot", space, new.bytes(), old.bytes()),
-        Form::CopySpace { less, .. } => push_copy(text, space, *less),
-        Form::Mkdir => Ok(()),
-        Form::Line { verb, words } => push_line(text, verb.bytes(), words.again()),
+        Operation::CopySpace { less, .. } => push_copy(text, space, *less),
+        Operation::Mkdir => Ok(()),
+        Operation::Line { verb, words } => push_line(text, verb.bytes(), words.again()),
     }
 }
 
@@ -315,32 +314,32 @@ fn push_form(
 /// since no line sets both at once: its copies do not have them.
 ///
 /// There are no lines for an unmount of more mounts than one, which a table has to tell first, and for `mkdir`. What the
-/// mounts of a copied namespace are made is told by [`later_script_of`].
-pub fn script_of(
+/// mounts of a copied namespace are made is told by [`later_session_lines`].
+pub fn session_lines(
     alloc: Global,
-    form: &Form<'_>,
+    operation: &Operation<'_>,
     space: &[u8],
     filesystem: &[u8],
     options: &[u8],
 ) -> Result<Vec<u8>, AllocError>
-    ensures { IfOk result (λ script. script.items ≡ script_text form.now space.now filesystem.now options.now) }
+    ensures { IfOk result (λ script. script.items ≡ script_text operation.now space.now filesystem.now options.now) }
 {
     let mut text = Vec::new(alloc);
-    push_form(&mut text, form, space, filesystem, options)?;
+    push_operation(&mut text, operation, space, filesystem, options)?;
     Ok(text)
 }
 
 /// The lines of a session that a form asks for once its namespace is made, which has this number. Fails for want of memory
 /// alone. Only a copy of a namespace has any.
-pub fn later_script_of(
+pub fn later_session_lines(
     alloc: Global,
-    form: &Form<'_>,
+    operation: &Operation<'_>,
     made: &[u8],
 ) -> Result<Vec<u8>, AllocError>
-    ensures { IfOk result (λ script. script.items ≡ later_text form.now made.now) }
+    ensures { IfOk result (λ script. script.items ≡ later_text operation.now made.now) }
 {
     let mut text = Vec::new(alloc);
-    if let Form::CopySpace { propagation, .. } = form {
+    if let Operation::CopySpace { propagation, .. } = operation {
         push_made(&mut text, made, b"/", *propagation)?;
     }
     Ok(text)

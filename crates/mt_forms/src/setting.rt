@@ -1,7 +1,7 @@
 //! What a line does to the attributes of a mount, and how `setattr` says it.
-ghost use Rattle.std.specs.Prelude.{◌≡◌, ◌∷◌, [], ◌++◌, IfOk, OnOk};
+ghost use Rattle.std.specs.Prelude.{◌≡◌, ◌++◌, IfOk, OnOk};
 ghost use Rattle.std.specs.List.{flat_map};
-ghost use Rattle.mt_forms.specs.Settings.{attribute_word, is_passed, are_none, nothing_set, without_others, timed_by, set_exactly, for_bind, for_new, for_remount, is_empty_setting, listed_word, listed_words, option_text, cleared_words, setting_text};
+ghost use Rattle.mt_forms.specs.Settings.{attribute_word, is_passed, are_none, no_setting, without_others, timed_by, set_exactly, for_bind, for_new, for_remount, is_empty_setting, listed_word, attribute_words, option_text, cleared_words, setting_text};
 
 use crate::attribute::{Attribute, Attributes, Said};
 use std::alloc::{AllocError, Global};
@@ -69,8 +69,8 @@ fn are_none(attributes: Attributes) -> bool
 }
 
 /// Nothing is changed.
-fn nothing_set() -> Setting
-    ensures { result ≡ nothing_set }
+fn no_setting() -> Setting
+    ensures { result ≡ no_setting }
 {
     Setting {
         set: Attributes::none(),
@@ -143,7 +143,7 @@ pub(crate) fn for_bind(said: Said) -> Setting
     if is_passed(said.set) {
         set_exactly(said.set)
     } else {
-        nothing_set()
+        no_setting()
     }
 }
 
@@ -151,7 +151,7 @@ pub(crate) fn for_bind(said: Said) -> Setting
 pub(crate) fn for_remount(said: Said, old: Attributes) -> Setting
     ensures { result ≡ for_remount said old }
 {
-    set_exactly(said.over(old))
+    set_exactly(said.laid_over(old))
 }
 
 /// What is done to a new mount, which is `rw,relatime`, of which this is said.
@@ -221,9 +221,9 @@ fn push_option(text: &mut Vec<u8>, key: &[u8], list: &[u8]) -> Result<(), AllocE
 }
 
 /// The words of attributes, each behind a comma.
-#[tactic(auto, unfolding(crate::specs::Settings::listed_words))]
-fn listed_words(alloc: Global, attributes: Attributes) -> Result<Vec<u8>, AllocError>
-    ensures { IfOk result (λ words. words.items ≡ listed_words attributes) }
+#[tactic(auto, unfolding(crate::specs::Settings::attribute_words))]
+fn attribute_words(alloc: Global, attributes: Attributes) -> Result<Vec<u8>, AllocError>
+    ensures { IfOk result (λ words. words.items ≡ attribute_words attributes) }
 {
     let mut words = Vec::new(alloc);
     push_listed_of(&mut words, attributes, &ALL)?;
@@ -234,7 +234,7 @@ fn listed_words(alloc: Global, attributes: Attributes) -> Result<Vec<u8>, AllocE
 fn cleared_words(alloc: Global, setting: Setting) -> Result<Vec<u8>, AllocError>
     ensures { IfOk result (λ words. words.items ≡ cleared_words setting) }
 {
-    let mut words = listed_words(alloc, setting.clear)?;
+    let mut words = attribute_words(alloc, setting.clear)?;
     if setting.clears_atime {
         words.extend_from_slice(b",atime")?;
     }
@@ -249,7 +249,7 @@ pub(crate) fn push_setting(
 ) -> Result<(), AllocError>
     ensures { OnOk result (text.new.items ≡ text.old.items ++ setting_text setting) }
 {
-    let set = listed_words(alloc, setting.set)?;
+    let set = attribute_words(alloc, setting.set)?;
     let clear = cleared_words(alloc, setting)?;
     push_option(text, b" set=", set.as_slice())?;
     push_option(text, b" clr=", clear.as_slice())?;

@@ -1,6 +1,6 @@
 //! What is wrong with a line.
 
-use crate::command::Program;
+use crate::command::Tool;
 use crate::word::Word;
 use mt_terminal::message::Shown;
 use std::fmt;
@@ -16,25 +16,25 @@ pub enum Slip<'a> {
     /// A line that begins with this word changes nothing.
     NoChange { word: Word<'a> },
     /// The program has no such option here.
-    NoOption { program: Program, word: Word<'a> },
+    NoOption { tool: Tool, word: Word<'a> },
     /// The last option of the line wants a value.
-    NoValue { program: Program },
+    NoValue { tool: Tool },
     /// The option takes no value.
-    NoneTaken { program: Program, word: Word<'a> },
+    NoneTaken { tool: Tool, word: Word<'a> },
     /// The word is no path from the root.
     NotRooted { word: Word<'a> },
     /// The path goes through `.` or `..`.
     Dots { word: Word<'a> },
     /// The line has no target.
-    NoTarget { program: Program },
+    NoTarget { tool: Tool },
     /// The line has a target or a source alone.
     Alone { word: Word<'a> },
     /// There is a word too many.
-    Many { program: Program },
+    Many { tool: Tool },
     /// One path of two is missing.
-    OnePath { program: Program },
+    OnePath { tool: Tool },
     /// The line wants what stands in fstab(5), or all mounts.
-    Fstab { program: Program },
+    Fstab { tool: Tool },
     /// A remount without `bind`, which changes the filesystem for all its mounts.
     WholeRemount,
     /// A line asks for two of bind, rbind and move.
@@ -46,7 +46,7 @@ pub enum Slip<'a> {
     /// `nsenter` without a process.
     NoProcess,
     /// `nsenter` or `unshare` that is of no mount namespace.
-    NoMounts { program: Program },
+    NoMounts { tool: Tool },
     /// `nsenter` without a line.
     NoLine,
 }
@@ -60,11 +60,11 @@ impl<'a> Slip<'a> {
     /// Writes what is wrong with an option, or with a path.
     fn write_word<W: fmt::Write>(&self, f: &mut Formatter<W>) -> fmt::Result {
         match self {
-            Slip::NoOption { program, word } => {
-                write!(f, "{} has no {} here", program.name(), shown(word))
+            Slip::NoOption { tool, word } => {
+                write!(f, "{} has no {} here", tool.name(), shown(word))
             }
-            Slip::NoneTaken { program, word } => {
-                write!(f, "{}: {} takes no value", shown(word), program.name())
+            Slip::NoneTaken { tool, word } => {
+                write!(f, "{}: {} takes no value", shown(word), tool.name())
             }
             Slip::NotRooted { word } => write!(
                 f,
@@ -91,29 +91,29 @@ impl<'a> Slip<'a> {
     /// Writes what is wrong with a line of a program.
     fn write_program<W: fmt::Write>(&self, f: &mut Formatter<W>) -> fmt::Result {
         match self {
-            Slip::NoValue { program } => write!(
+            Slip::NoValue { tool } => write!(
                 f,
                 "{}: a value is missing behind the last option",
-                program.name()
+                tool.name()
             ),
-            Slip::NoTarget { program } => {
-                write!(f, "{} without a target changes nothing", program.name())
+            Slip::NoTarget { tool } => {
+                write!(f, "{} without a target changes nothing", tool.name())
             }
-            Slip::Many { program } => write!(
+            Slip::Many { tool } => write!(
                 f,
                 "{} has too many words: name one target a line",
-                program.name()
+                tool.name()
             ),
-            Slip::OnePath { program } => write!(f, "{} takes two paths here", program.name()),
-            Slip::Fstab { program } => write!(
+            Slip::OnePath { tool } => write!(f, "{} takes two paths here", tool.name()),
+            Slip::Fstab { tool } => write!(
                 f,
                 "{}: no fstab is read; name source and target of one mount",
-                program.name()
+                tool.name()
             ),
-            Slip::NoMounts { program } => write!(
+            Slip::NoMounts { tool } => write!(
                 f,
                 "{} is of a mount namespace with -m alone",
-                program.name()
+                tool.name()
             ),
             Slip::WholeRemount => {
                 f.write_str("mount -o remount without bind changes the filesystem itself, for all its mounts; -o remount,bind,.. changes this mount")

@@ -2,7 +2,7 @@
 ghost use Rattle.std.specs.Prelude.{◌≡◌, ◌∷◌, ◌++◌, map, OnOk, IfOk};
 ghost use Rattle.std.specs.List.{flat_map};
 ghost use Rattle.std.specs.Option.{option_map};
-ghost use Rattle.mt_forms.specs.Splitting.{start, is_blank, is_kept, begun, next_byte, is_closed, unless_left_out, emitted_bare, emitted_escaped, emitted, split_text, joined_text};
+ghost use Rattle.mt_forms.specs.Splitting.{start, is_blank, is_kept, inside_word, next_byte, is_closed, unless_left_out, emitted_bare, emitted_escaped, emitted, split_text, joined_text};
 
 use std::alloc::{AllocError, Global};
 
@@ -54,8 +54,8 @@ fn is_kept(byte: u8) -> bool
 
 impl Before {
     /// The same, where a word has begun.
-    fn begun(self) -> Before
-        ensures { result ≡ begun self }
+    fn inside_word(self) -> Before
+        ensures { result ≡ inside_word self }
     {
         Before {
             is_inside: true,
@@ -85,18 +85,18 @@ impl Before {
                 if byte == b'\'' {
                     return Before {
                         quotes: Quotes::Single,
-                        ..self.begun()
+                        ..self.inside_word()
                     };
                 }
                 if byte == b'"' {
                     return Before {
                         quotes: Quotes::Double,
-                        ..self.begun()
+                        ..self.inside_word()
                     };
                 }
                 Before {
                     is_escaped: byte == b'\\',
-                    ..self.begun()
+                    ..self.inside_word()
                 }
             }
             Quotes::Single => {
@@ -216,7 +216,7 @@ fn push_words(text: &mut Vec<u8>, words: &[&str]) -> Result<(), AllocError>
 
 /// Words with a zero byte between two, for [`mt_lines::words::Pieces`] at zero bytes. Fails for want of memory alone.
 #[tactic(auto, using(crate::proofs::SplitLaws::behind_zeros))]
-pub fn joined(alloc: Global, words: &[&str]) -> Result<Vec<u8>, AllocError>
+pub fn joined_words(alloc: Global, words: &[&str]) -> Result<Vec<u8>, AllocError>
     ensures { IfOk result (λ text. text.items ≡ joined_text (map (λ word. word.now) words.now)) }
 {
     let mut text = Vec::new(alloc);

@@ -6,8 +6,8 @@ ghost use Rattle.mt_forms.specs.Effects.{effect};
 ghost use Rattle.mt_forms.specs.Tables.{option_of_letter, option_of_name};
 
 use crate::attribute::Attribute;
-use crate::command::Program;
-use crate::form::{Kind, Propagation, Reach};
+use crate::command::Tool;
+use crate::operation::{PropagationKind, Propagation, Reach};
 
 /// Which of its changes a line of mount(8) asks for.
 #[derive(Clone, Copy, PartialEq, Eq, Debug)]
@@ -90,49 +90,49 @@ impl OptionRow {
 
 /// One mount is made shared.
 pub(crate) const SHARED: Propagation = Propagation {
-    kind: Kind::Shared,
+    kind: PropagationKind::Shared,
     recursive: false,
 };
 
 /// A mount and all below it are made shared.
 pub(crate) const ALL_SHARED: Propagation = Propagation {
-    kind: Kind::Shared,
+    kind: PropagationKind::Shared,
     recursive: true,
 };
 
 /// One mount is made slave.
 pub(crate) const SLAVE: Propagation = Propagation {
-    kind: Kind::Slave,
+    kind: PropagationKind::Slave,
     recursive: false,
 };
 
 /// A mount and all below it are made slave.
 pub(crate) const ALL_SLAVE: Propagation = Propagation {
-    kind: Kind::Slave,
+    kind: PropagationKind::Slave,
     recursive: true,
 };
 
 /// One mount is made private.
 pub(crate) const PRIVATE: Propagation = Propagation {
-    kind: Kind::Private,
+    kind: PropagationKind::Private,
     recursive: false,
 };
 
 /// A mount and all below it are made private.
 pub(crate) const ALL_PRIVATE: Propagation = Propagation {
-    kind: Kind::Private,
+    kind: PropagationKind::Private,
     recursive: true,
 };
 
 /// One mount is made unbindable.
 pub(crate) const UNBINDABLE: Propagation = Propagation {
-    kind: Kind::Unbindable,
+    kind: PropagationKind::Unbindable,
     recursive: false,
 };
 
 /// A mount and all below it are made unbindable.
 pub(crate) const ALL_UNBINDABLE: Propagation = Propagation {
-    kind: Kind::Unbindable,
+    kind: PropagationKind::Unbindable,
     recursive: true,
 };
 
@@ -247,28 +247,28 @@ fn among_names(name: &[u8], rows: &[OptionRow]) -> Option<Effect>
 
 /// What an option of one letter does, if the program has it.
 #[tactic(auto, unfolding(crate::specs::Tables::option_of_letter))]
-pub(crate) fn option_of_letter(program: Program, letter: &[u8]) -> Option<Effect>
-    ensures { result ≡ option_of_letter program letter.now }
+pub(crate) fn option_of_letter(tool: Tool, letter: &[u8]) -> Option<Effect>
+    ensures { result ≡ option_of_letter tool letter.now }
 {
-    match program {
-        Program::Mount => among_letters(letter, &MOUNT),
-        Program::Umount => among_letters(letter, &UMOUNT),
-        Program::Unshare => among_letters(letter, &UNSHARE),
-        Program::Nsenter => among_letters(letter, &NSENTER),
-        Program::PivotRoot => None,
+    match tool {
+        Tool::Mount => among_letters(letter, &MOUNT),
+        Tool::Umount => among_letters(letter, &UMOUNT),
+        Tool::Unshare => among_letters(letter, &UNSHARE),
+        Tool::Nsenter => among_letters(letter, &NSENTER),
+        Tool::PivotRoot => None,
     }
 }
 
 /// What an option with a name does, if the program has it.
 #[tactic(auto, unfolding(crate::specs::Tables::option_of_name))]
-pub(crate) fn option_of_name(program: Program, name: &[u8]) -> Option<Effect>
-    ensures { result ≡ option_of_name program name.now }
+pub(crate) fn option_of_name(tool: Tool, name: &[u8]) -> Option<Effect>
+    ensures { result ≡ option_of_name tool name.now }
 {
-    match program {
-        Program::Mount => among_names(name, &MOUNT),
-        Program::Umount => among_names(name, &UMOUNT),
-        Program::Unshare => among_names(name, &UNSHARE),
-        Program::Nsenter => among_names(name, &NSENTER),
-        Program::PivotRoot => None,
+    match tool {
+        Tool::Mount => among_names(name, &MOUNT),
+        Tool::Umount => among_names(name, &UMOUNT),
+        Tool::Unshare => among_names(name, &UNSHARE),
+        Tool::Nsenter => among_names(name, &NSENTER),
+        Tool::PivotRoot => None,
     }
 }

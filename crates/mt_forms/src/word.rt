@@ -1,7 +1,6 @@
 //! A word of a line, as it is written.
-ghost use Rattle.std.specs.Prelude.{◌≡◌, ◌&&◌, not, nat_eq, codes};
+ghost use Rattle.std.specs.Prelude.{◌≡◌, nat_eq, codes};
 ghost use Rattle.std.specs.List.{list_any, starts_with};
-ghost use Rattle.std.specs.Str.{bytes_eq};
 ghost use Rattle.mt_lines.specs.Words.{pieces};
 ghost use Rattle.mt_forms.specs.Written.{is_dots, base_name};
 
@@ -60,10 +59,10 @@ pub(crate) fn has_dots(path: &[u8]) -> bool
 }
 
 /// The name of a program, without the directories in front of it.
-pub(crate) fn base_name(program: &[u8]) -> &[u8]
-    ensures { result.now ≡ base_name program.now }
+pub(crate) fn base_name(tool: &[u8]) -> &[u8]
+    ensures { result.now ≡ base_name tool.now }
 {
-    let mut names = Pieces::new(b'/', program);
+    let mut names = Pieces::new(b'/', tool);
     let mut last: &[u8] = &[];
     'names: while let Some(name) = names.next() {
         last = name;

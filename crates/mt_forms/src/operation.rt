@@ -6,7 +6,7 @@ use mt_lines::words::Words;
 
 /// What mounts are made.
 #[derive(Clone, Copy, PartialEq, Eq, Debug)]
-pub enum Kind {
+pub enum PropagationKind {
     Shared,
     Private,
     Slave,
@@ -17,7 +17,7 @@ pub enum Kind {
 #[derive(Clone, Copy, PartialEq, Eq, Debug)]
 pub struct Propagation {
     /// What the mount is made.
-    pub kind: Kind,
+    pub kind: PropagationKind,
     /// Whether all mounts below it are made so too.
     pub recursive: bool,
 }
@@ -35,7 +35,7 @@ pub enum Reach {
 
 /// What a line asks for. Paths and sources are as they are written; a path begins with `/`, and has neither `.` nor `..`.
 #[derive(Drop)]
-pub enum Form<'a> {
+pub enum Operation<'a> {
     /// `from` is to be seen at `to` too.
     Bind {
         from: Word<'a>,
@@ -109,7 +109,7 @@ pub struct Asked<'a> {
     /// The namespace that the line names, as it is written: a process, or what else stands for one.
     pub space: Option<Word<'a>>,
     /// What is asked for.
-    pub form: Form<'a>,
+    pub operation: Operation<'a>,
     /// The first word of `-o` that is an option of the filesystem, and has no effect on mounts.
     pub foreign: Option<Word<'a>>,
     /// Whether there are more such words.

@@ -1,10 +1,10 @@
 //! What a line asks for, by its program and what its words give.
 ghost use Rattle.std.specs.Prelude.{◌≡◌};
-ghost use Rattle.mt_forms.specs.Forms.{path_slip, two_slip, in_front, behind, moved_form, change_form, remount_form, alone_form, new_form, mount_form, umount_form, spread, unshare_form, pivot_form, form_by};
+ghost use Rattle.mt_forms.specs.Operations.{path_slip, two_slip, in_front, then_place, moved_operation, change_operation, remount_operation, alone_operation, new_operation, mount_operation, umount_operation, spread, unshare_operation, pivot_operation, operation_by};
 
 use crate::attribute::Said;
-use crate::command::Program;
-use crate::form::{Form, Kind, Propagation};
+use crate::command::Tool;
+use crate::operation::{Operation, PropagationKind, Propagation};
 use crate::given::{Given, Places};
 use crate::slip::Slip;
 use crate::table::Change;
@@ -54,8 +54,8 @@ fn in_front<'a>(word: Option<Word<'a>>, places: Places<'a>) -> Places<'a>
 }
 
 /// These words, and one behind them, if there is one.
-fn behind<'a>(places: Places<'a>, word: Option<Word<'a>>) -> Places<'a>
-    ensures { result ≡ behind places.entry word.entry }
+fn then_place<'a>(places: Places<'a>, word: Option<Word<'a>>) -> Places<'a>
+    ensures { result ≡ then_place places.entry word.entry }
 {
     match word {
         Some(word) => places.with(word),
@@ -64,31 +64,31 @@ fn behind<'a>(places: Places<'a>, word: Option<Word<'a>>) -> Places<'a>
 }
 
 /// What a bind, rbind or move of two paths asks for.
-fn moved_form<'a>(
+fn moved_operation<'a>(
     change: Change,
     said: Said,
     propagation: Option<Propagation>,
     from: Word<'a>,
     to: Word<'a>,
-) -> Form<'a>
-    ensures { result ≡ moved_form change said propagation from.entry to.entry }
+) -> Operation<'a>
+    ensures { result ≡ moved_operation change said propagation from.entry to.entry }
 {
     match change {
-        Change::Bind => Form::Bind {
+        Change::Bind => Operation::Bind {
             from,
             to,
             recursive: false,
             said,
             propagation,
         },
-        Change::Rbind => Form::Bind {
+        Change::Rbind => Operation::Bind {
             from,
             to,
             recursive: true,
             said,
             propagation,
         },
-        Change::Move => Form::Move {
+        Change::Move => Operation::Move {
             from,
             to,
             propagation,
@@ -97,39 +97,39 @@ fn moved_form<'a>(
 }
 
 /// What a bind, rbind or move asks for.
-fn change_form<'a>(
+fn change_operation<'a>(
     change: Change,
     said: Said,
     propagation: Option<Propagation>,
     places: Places<'a>,
-) -> Result<Form<'a>, Slip<'a>>
-    ensures { result ≡ change_form change said propagation places.entry }
+) -> Result<Operation<'a>, Slip<'a>>
+    ensures { result ≡ change_operation change said propagation places.entry }
 {
     match places {
         Places::None => Err(Slip::NoTarget {
-            program: Program::Mount,
+            tool: Tool::Mount,
         }),
         Places::One(_word) => Err(Slip::OnePath {
-            program: Program::Mount,
+            tool: Tool::Mount,
         }),
         Places::Two(from, to) => match two_slip(&from, &to) {
             Some(slip) => Err(slip),
-            None => Ok(moved_form(change, said, propagation, from, to)),
+            None => Ok(moved_operation(change, said, propagation, from, to)),
         },
         Places::Many => Err(Slip::Many {
-            program: Program::Mount,
+            tool: Tool::Mount,
         }),
     }
 }
 
 /// What a remount asks for, of which the target is the last word.
-fn remount_form<'a>(
+fn remount_operation<'a>(
     change: Option<Change>,
     said: Said,
     propagation: Option<Propagation>,
     places: Places<'a>,
-) -> Result<Form<'a>, Slip<'a>>
-    ensures { result ≡ remount_form change said propagation places.entry }
+) -> Result<Operation<'a>, Slip<'a>>
+    ensures { result ≡ remount_operation change said propagation places.entry }
 {
     match change {
         None | Some(Change::Move) => return Err(Slip::WholeRemount),
@@ -138,20 +138,20 @@ fn remount_form<'a>(
     let to = match places {
         Places::None => {
             return Err(Slip::NoTarget {
-                program: Program::Mount,
+                tool: Tool::Mount,
             });
         }
         Places::One(to) => to,
         Places::Two(_source, to) => to,
         Places::Many => {
             return Err(Slip::Many {
-                program: Program::Mount,
+                tool: Tool::Mount,
             });
         }
     };
     match path_slip(&to) {
         Some(slip) => Err(slip),
-        None => Ok(Form::Remount {
+        None => Ok(Operation::Remount {
             to,
             said,
             propagation,
@@ -160,43 +160,43 @@ fn remount_form<'a>(
 }
 
 /// What a line of mount(8) with one word asks for: another propagation, or what stands in fstab(5).
-fn alone_form<'a>(
-    is_bare: bool,
+fn alone_operation<'a>(
+    is_unquoted: bool,
     propagation: Option<Propagation>,
     to: Word<'a>,
-) -> Result<Form<'a>, Slip<'a>>
-    ensures { result ≡ alone_form is_bare propagation to.entry }
+) -> Result<Operation<'a>, Slip<'a>>
+    ensures { result ≡ alone_operation is_unquoted propagation to.entry }
 {
     let Some(propagation) = propagation else {
         return Err(Slip::Alone { word: to });
     };
-    if !is_bare {
+    if !is_unquoted {
         return Err(Slip::Alone { word: to });
     }
     match path_slip(&to) {
         Some(slip) => Err(slip),
-        None => Ok(Form::Propagation { to, propagation }),
+        None => Ok(Operation::Propagation { to, propagation }),
     }
 }
 
 /// What a line of mount(8) without bind, rbind, move and remount asks for.
-fn new_form<'a>(
+fn new_operation<'a>(
     kind: Option<Word<'a>>,
     has_list: bool,
     said: Said,
     propagation: Option<Propagation>,
     places: Places<'a>,
-) -> Result<Form<'a>, Slip<'a>>
-    ensures { result ≡ new_form kind.entry has_list said propagation places.entry }
+) -> Result<Operation<'a>, Slip<'a>>
+    ensures { result ≡ new_operation kind.entry has_list said propagation places.entry }
 {
     match places {
         Places::None => Err(Slip::NoTarget {
-            program: Program::Mount,
+            tool: Tool::Mount,
         }),
-        Places::One(to) => alone_form(!has_list && kind.is_none(), propagation, to),
+        Places::One(to) => alone_operation(!has_list && kind.is_none(), propagation, to),
         Places::Two(source, to) => match path_slip(&to) {
             Some(slip) => Err(slip),
-            None => Ok(Form::Mount {
+            None => Ok(Operation::Mount {
                 source,
                 kind,
                 to,
@@ -205,14 +205,14 @@ fn new_form<'a>(
             }),
         },
         Places::Many => Err(Slip::Many {
-            program: Program::Mount,
+            tool: Tool::Mount,
         }),
     }
 }
 
 /// What a line of mount(8) asks for.
-fn mount_form<'a>(given: Given<'a>) -> Result<Form<'a>, Slip<'a>>
-    ensures { result ≡ mount_form given.entry }
+fn mount_operation<'a>(given: Given<'a>) -> Result<Operation<'a>, Slip<'a>>
+    ensures { result ≡ mount_operation given.entry }
 {
     let Given {
         change,
@@ -226,19 +226,19 @@ fn mount_form<'a>(given: Given<'a>) -> Result<Form<'a>, Slip<'a>>
         places,
         ..
     } = given;
-    let places = behind(in_front(source, places), target);
+    let places = then_place(in_front(source, places), target);
     if remounts {
-        return remount_form(change, said, propagation, places);
+        return remount_operation(change, said, propagation, places);
     }
     match change {
-        Some(change) => change_form(change, said, propagation, places),
-        None => new_form(kind, has_list, said, propagation, places),
+        Some(change) => change_operation(change, said, propagation, places),
+        None => new_operation(kind, has_list, said, propagation, places),
     }
 }
 
 /// What a line of umount(8) asks for.
-fn umount_form<'a>(given: Given<'a>) -> Result<Form<'a>, Slip<'a>>
-    ensures { result ≡ umount_form given.entry }
+fn umount_operation<'a>(given: Given<'a>) -> Result<Operation<'a>, Slip<'a>>
+    ensures { result ≡ umount_operation given.entry }
 {
     let Given {
         places,
@@ -248,23 +248,23 @@ fn umount_form<'a>(given: Given<'a>) -> Result<Form<'a>, Slip<'a>>
     } = given;
     match places {
         Places::None => Err(Slip::NoTarget {
-            program: Program::Umount,
+            tool: Tool::Umount,
         }),
         Places::One(target) => {
             if has_dots(target.bytes()) {
                 return Err(Slip::Dots { word: target });
             }
-            Ok(Form::Umount {
+            Ok(Operation::Umount {
                 target,
                 lazy: is_lazy,
                 reach,
             })
         }
         Places::Two(_first, _second) => Err(Slip::Many {
-            program: Program::Umount,
+            tool: Tool::Umount,
         }),
         Places::Many => Err(Slip::Many {
-            program: Program::Umount,
+            tool: Tool::Umount,
         }),
     }
 }
@@ -279,58 +279,58 @@ fn spread(is_unchanged: bool, propagation: Option<Propagation>) -> Option<Propag
     match propagation {
         Some(propagation) => Some(propagation),
         None => Some(Propagation {
-            kind: Kind::Private,
+            kind: PropagationKind::Private,
             recursive: true,
         }),
     }
 }
 
 /// What a line of unshare(1) asks for. A command behind the options has no effect on mounts here.
-fn unshare_form<'a>(given: Given<'a>) -> Result<Form<'a>, Slip<'a>>
-    ensures { result ≡ unshare_form given.entry }
+fn unshare_operation<'a>(given: Given<'a>) -> Result<Operation<'a>, Slip<'a>>
+    ensures { result ≡ unshare_operation given.entry }
 {
     if !given.has_mounts {
         return Err(Slip::NoMounts {
-            program: Program::Unshare,
+            tool: Tool::Unshare,
         });
     }
-    Ok(Form::CopySpace {
+    Ok(Operation::CopySpace {
         less: given.is_less,
         propagation: spread(given.is_unchanged, given.propagation),
     })
 }
 
 /// What a line of pivot_root(8) asks for.
-fn pivot_form<'a>(given: Given<'a>) -> Result<Form<'a>, Slip<'a>>
-    ensures { result ≡ pivot_form given.entry }
+fn pivot_operation<'a>(given: Given<'a>) -> Result<Operation<'a>, Slip<'a>>
+    ensures { result ≡ pivot_operation given.entry }
 {
     let Given { places, .. } = given;
     match places {
         Places::None => Err(Slip::NoTarget {
-            program: Program::PivotRoot,
+            tool: Tool::PivotRoot,
         }),
         Places::One(_word) => Err(Slip::OnePath {
-            program: Program::PivotRoot,
+            tool: Tool::PivotRoot,
         }),
         Places::Two(new, old) => match two_slip(&new, &old) {
             Some(slip) => Err(slip),
-            None => Ok(Form::Pivot { new, old }),
+            None => Ok(Operation::Pivot { new, old }),
         },
         Places::Many => Err(Slip::Many {
-            program: Program::PivotRoot,
+            tool: Tool::PivotRoot,
         }),
     }
 }
 
 /// What a line of a program asks for. One of nsenter(1) is of another program, which stands behind it.
-pub(crate) fn form_by<'a>(program: Program, given: Given<'a>) -> Result<Form<'a>, Slip<'a>>
-    ensures { result ≡ form_by program given.entry }
+pub(crate) fn operation_by<'a>(tool: Tool, given: Given<'a>) -> Result<Operation<'a>, Slip<'a>>
+    ensures { result ≡ operation_by tool given.entry }
 {
-    match program {
-        Program::Mount => mount_form(given),
-        Program::Umount => umount_form(given),
-        Program::Unshare => unshare_form(given),
-        Program::Nsenter => Err(Slip::NoLine),
-        Program::PivotRoot => pivot_form(given),
+    match tool {
+        Tool::Mount => mount_operation(given),
+        Tool::Umount => umount_operation(given),
+        Tool::Unshare => unshare_operation(given),
+        Tool::Nsenter => Err(Slip::NoLine),
+        Tool::PivotRoot => pivot_operation(given),
     }
 }
