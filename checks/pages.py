@@ -113,6 +113,11 @@ def refusals_of_page():
     return re.findall(r"(?m)^\.It Er (\w+)", section("mountd-lines.7", "REFUSALS"))
 
 
+def errnos_of_sources():
+    """The errors of Linux that mountctl knows."""
+    return re.findall(r'(?m)^            Errno::\w+ => "(E[A-Z]+)",$', shown(read("crates", "mt_reasons", "src", "errno.rt")))
+
+
 def refusals_by_line():
     """The refusals of each line in docs/RULES.md, in their order."""
     table = shown(read("docs", "RULES.md")).split("| Line | Refusals |\n")[1].split("\n\n")[0]
@@ -169,7 +174,7 @@ def check_explained(mountctl):
             check_same(f"the refusals behind {word}", names, re.findall(r"(?m)^  ([A-Z][a-z]\w*): ", rest))
     alone = run(mountctl, b"", "explain", "eperm")
     check("explain eperm", alone[0] == 0 and b"\n  in Linux alone: " in alone[1], repr(alone))
-    takes = b"mountctl: explain takes the name of a refusal, or the name or number of an errno\n"
+    takes = b"mountctl: explain takes the name of a refusal, or an errno\n"
     for words in [], ["Busy", "Busy"]:
         found = run(mountctl, b"", "explain", *words)
         check(f"explain {words}", found == (2, b"", takes), repr(found))
@@ -284,7 +289,7 @@ def check_offers(helps):
     """The completion offers the options and words of mountctl --help, and behind each word what may stand there."""
     check_same("the options that the completion offers", options(helps["mountctl"]), offered("-"))
     check_same("the words that the completion offers alone", words_in_place(helps["mountctl"], "SOCKET WORD.."), [*offered("imp"), *offered("exp")])
-    check_same("the refusals that the completion offers", refusals_of_page(), offered("explain", ""))
+    check_same("what the completion offers to be explained", [*refusals_of_page(), *errnos_of_sources()], offered("explain", ""))
     there = usages(helps["mountctl"])
     words = {*there, *words_in_place(helps["mountctl"])}
     check_same("the words that the completion offers", words, offered("socket", ""))

@@ -89,11 +89,20 @@ fn print_refusal<O: Print>(out: &O, refusal: Refusal) -> io::Result<()> {
 
 /// Prints an error of Linux: the refusals in whose place it stands, each with its calls and what to do, and what else it may be.
 fn print_errno<O: Print>(out: &O, errno: Errno) -> io::Result<()> {
-    println!(out; "{} ({}): {}.", errno.name(), errno.number(), errno.sentence())?;
+    println!(out;
+        "{} ({}): {}.",
+        errno.name(),
+        errno.number(),
+        errno.sentence()
+    )?;
     for case in cases() {
         if case.errno == errno {
             let Advice { look, change } = advice_of(case.refusal);
-            println!(out; "  {}: {}", Shown(case.refusal.name()), sentence_of(case.refusal))?;
+            println!(out;
+                "  {}: {}",
+                Shown(case.refusal.name()),
+                sentence_of(case.refusal)
+            )?;
             println!(out; "      of {}", case.calls)?;
             println!(out; "      look at {look}")?;
             println!(out; "      to change that: {change}")?;
@@ -128,7 +137,9 @@ fn refuse_word(rt: &HostRuntime, word: &str) -> ExitCode {
     match nearest_explained(rt.alloc(), word.as_bytes()) {
         Ok(Some(nearest)) => {
             let nearest = Shown(nearest);
-            let _ = eprintln!(rt; "{NAME}: {shown}: neither a refusal nor an errno; the nearest is {nearest}");
+            let _ = eprintln!(rt;
+                "{NAME}: {shown}: neither a refusal nor an errno; the nearest is {nearest}"
+            );
             ExitCode::from(2)
         }
         Ok(None) => {

@@ -1,8 +1,8 @@
 //! Lines of mount(8) and its kin, and the lines of a session that they ask for.
 
-use mt_forms::operation::{Asked, Operation};
 use mt_forms::line::read_line;
 use mt_forms::nearest::meant_by;
+use mt_forms::operation::{Asked, Operation};
 use mt_forms::script::{later_session_lines, session_lines};
 use mt_forms::slip::Slip;
 use mt_forms::split::{joined_words, split_line};
@@ -61,8 +61,14 @@ const FORMS: [(&[u8], &[u8]); 50] = [
     ),
     (b"mount -N 2 -t tmpfs t /a", b"mount 2 t /a\n"),
     (b"mount -m --bind /a /b/new", b"bind 1 /a /b/new\n"),
-    (b"mount --mkdir=0755 --bind /a //b//new", b"bind 1 /a /b/new\n"),
-    (b"mount --bind '/a b' \"/c\\\\d\"", b"bind 1 /a\\040b /c\\134d\n"),
+    (
+        b"mount --mkdir=0755 --bind /a //b//new",
+        b"bind 1 /a /b/new\n",
+    ),
+    (
+        b"mount --bind '/a b' \"/c\\\\d\"",
+        b"bind 1 /a\\040b /c\\134d\n",
+    ),
     (b"mount --bind -- /a /b", b"bind 1 /a /b\n"),
     (b"umount /home", b"umount 1 /home\n"),
     (b"umount -l /home", b"detach 1 /home\n"),
@@ -72,15 +78,15 @@ const FORMS: [(&[u8], &[u8]); 50] = [
     (b"umount -vf /home", b"umount 1 /home\n"),
     (b"umount -N 2 /home", b"umount 2 /home\n"),
     (b"pivot_root /a /a/old", b"pivot 1 /a /a/old\n"),
-    (
-        b"unshare -m",
-        b"copyns 1\nsetattr 3 / rec prop=private\n",
-    ),
+    (b"unshare -m", b"copyns 1\nsetattr 3 / rec prop=private\n"),
     (
         b"unshare -m --propagation slave",
         b"copyns 1\nsetattr 3 / rec prop=slave\n",
     ),
-    (b"unshare --mount --propagation=unchanged sh", b"copyns 1\n"),
+    (
+        b"unshare --mount --propagation=unchanged sh -c -r -x",
+        b"copyns 1\n",
+    ),
     (
         b"unshare -Urm",
         b"copyns 1 less\nsetattr 3 / rec prop=private\n",
@@ -90,7 +96,10 @@ const FORMS: [(&[u8], &[u8]); 50] = [
         b"nsenter --mount=/proc/2/ns/mnt /bin/mount --make-shared /a",
         b"setattr /proc/2/ns/mnt /a prop=shared\n",
     ),
-    (b"sudo mount --make-rshared /", b"setattr 1 / rec prop=shared\n"),
+    (
+        b"sudo mount --make-rshared /",
+        b"setattr 1 / rec prop=shared\n",
+    ),
     (
         b"setattr 1 / rec prop=slave",
         b"setattr 1 / rec prop=slave\n",
@@ -162,10 +171,7 @@ const SLIPS: [(&[u8], &str); 27] = [
         b"mount --make-shared --make-private /a",
         "a line makes a mount one thing; the next one is a line of its own",
     ),
-    (
-        b"mount --bind=1 /a /b",
-        "--bind=1: mount takes no value",
-    ),
+    (b"mount --bind=1 /a /b", "--bind=1: mount takes no value"),
     (
         b"mount t /a -o",
         "mount: a value is missing behind the last option",
@@ -178,15 +184,15 @@ const SLIPS: [(&[u8], &str); 27] = [
         b"umount /a /b",
         "umount has too many words: name one target a line",
     ),
-    (b"unshare -n", "unshare is of a mount namespace with -m alone"),
+    (
+        b"unshare -n",
+        "unshare is of a mount namespace with -m alone",
+    ),
     (
         b"unshare -m --propagation up",
         "up: --propagation takes private, shared, slave or unchanged",
     ),
-    (
-        b"nsenter -m umount /a",
-        "nsenter takes -t and a process",
-    ),
+    (b"nsenter -m umount /a", "nsenter takes -t and a process"),
     (
         b"nsenter -t 2 umount /a",
         "nsenter is of a mount namespace with -m alone",
@@ -317,9 +323,11 @@ fn is_told(
     match read_line(Pieces::new(0, words.as_slice())) {
         Ok(asked) => {
             let first = asked.foreign.as_ref().map(|word| word.bytes());
-            Ok(first == foreign
-                && asked.has_more_foreign == has_more
-                && asked.is_forced == is_forced)
+            Ok(
+                first == foreign
+                    && asked.has_more_foreign == has_more
+                    && asked.is_forced == is_forced,
+            )
         }
         Err(_) => Ok(false),
     }
@@ -338,6 +346,19 @@ fn what_has_no_effect_is_told(rt: HostRuntime) -> Result<(), Fail> {
 }
 
 #[test]
+fn commands_behind_unshare_are_told(rt: HostRuntime) -> Result<(), Fail> {
+    let alloc = rt.alloc();
+    for (line, wanted) in [("unshare -m", false), ("unshare -m -- sh -c x", true)] {
+        let words = split_line(alloc, line.as_bytes())?.unwrap_or(Vec::new(alloc));
+        match read_line(Pieces::new(0, words.as_slice())) {
+            Ok(asked) => assert!(rt; asked.has_command == wanted, "{line}"),
+            Err(_) => assert!(rt; false, "{line}"),
+        }
+    }
+    Ok(())
+}
+
+#[test]
 fn quotes_are_closed(rt: HostRuntime) -> Result<(), Fail> {
     let alloc = rt.alloc();
     for line in ["umount '/a", "umount \"/a", "umount /a\\"] {
@@ -345,6 +366,9 @@ fn quotes_are_closed(rt: HostRuntime) -> Result<(), Fail> {
     }
     let words = split_line(alloc, b" a\t'b c'\"d \\$ \\e\"f\\ g '' ")?;
     let words = words.unwrap_or(Vec::new(alloc));
-    assert!(rt; words.as_slice() == b"a\0b cd $ \\ef g\0".as_slice(), "{words:?}");
+    assert!(rt;
+        words.as_slice() == b"a\0b cd $ \\ef g\0".as_slice(),
+        "{words:?}"
+    );
     Ok(())
 }

@@ -10,6 +10,7 @@ use Rattle.mt_forms.specs.declared.attribute.Attribute.{Attribute}
 use Rattle.mt_forms.specs.declared.attribute.Attribute.TheVariants.{Nosuid, Nodev, Noexec}
 use Rattle.mt_forms.specs.declared.attribute.Said.{Said}
 use Rattle.mt_forms.specs.declared.command.Tool.{Tool}
+use Rattle.mt_forms.specs.declared.command.Tool.TheVariants.{Mount, Umount, Unshare, Nsenter, PivotRoot}
 use Rattle.mt_forms.specs.declared.operation.PropagationKind.TheVariants.{Shared, Private, Slave}
 use Rattle.mt_forms.specs.declared.operation.Propagation.{Propagation}
 use Rattle.mt_forms.specs.declared.operation.Reach.TheVariants as reach
@@ -41,6 +42,7 @@ nothing_given = record {
   source = None;
   target = None;
   places = places.None;
+  has_command = false;
   has_mounts = false;
   is_lazy = false;
   reach = reach.One;
@@ -150,5 +152,13 @@ one_more_place (places.One first) word = places.Two first word
 one_more_place (places.Two first second) word = places.Many
 one_more_place places.Many word = places.Many
 
-abbrev pub with_plain : List ℕ → Given → Given
-with_plain word g = record g { places = one_more_place g.places word }
+-- of unshare(1) and nsenter(1) the first is a command, and the others are its own
+abbrev pub runs_command : Tool → Bool
+runs_command Unshare = true
+runs_command Nsenter = true
+runs_command Mount = false
+runs_command Umount = false
+runs_command PivotRoot = false
+
+abbrev pub with_plain : Tool → List ℕ → Given → Given
+with_plain tool word g = record g { places = one_more_place g.places word; has_command = runs_command tool }

@@ -43,11 +43,18 @@ is_own_line PivotRoot words = false
 
 -- a form with nothing else
 abbrev pub asked_without : Operation → Asked
-asked_without operation = record { space = None; operation = operation; foreign = None; has_more_foreign = false; is_forced = false }
+asked_without operation = record { space = None; operation = operation; foreign = None; has_more_foreign = false; is_forced = false; has_command = false }
 
 -- what the words behind a program ask for: no slip, and no option that waits for its value
 abbrev pub asked_with : Given → Result Operation Slip → Result Asked Slip
-asked_with g (Ok operation) = Ok (record { space = g.space; operation = operation; foreign = g.foreign; has_more_foreign = g.has_more_foreign; is_forced = g.is_forced })
+asked_with g (Ok operation) = Ok (record {
+  space = g.space;
+  operation = operation;
+  foreign = g.foreign;
+  has_more_foreign = g.has_more_foreign;
+  is_forced = g.is_forced;
+  has_command = g.has_command;
+})
 asked_with g (Err slip) = Err slip
 
 abbrev pub unless_waiting : Tool → Given → Result Asked Slip

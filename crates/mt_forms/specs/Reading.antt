@@ -68,10 +68,10 @@ with_named_option tool word option g = by_name (option_of_name tool (option_name
 abbrev pub with_dashed : Tool → List ℕ → Given → Given
 with_dashed tool word g = if starts_with nat_eq word (codes "--") then with_named_option tool word (drop 2 word) g else with_letters tool word (drop 1 word) g
 
--- a word where no value is waited for: behind `--` none is an option
+-- a word where no value is waited for: behind `--` none is an option, nor behind a command
 abbrev pub with_free_word : Tool → Given → List ℕ → Given
 with_free_word tool g word =
-    if g.has_ended || is_no_option word then with_plain word g
+    if g.has_ended || g.has_command || is_no_option word then with_plain tool word g
     else (if bytes_eq word (codes "--") then record g { has_ended = true } else with_dashed tool word g)
 
 -- a word, which is the value of the option in front of it where that waits for one

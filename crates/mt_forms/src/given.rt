@@ -1,11 +1,11 @@
 //! What the words behind a program give.
 ghost use Rattle.std.specs.Prelude.{◌≡◌};
-ghost use Rattle.mt_forms.specs.Given.{nothing_given, is_same_change, one_more_place, slipped, with_said, with_one_change, with_propagation, with_foreign, with_listed, with_list, with_spread, with_option, with_value, with_plain};
+ghost use Rattle.mt_forms.specs.Given.{nothing_given, is_same_change, one_more_place, slipped, with_said, with_one_change, with_propagation, with_foreign, with_listed, with_list, with_spread, with_option, with_value, runs_command, with_plain};
 
 use crate::attribute::{Attribute, Said};
 use crate::command::Tool;
-use crate::operation::{PropagationKind, Propagation, Reach};
 use crate::listed::{Listed, listed_of};
+use crate::operation::{Propagation, PropagationKind, Reach};
 use crate::slip::Slip;
 use crate::table::{Change, Means};
 use crate::word::Word;
@@ -64,6 +64,8 @@ pub(crate) struct Given<'a> {
     pub(crate) target: Option<Word<'a>>,
     /// The words that are no options.
     pub(crate) places: Places<'a>,
+    /// Whether one of them is a command, with words of its own behind it.
+    pub(crate) has_command: bool,
     /// Whether mount namespaces are meant.
     pub(crate) has_mounts: bool,
     /// Whether busy mounts are unmounted too.
@@ -100,6 +102,7 @@ pub(crate) fn nothing_given<'a>() -> Given<'a>
         source: None,
         target: None,
         places: Places::None,
+        has_command: false,
         has_mounts: false,
         is_lazy: false,
         reach: Reach::One,
@@ -120,6 +123,16 @@ fn is_same_change(one: Change, other: Change) -> bool
         (Change::Rbind, Change::Rbind) => true,
         (Change::Move, Change::Move) => true,
         _ => false,
+    }
+}
+
+/// Whether the first word of a program that is no option is a command.
+fn runs_command(tool: Tool) -> bool
+    ensures { result ≡ runs_command tool }
+{
+    match tool {
+        Tool::Unshare | Tool::Nsenter => true,
+        Tool::Mount | Tool::Umount | Tool::PivotRoot => false,
     }
 }
 
@@ -209,11 +222,9 @@ impl<'a> Given<'a> {
                 self.with_said(said)
             }
             Listed::Users => {
-                let said = self.said.turned_all(&[
-                    Attribute::Nosuid,
-                    Attribute::Nodev,
-                    Attribute::Noexec,
-                ]);
+                let said = self
+                    .said
+                    .turned_all(&[Attribute::Nosuid, Attribute::Nodev, Attribute::Noexec]);
                 self.with_said(said)
             }
             Listed::Owners => {
@@ -315,12 +326,7 @@ impl<'a> Given<'a> {
     }
 
     /// The same, with an option and its value.
-    pub(crate) fn with_value(
-        self,
-        tool: Tool,
-        means: Means,
-        value: &'a [u8],
-    ) -> Given<'a>
+    pub(crate) fn with_value(self, tool: Tool, means: Means, value: &'a [u8]) -> Given<'a>
         ensures { result ≡ with_value tool means value.entry.now self.entry }
     {
         match means {
@@ -360,11 +366,12 @@ impl<'a> Given<'a> {
     }
 
     /// The same, with a word that is no option.
-    pub(crate) fn with_plain(self, word: &'a [u8]) -> Given<'a>
-        ensures { result ≡ with_plain word.entry.now self.entry }
+    pub(crate) fn with_plain(self, tool: Tool, word: &'a [u8]) -> Given<'a>
+        ensures { result ≡ with_plain tool word.entry.now self.entry }
     {
         Given {
             places: self.places.with(Word::new(word)),
+            has_command: runs_command(tool),
             ..self
         }
     }

@@ -3,9 +3,9 @@ ghost use Rattle.std.specs.Prelude.{◌≡◌};
 ghost use Rattle.mt_forms.specs.Lines.{may_name, are_space_and_path, are_space_label_and_path, is_own_line, asked_without, asked_by, by_beginning, asked_in, without_command, entered_from, by_first, behind_sudo, asked_of};
 
 use crate::command::{Beginning, Tool, beginning_of};
+use crate::given::{Given, nothing_given};
 use crate::operation::{Asked, Operation};
 use crate::operations::operation_by;
-use crate::given::{Given, nothing_given};
 use crate::reading::given_of;
 use crate::slip::Slip;
 use crate::word::{Word, base_name, is_rooted};
@@ -66,6 +66,7 @@ fn asked_without<'a>(operation: Operation<'a>) -> Asked<'a>
         foreign: None,
         has_more_foreign: false,
         is_forced: false,
+        has_command: false,
     }
 }
 
@@ -84,6 +85,7 @@ fn asked_by<'a>(tool: Tool, given: Given<'a>) -> Result<Asked<'a>, Slip<'a>>
     let foreign = given.foreign.take();
     let has_more_foreign = given.has_more_foreign;
     let is_forced = given.is_forced;
+    let has_command = given.has_command;
     match operation_by(tool, given) {
         Ok(operation) => Ok(Asked {
             space,
@@ -91,6 +93,7 @@ fn asked_by<'a>(tool: Tool, given: Given<'a>) -> Result<Asked<'a>, Slip<'a>>
             foreign,
             has_more_foreign,
             is_forced,
+            has_command,
         }),
         Err(slip) => Err(slip),
     }

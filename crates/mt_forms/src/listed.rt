@@ -52,7 +52,10 @@ const LISTED: [ListedRow; 43] = [
     ListedRow(b"noatime", Listed::Turns(Attribute::Noatime, true)),
     ListedRow(b"atime", Listed::Turns(Attribute::Noatime, false)),
     ListedRow(b"strictatime", Listed::Turns(Attribute::Strictatime, true)),
-    ListedRow(b"nostrictatime", Listed::Turns(Attribute::Strictatime, false)),
+    ListedRow(
+        b"nostrictatime",
+        Listed::Turns(Attribute::Strictatime, false),
+    ),
     ListedRow(b"user", Listed::Users),
     ListedRow(b"users", Listed::Users),
     ListedRow(b"owner", Listed::Owners),

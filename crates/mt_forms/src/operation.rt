@@ -84,7 +84,10 @@ pub enum Operation<'a> {
         reach: Reach,
     },
     /// `new` is to be the root mount, and the old one to stand at `old`.
-    Pivot { new: Word<'a>, old: Word<'a> },
+    Pivot {
+        new: Word<'a>,
+        old: Word<'a>,
+    },
     /// A copy of the namespace is to be made.
     CopySpace {
         /// Whether by a user namespace with fewer rights.
@@ -116,4 +119,6 @@ pub struct Asked<'a> {
     pub has_more_foreign: bool,
     /// Whether an unmount was to be forced, which has no effect here: `umount -f`.
     pub is_forced: bool,
+    /// Whether a command stands behind unshare(1), which is not read.
+    pub has_command: bool,
 }

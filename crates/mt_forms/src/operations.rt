@@ -4,8 +4,8 @@ ghost use Rattle.mt_forms.specs.Operations.{path_slip, two_slip, in_front, then_
 
 use crate::attribute::Said;
 use crate::command::Tool;
-use crate::operation::{Operation, PropagationKind, Propagation};
 use crate::given::{Given, Places};
+use crate::operation::{Operation, Propagation, PropagationKind};
 use crate::slip::Slip;
 use crate::table::Change;
 use crate::word::{Word, has_dots, is_rooted};
@@ -106,19 +106,13 @@ fn change_operation<'a>(
     ensures { result ≡ change_operation change said propagation places.entry }
 {
     match places {
-        Places::None => Err(Slip::NoTarget {
-            tool: Tool::Mount,
-        }),
-        Places::One(_word) => Err(Slip::OnePath {
-            tool: Tool::Mount,
-        }),
+        Places::None => Err(Slip::NoTarget { tool: Tool::Mount }),
+        Places::One(_word) => Err(Slip::OnePath { tool: Tool::Mount }),
         Places::Two(from, to) => match two_slip(&from, &to) {
             Some(slip) => Err(slip),
             None => Ok(moved_operation(change, said, propagation, from, to)),
         },
-        Places::Many => Err(Slip::Many {
-            tool: Tool::Mount,
-        }),
+        Places::Many => Err(Slip::Many { tool: Tool::Mount }),
     }
 }
 
@@ -137,16 +131,12 @@ fn remount_operation<'a>(
     }
     let to = match places {
         Places::None => {
-            return Err(Slip::NoTarget {
-                tool: Tool::Mount,
-            });
+            return Err(Slip::NoTarget { tool: Tool::Mount });
         }
         Places::One(to) => to,
         Places::Two(_source, to) => to,
         Places::Many => {
-            return Err(Slip::Many {
-                tool: Tool::Mount,
-            });
+            return Err(Slip::Many { tool: Tool::Mount });
         }
     };
     match path_slip(&to) {
@@ -190,9 +180,7 @@ fn new_operation<'a>(
     ensures { result ≡ new_operation kind.entry has_list said propagation places.entry }
 {
     match places {
-        Places::None => Err(Slip::NoTarget {
-            tool: Tool::Mount,
-        }),
+        Places::None => Err(Slip::NoTarget { tool: Tool::Mount }),
         Places::One(to) => alone_operation(!has_list && kind.is_none(), propagation, to),
         Places::Two(source, to) => match path_slip(&to) {
             Some(slip) => Err(slip),
@@ -204,9 +192,7 @@ fn new_operation<'a>(
                 propagation,
             }),
         },
-        Places::Many => Err(Slip::Many {
-            tool: Tool::Mount,
-        }),
+        Places::Many => Err(Slip::Many { tool: Tool::Mount }),
     }
 }
 
@@ -247,9 +233,7 @@ fn umount_operation<'a>(given: Given<'a>) -> Result<Operation<'a>, Slip<'a>>
         ..
     } = given;
     match places {
-        Places::None => Err(Slip::NoTarget {
-            tool: Tool::Umount,
-        }),
+        Places::None => Err(Slip::NoTarget { tool: Tool::Umount }),
         Places::One(target) => {
             if has_dots(target.bytes()) {
                 return Err(Slip::Dots { word: target });
@@ -260,12 +244,8 @@ fn umount_operation<'a>(given: Given<'a>) -> Result<Operation<'a>, Slip<'a>>
                 reach,
             })
         }
-        Places::Two(_first, _second) => Err(Slip::Many {
-            tool: Tool::Umount,
-        }),
-        Places::Many => Err(Slip::Many {
-            tool: Tool::Umount,
-        }),
+        Places::Two(_first, _second) => Err(Slip::Many { tool: Tool::Umount }),
+        Places::Many => Err(Slip::Many { tool: Tool::Umount }),
     }
 }
 

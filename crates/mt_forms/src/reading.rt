@@ -123,13 +123,7 @@ impl<'a> Given<'a> {
                 word: Word::new(word),
             });
         };
-        self.with_taken(
-            tool,
-            word,
-            effect.takes,
-            effect.means,
-            option_value(option),
-        )
+        self.with_taken(tool, word, effect.takes, effect.means, option_value(option))
     }
 
     /// The same, with an option, or with several of one letter each.
@@ -149,8 +143,8 @@ impl<'a> Given<'a> {
     fn with_free_word(self, tool: Tool, word: &'a [u8]) -> Given<'a>
         ensures { result ≡ with_free_word tool self.entry word.entry.now }
     {
-        if self.has_ended || is_no_option(word) {
-            return self.with_plain(word);
+        if self.has_ended || self.has_command || is_no_option(word) {
+            return self.with_plain(tool, word);
         }
         if word == b"--".as_slice() {
             return Given {

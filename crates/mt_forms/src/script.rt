@@ -5,8 +5,8 @@ ghost use Rattle.mt_lines.specs.Words.{pieces};
 ghost use Rattle.mt_forms.specs.Scripts.{has_no_name, behind_slash, behind_word, behind_path, one_path_line, two_paths_line, propagation_text, then_made, changed_lines, change_line, bind_line, new_mount_line, told_attributes, umount_line, copy_line, own_line, script_text, later_text};
 
 use crate::attribute::Attributes;
-use crate::operation::{Operation, PropagationKind, Propagation, Reach};
 use crate::given::nothing_given;
+use crate::operation::{Operation, Propagation, PropagationKind, Reach};
 use crate::setting::{Setting, for_bind, for_new, for_remount, push_setting};
 use mt_lines::words::{Pieces, Words};
 use mt_skel::escape::push_escaped;
@@ -113,12 +113,7 @@ fn propagation_words(propagation: Propagation) -> &'static [u8]
 }
 
 /// Appends the line that changes the propagation of a mount, if there is a change.
-fn push_made(
-    text: &mut Vec<u8>,
-    space: &[u8],
-    to: &[u8],
-    propagation: Option<Propagation>,
-) -> Done
+fn push_made(text: &mut Vec<u8>, space: &[u8], to: &[u8], propagation: Option<Propagation>) -> Done
     ensures { OnOk result (text.new.items ≡ text.old.items ++ then_made space.now to.now propagation) }
 {
     let Some(propagation) = propagation else {
@@ -164,13 +159,7 @@ fn push_attributes(
 }
 
 /// Appends the lines of a bind.
-fn push_bind(
-    text: &mut Vec<u8>,
-    space: &[u8],
-    from: &[u8],
-    to: &[u8],
-    recursive: bool,
-) -> Done
+fn push_bind(text: &mut Vec<u8>, space: &[u8], from: &[u8], to: &[u8], recursive: bool) -> Done
     ensures { OnOk result (text.new.items ≡ text.old.items ++ bind_line space.now from.now to.now recursive) }
 {
     if recursive {
@@ -201,13 +190,7 @@ fn attributes_in(options: &[u8]) -> Attributes
 }
 
 /// Appends the line of an unmount, if it is of one mount alone.
-fn push_umount(
-    text: &mut Vec<u8>,
-    space: &[u8],
-    target: &[u8],
-    lazy: bool,
-    reach: Reach,
-) -> Done
+fn push_umount(text: &mut Vec<u8>, space: &[u8], target: &[u8], lazy: bool, reach: Reach) -> Done
     ensures { OnOk result (text.new.items ≡ text.old.items ++ umount_line space.now target.now lazy reach) }
 {
     match (reach, lazy) {
@@ -291,15 +274,24 @@ fn push_operation(
             let setting = for_remount(*said, attributes_in(options));
             push_attributes(text, space, to.bytes(), setting, *propagation)
         }
-        Operation::Propagation { to, propagation } =>
-            push_made(text, space, to.bytes(), Some(*propagation)),
+        Operation::Propagation { to, propagation } => push_made(
+            text,
+            space,
+            to.bytes(),
+            Some(*propagation),
+        ),
         Operation::Umount {
             target,
             lazy,
             reach,
         } => push_umount(text, space, target.bytes(), *lazy, *reach),
-        Operation::Pivot { new, old } =>
-            push_two_paths(text, b"pivot", space, new.bytes(), old.bytes()),
+        Operation::Pivot { new, old } => push_two_paths(
+            text,
+            b"pivot",
+            space,
+            new.bytes(),
+            old.bytes(),
+        ),
         Operation::CopySpace { less, .. } => push_copy(text, space, *less),
         Operation::Mkdir => Ok(()),
         Operation::Line { verb, words } => push_line(text, verb.bytes(), words.again()),

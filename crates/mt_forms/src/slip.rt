@@ -71,9 +71,7 @@ impl<'a> Slip<'a> {
                 "{} is no path from the root: a path begins with /",
                 shown(word)
             ),
-            Slip::Dots { word } => {
-                write!(f, "{} has . or ..: write the path out", shown(word))
-            }
+            Slip::Dots { word } => { write!(f, "{} has . or ..: write the path out", shown(word)) }
             Slip::Alone { word } => write!(
                 f,
                 "mount {} alone: no fstab is read; name the source too",
@@ -116,7 +114,9 @@ impl<'a> Slip<'a> {
                 tool.name()
             ),
             Slip::WholeRemount => {
-                f.write_str("mount -o remount without bind changes the filesystem itself, for all its mounts; -o remount,bind,.. changes this mount")
+                f.write_str(
+                    "mount -o remount without bind changes the filesystem itself, for all its mounts; -o remount,bind,.. changes this mount",
+                )
             }
             Slip::TwoChanges => f.write_str("bind, rbind and move are three lines"),
             Slip::TwoPropagations => {

@@ -7,7 +7,7 @@ ghost use Rattle.mt_forms.specs.Tables.{option_of_letter, option_of_name};
 
 use crate::attribute::Attribute;
 use crate::command::Tool;
-use crate::operation::{PropagationKind, Propagation, Reach};
+use crate::operation::{Propagation, PropagationKind, Reach};
 
 /// Which of its changes a line of mount(8) asks for.
 #[derive(Clone, Copy, PartialEq, Eq, Debug)]
@@ -139,24 +139,64 @@ pub(crate) const ALL_UNBINDABLE: Propagation = Propagation {
 /// The options of mount(8).
 pub(crate) const MOUNT: [OptionRow; 27] = [
     OptionRow(b"B", b"bind", Takes::Nothing, Means::Changes(Change::Bind)),
-    OptionRow(b"R", b"rbind", Takes::Nothing, Means::Changes(Change::Rbind)),
+    OptionRow(
+        b"R",
+        b"rbind",
+        Takes::Nothing,
+        Means::Changes(Change::Rbind),
+    ),
     OptionRow(b"M", b"move", Takes::Nothing, Means::Changes(Change::Move)),
     OptionRow(b"", b"make-shared", Takes::Nothing, Means::Makes(SHARED)),
     OptionRow(b"", b"make-slave", Takes::Nothing, Means::Makes(SLAVE)),
     OptionRow(b"", b"make-private", Takes::Nothing, Means::Makes(PRIVATE)),
-    OptionRow(b"", b"make-unbindable", Takes::Nothing, Means::Makes(UNBINDABLE)),
-    OptionRow(b"", b"make-rshared", Takes::Nothing, Means::Makes(ALL_SHARED)),
+    OptionRow(
+        b"",
+        b"make-unbindable",
+        Takes::Nothing,
+        Means::Makes(UNBINDABLE),
+    ),
+    OptionRow(
+        b"",
+        b"make-rshared",
+        Takes::Nothing,
+        Means::Makes(ALL_SHARED),
+    ),
     OptionRow(b"", b"make-rslave", Takes::Nothing, Means::Makes(ALL_SLAVE)),
-    OptionRow(b"", b"make-rprivate", Takes::Nothing, Means::Makes(ALL_PRIVATE)),
-    OptionRow(b"", b"make-runbindable", Takes::Nothing, Means::Makes(ALL_UNBINDABLE)),
+    OptionRow(
+        b"",
+        b"make-rprivate",
+        Takes::Nothing,
+        Means::Makes(ALL_PRIVATE),
+    ),
+    OptionRow(
+        b"",
+        b"make-runbindable",
+        Takes::Nothing,
+        Means::Makes(ALL_UNBINDABLE),
+    ),
     OptionRow(b"o", b"options", Takes::Value, Means::Options),
     OptionRow(b"t", b"types", Takes::Value, Means::FilesystemType),
     OptionRow(b"", b"source", Takes::Value, Means::Source),
     OptionRow(b"", b"target", Takes::Value, Means::Target),
     OptionRow(b"N", b"namespace", Takes::Value, Means::Space),
-    OptionRow(b"r", b"read-only", Takes::Nothing, Means::Turns(Attribute::Ro, true)),
-    OptionRow(b"w", b"rw", Takes::Nothing, Means::Turns(Attribute::Ro, false)),
-    OptionRow(b"", b"read-write", Takes::Nothing, Means::Turns(Attribute::Ro, false)),
+    OptionRow(
+        b"r",
+        b"read-only",
+        Takes::Nothing,
+        Means::Turns(Attribute::Ro, true),
+    ),
+    OptionRow(
+        b"w",
+        b"rw",
+        Takes::Nothing,
+        Means::Turns(Attribute::Ro, false),
+    ),
+    OptionRow(
+        b"",
+        b"read-write",
+        Takes::Nothing,
+        Means::Turns(Attribute::Ro, false),
+    ),
     OptionRow(b"m", b"mkdir", Takes::Maybe, Means::Unseen),
     OptionRow(b"a", b"all", Takes::Nothing, Means::Fstab),
     OptionRow(b"T", b"fstab", Takes::Value, Means::Fstab),
@@ -170,8 +210,18 @@ pub(crate) const MOUNT: [OptionRow; 27] = [
 /// The options of umount(8).
 pub(crate) const UMOUNT: [OptionRow; 15] = [
     OptionRow(b"l", b"lazy", Takes::Nothing, Means::Lazy),
-    OptionRow(b"R", b"recursive", Takes::Nothing, Means::Reaches(Reach::Below)),
-    OptionRow(b"A", b"all-targets", Takes::Nothing, Means::Reaches(Reach::Filesystem)),
+    OptionRow(
+        b"R",
+        b"recursive",
+        Takes::Nothing,
+        Means::Reaches(Reach::Below),
+    ),
+    OptionRow(
+        b"A",
+        b"all-targets",
+        Takes::Nothing,
+        Means::Reaches(Reach::Filesystem),
+    ),
     OptionRow(b"f", b"force", Takes::Nothing, Means::Forced),
     OptionRow(b"N", b"namespace", Takes::Value, Means::Space),
     OptionRow(b"a", b"all", Takes::Nothing, Means::Fstab),

@@ -130,7 +130,10 @@ fn advice_on_lines(refusal: Fault) -> Advice {
             "the component that is empty, . or .., or the missing first slash",
             "the path written out",
         ),
-        Fault::NoWatcher => advice_from("whether watch came before, and close behind it", "watch NS"),
+        Fault::NoWatcher => advice_from(
+            "whether watch came before, and close behind it",
+            "watch NS",
+        ),
         Fault::WatcherOpen => advice_from("what it follows", "close"),
         Fault::TooManyWatchers => advice_from("which sessions have one", "close in one of them"),
         Fault::Lagged => advice_from(
@@ -138,8 +141,14 @@ fn advice_on_lines(refusal: Fault) -> Advice {
             "close and watch again, or a longer queue of the server (--queue)",
         ),
         Fault::JournalFull | Fault::Stopped => advice_from("the server", "a new one"),
-        Fault::NoFilesystem => advice_from("the names that mkfs was given", "mkfs NAME TYPE SOURCE"),
-        Fault::FilesystemExists => advice_from("its type and source", "another name, or the one there"),
+        Fault::NoFilesystem => advice_from(
+            "the names that mkfs was given",
+            "mkfs NAME TYPE SOURCE",
+        ),
+        Fault::FilesystemExists => advice_from(
+            "its type and source",
+            "another name, or the one there",
+        ),
         Fault::NoNamespace => advice_from("the namespaces that there are (spaces)", "one of these"),
         Fault::TooMany => advice_from(
             "how many mounts, copies, namespaces or directories there would be",
@@ -165,7 +174,10 @@ pub fn advice_of(refusal: Fault) -> Advice {
             "the root mount, and what covers it",
             "pivot to another root, then detach the old one",
         ),
-        Fault::Unbindable => advice_from("the mount of the source", "setattr NS PATH prop=private of it"),
+        Fault::Unbindable => advice_from(
+            "the mount of the source",
+            "setattr NS PATH prop=private of it",
+        ),
         Fault::SharedParent => advice_from(
             "the parent of the mount, and the members of its peer group",
             "setattr NS PATH prop=private, or prop=slave, of the parent",
@@ -182,7 +194,10 @@ pub fn advice_of(refusal: Fault) -> Advice {
             "the mounts on it, hidden ones too; in Linux also open files and working directories (fuser -vm)",
             "umount of those first, or detach",
         ),
-        Fault::BadAttr => advice_from("the words of set= and clr=", "one access time, with clr=atime"),
+        Fault::BadAttr => advice_from(
+            "the words of set= and clr=",
+            "one access time, with clr=atime",
+        ),
         _ => advice_on_lines(refusal),
     }
 }
