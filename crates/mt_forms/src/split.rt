@@ -203,19 +203,25 @@ pub fn split_line(alloc: Global, line: &[u8]) -> Result<Option<Vec<u8>>, AllocEr
     }
 }
 
+/// Appends a word.
+fn push_word(text: &mut Vec<u8>, word: &str) -> Result<(), AllocError>
+    ensures { OnOk result (text.new.items ≡ text.old.items ++ word.now) }
+{
+    text.extend_from_slice(word.as_bytes())
+}
+
 /// Appends words, each behind a zero byte.
 fn push_words(text: &mut Vec<u8>, words: &[&str]) -> Result<(), AllocError>
     ensures { OnOk result (text.new.items ≡ text.old.items ++ flat_map (λ word. 0 ∷ word.now) words.now) }
 {
     'words: for word in words {
         text.push(0)?;
-        text.extend_from_slice(word.as_bytes())?;
+        push_word(text, word)?;
     }
     Ok(())
 }
 
 /// Words with a zero byte between two, for [`mt_lines::words::Pieces`] at zero bytes. Fails for want of memory alone.
-#[tactic(auto, using(crate::proofs::SplitLaws::behind_zeros))]
 pub fn joined_words(alloc: Global, words: &[&str]) -> Result<Vec<u8>, AllocError>
     ensures { IfOk result (λ text. text.items ≡ joined_text (map (λ word. word.now) words.now)) }
 {
@@ -223,7 +229,7 @@ pub fn joined_words(alloc: Global, words: &[&str]) -> Result<Vec<u8>, AllocError
     let Some((first, others)) = words.split_first() else {
         return Ok(text);
     };
-    text.extend_from_slice(first.as_bytes())?;
+    push_word(&mut text, first)?;
     push_words(&mut text, others)?;
     Ok(text)
 }
