@@ -33,7 +33,7 @@ ENTRY = re.compile(r"(?m)^\.It (?:Xo\n\.)?Ic (\w+)(.*\n(?:(?!\.It |\.El).*\n)*)"
 BLOCK = re.compile(r"(?m)^\.Bd -literal.*\n((?:(?!\.Ed).*\n)*)\.Ed$")
 MESSAGE = re.compile(r"(?m)^\.(?:It )?Li (\w+: .*?)(?: \.)?$")
 
-# How long a server may go on behind a stop, in seconds.
+# How long a server may go on after a stop, in seconds.
 MOST_SECONDS_OF_AN_END = 15
 
 # What completes a line of these words in bash, one offer in a line.
@@ -90,7 +90,7 @@ def options(text):
 
 
 def words_in_place(text, of="WORD.."):
-    """What a help says may stand in the place of a line, or of all arguments, each by its first word: what may stand behind it."""
+    """What a help says may stand in the place of a line, or of all arguments, each by its first word: what may stand after it."""
     lines = re.findall(r"(?m)^  \S.*", text.split(f"In the place of {of}:\n")[1].split("\n\n")[0])
     return {line.split()[0]: line.strip().split("  ")[0] for line in lines}
 
@@ -155,7 +155,7 @@ def check_explained(mountctl):
     names just the refusals that name it."""
     behind = {}
     for name, text in re.findall(r"(?m)^\.It Er (\w+)\n((?:(?!\.It |\.El).*\n)*)", section("mountd-lines.7", "REFUSALS")):
-        # A literal has its text behind its name, and a point that stands alone behind a space.
+        # A literal has its text after its name, and a point that stands alone after a space.
         sentence = re.sub(r"(?m)^\.Ql ", "", text).replace("\\&", "").replace("\n", " ").replace("/ ,", "/,").strip()
         found = run(mountctl, b"", "explain", name)
         first, _, second = shown(found[1]).partition("\n")
@@ -262,7 +262,7 @@ def check_commands(name, text, folder, environment):
 
 
 def check_examples(programs):
-    """The examples of the pages are answered so: sessions behind `>`, and commands behind `$`, at the top of the sources."""
+    """The examples of the pages are answered so: sessions after `>`, and commands after `$`, at the top of the sources."""
     for name in PAGES:
         blocks = [plain(block) for block in BLOCK.findall(section(name, "EXAMPLES"))]
         check(f"{name} has examples", blocks != [])
@@ -286,7 +286,7 @@ def offered(*words):
 
 
 def check_offers(helps):
-    """The completion offers the options and words of mountctl --help, and behind each word what may stand there."""
+    """The completion offers the options and words of mountctl --help, and after each word what may stand there."""
     check_same("the options that the completion offers", options(helps["mountctl"]), offered("-"))
     check_same("the words that the completion offers alone", words_in_place(helps["mountctl"], "SOCKET WORD.."), [*offered("imp"), *offered("exp")])
     check_same("what the completion offers to be explained", [*refusals_of_page(), *errnos_of_sources()], offered("explain", ""))
@@ -306,7 +306,7 @@ def check_offers(helps):
 
 
 def words_of_options():
-    """The words behind each option of `setattr` in docs/RULES.md."""
+    """The words after each option of `setattr` in docs/RULES.md."""
     rules = shown(read("docs", "RULES.md"))
     told = re.search(r"Words of `set`: (.*?); of `clr`: the first six and `atime`; K: (.*?)\.", rules)
     attributes, kinds = (re.findall(r"`(\w+)`", words) for words in told.groups())
@@ -314,7 +314,7 @@ def words_of_options():
 
 
 def check_completed(key, words):
-    """The completion offers these words behind an option, which comes whole, or cut at `=` as readline cuts it."""
+    """The completion offers these words after an option, which comes whole, or cut at `=` as readline cuts it."""
     begun = words[0][:2]
     for typed, wanted in (
         ([f"{key}="], [f"{key}={word}" for word in words]),
@@ -327,7 +327,7 @@ def check_completed(key, words):
 def check_options(program):
     """The words of the options of `setattr` stand in the page, are offered and are understood."""
     entry = dict(ENTRY.findall(section("mountd-lines.7", "LINES"))).get("setattr", "")
-    # The last word of some lists stands behind an `or`.
+    # The last word of some lists stands after an `or`.
     entry = re.sub(r" *\nor\n\.Cm ", " , ", entry)
     for key, words in words_of_options().items():
         text = " , ".join(words)

@@ -21,7 +21,7 @@ from sessions import cases
 # Worlds of more mounts are left out.
 MOST_MOUNTS = 200
 
-# How many characters wide a column is at most: what is wider pushes the cells behind it to the right.
+# How many characters wide a column is at most: what is wider pushes the cells after it to the right.
 MOST_WIDTH = 60
 
 # How long the largest world may take, in seconds.

@@ -82,7 +82,7 @@ def told_of(lines, names, rows):
 
 
 def check_told(program, mountctl, name, tables, line):
-    """A line is answered as a session answers it behind the script, and what it changes is told, with the names of the files."""
+    """A line is answered as a session answers it after the script, and what it changes is told, with the names of the files."""
     with files_of(tables) as files:
         script = run(mountctl, b"", "import", *files)[1].splitlines()
         found = asked(program, mountctl, files, shown(line).split(" "))

@@ -1,6 +1,6 @@
-"""The words that begin the lines of a session, by what the lines do, and what stands behind each word."""
+"""The words that begin the lines of a session, by what the lines do, and what stands after each word."""
 
-# The words behind each first word: a label, a path, a number, what is watched, counts, and the rest of the line.
+# The words after each first word: a label, a path, a number, what is watched, counts, and the rest of the line.
 FORMS = {
     b"mkfs": "LLL",
     b"mkdir": "LP",

@@ -32,7 +32,7 @@ const PROGRAM: Program = Program {
     failed: 1,
 };
 
-/// What is said where a server cannot listen. Behind it stand the path and the reason.
+/// What is said if a server cannot listen. The path and the reason come after it.
 const NOT_LISTENING: &str = "cannot listen";
 
 /// How many posts the queue of a watcher holds, if the arguments do not say.
@@ -48,7 +48,7 @@ struct Options {
     socket: String,
     /// Whether a socket that a killed server has left at the path is replaced.
     replaces: bool,
-    /// What the server is held to.
+    /// The limits of the server.
     limits: Limits,
 }
 
@@ -120,7 +120,7 @@ fn complaint(end: End) -> Option<&'static str> {
     }
 }
 
-/// Serves one session on standard input and output, with queues of so many posts, 1 to 1,024.
+/// Serves one session on standard input and output, with queues of this many posts, 1 to 1,024.
 fn serve_standard(rt: &HostRuntime, queue: usize) -> ExitCode {
     let reader = Reading::new(rt.reader());
     let Ok(mut lines) = LineReader::new(rt.alloc(), reader, LINE_LIMIT) else {

@@ -3,6 +3,7 @@ use Rattle.std.proofs.Common.{None, Option, MatchOption, append_assoc, ◌≡◌
 use Rattle.std.specs.List.{join_with_byte, AllByRecursion, flat_map, list_all}
 use Rattle.std.proofs.lemmas.List.{append_cancel_left, length-map}
 use Rattle.std.proofs.lemmas.Bool.{false≢true}
+use Rattle.std.proofs.lemmas.Option.{same_Some}
 use Rattle.std.proofs.lemmas.Bool.Decides.{nat_tests}
 use Rattle.std.proofs.lemmas.Fmt.{decimal_injective}
 use Rattle.mt_lines.specs.Words.{words}
@@ -17,10 +18,10 @@ use Rattle.mt_info.proofs.RowLineLaws.{line-injective}
 use Rattle.mt_events.proofs.PostLaws.{second, third, fourth}
 use Rattle.mt_client.specs.Requests.{is_refusal}
 use Rattle.mt_client.specs.Limits.{most_rows, most_opening_lines}
-use Rattle.mt_client.specs.Reading.{texts, NoneFirst, AreSoMany, printed}
+use Rattle.mt_client.specs.Reading.{texts, ComeFirst, NoneFirst, AreSoMany, printed}
 use Rattle.mt_client.specs.Mirroring.{counted_line, heading_words, IsShown, heading_line, part_lines, opening_lines, opening_with, HasOpened}
 use Rattle.mt_client.specs.Awaited.{IsOneRefusal, IsRefusedOr, AreRowLines, IsOpening}
-use Rattle.mt_client.proofs.RelayLaws.{printed-append, KnownByLines, items_alike, items_cut, first_alike}
+use Rattle.mt_client.proofs.RelayLaws.{printed-append, KnownByLines, items_alike, items_cut, first_alike, prepended, come_prepended}
 use Rattle.mt_info.specs.Table.{row_id}
 use Rattle.mt_skel.specs.Rising.{is_above, rises_after}
 use Rattle.mt_skel.proofs.RisingLaws.{after_kept}
@@ -35,28 +36,29 @@ use Rattle.mt_client.specs.declared.opening.Heading.{Heading}
 use Rattle.mt_client.specs.Finding.{mirror_space, parts_lines, found_lines, AreOf, AreShown, part_found, opening_found, HasFound, HasWatched, IsFinding, IsPartWithin, ArePartLines}
 
 -- the first of the lines that come first
-pub first_taken : {seen first : List ℕ} {lines others : List (List ℕ)} {before middle : List Item} (later : List Item) → before ≡ Text seen ∷ middle → lines ≡ first ∷ others → before ≡ texts lines ++ later → (first ≡ seen) × (middle ≡ texts others ++ later)
+pub first_taken : {seen first : List ℕ} {lines others : List (List ℕ)} {before middle : Option (List Item)} (later : List Item) → ComeFirst before (seen ∷ []) middle → lines ≡ first ∷ others → before ≡ Some (texts lines ++ later) → (first ≡ seen) × (middle ≡ Some (texts others ++ later))
 first_taken later there is e =
-    let f = first_alike (sym there ∙ e ∙ ap (λ ls. texts ls ++ later) is) in
-    (sym f.0, f.1)
+    let r = there.known _ e in
+    let f = first_alike (sym r.2 ∙ ap (λ ls. texts ls ++ later) is) in
+    (sym f.0, r.1 ∙ ap Some f.1)
 
 -- what cannot come first where no line does
-pub needs_line : {kind : List (List ℕ) → Type 0} {before : List Item} → ((lines : List (List ℕ)) → kind lines → (first : List ℕ) × (others : List (List ℕ)) × (lines ≡ first ∷ others)) → NoneFirst (AreSoMany 1) before → NoneFirst kind before
+pub needs_line : {kind : List (List ℕ) → Type 0} {before : Option (List Item)} → ((lines : List (List ℕ)) → kind lines → (first : List ℕ) × (others : List (List ℕ)) × (lines ≡ first ∷ others)) → NoneFirst (AreSoMany 1) before → NoneFirst kind before
 needs_line some none lines later k e =
     let s = some lines k in
-    none (s.0 ∷ []) (texts s.1 ++ later) refl (e ∙ ap (λ ls. texts ls ++ later) s.2)
+    none (s.0 ∷ []) (texts s.1 ++ later) refl (e ∙ ap (λ ls. Some (texts ls ++ later)) s.2)
 
 pub refused_some : {kind : List (List ℕ) → Type 0} → ((lines : List (List ℕ)) → kind lines → (first : List ℕ) × (others : List (List ℕ)) × (lines ≡ first ∷ others)) → (lines : List (List ℕ)) → IsRefusedOr kind lines → (first : List ℕ) × (others : List (List ℕ)) × (lines ≡ first ∷ others)
 refused_some some lines (inl r) = (r.0, [], r.2)
 refused_some some lines (inr k) = some lines k
 
 -- a line that does not refuse
-pub no_refusal : {seen : List ℕ} {before middle : List Item} → before ≡ Text seen ∷ middle → is_refusal seen ≡ false → NoneFirst IsOneRefusal before
+pub no_refusal : {seen : List ℕ} {before middle : Option (List Item)} → ComeFirst before (seen ∷ []) middle → is_refusal seen ≡ false → NoneFirst IsOneRefusal before
 no_refusal there tells lines later r e =
     let t = first_taken later there r.2 e in
     false≢true (sym tells ∙ ap is_refusal (sym t.0) ∙ r.1)
 
-pub unrefused_or : {kind : List (List ℕ) → Type 0} {before : List Item} → NoneFirst IsOneRefusal before → NoneFirst kind before → NoneFirst (IsRefusedOr kind) before
+pub unrefused_or : {kind : List (List ℕ) → Type 0} {before : Option (List Item)} → NoneFirst IsOneRefusal before → NoneFirst kind before → NoneFirst (IsRefusedOr kind) before
 unrefused_or refusal none lines later (inl r) e = refusal lines later r e
 unrefused_or refusal none lines later (inr k) e = none lines later k e
 
@@ -132,35 +134,37 @@ shown_alike m n middle later s t e =
     let here : heading_line m ≡ heading_line n = cc in
     let rest : texts (map line m.rows) ++ middle ≡ texts (map line n.rows) ++ later = cc in
     let w = heading_tells m.space m.number (length m.rows) n.space n.number (length n.rows) s.space s.number (few (length m.rows) s.counted) t.space t.number (few (length n.rows) t.counted) here in
-    let r = items_alike row_items m.rows n.rows middle later s.rows t.rows (length-map m.rows line ∙ w.2 ∙ sym (length-map n.rows line)) rest in
-    (λ i. record { space = w.0 i; number = w.1 i; rows = r.0 i }, r.1)
+    let r = items_alike row_items m.rows n.rows later s.rows t.rows (length-map m.rows line ∙ w.2 ∙ sym (length-map n.rows line)) (come_prepended (map line m.rows) (Some middle)) (prepended (map line m.rows) middle ∙ ap Some rest) in
+    (λ i. record { space = w.0 i; number = w.1 i; rows = r.0 i }, same_Some middle later r.1)
 
 -- two openings of one namespace that come first are one, and end in one place
-pub opened_alike : (space : ℕ) (before middle later : List Item) (mirror found : MirrorView) → HasOpened space before middle mirror → IsShown found → before ≡ texts (opening_lines found) ++ later → (mirror ≡ found) × (middle ≡ later)
+pub opened_alike : (space : ℕ) (before middle : Option (List Item)) (later : List Item) (mirror found : MirrorView) → HasOpened space before middle mirror → IsShown found → before ≡ Some (texts (opening_lines found) ++ later) → (mirror ≡ found) × (middle ≡ Some later)
 opened_alike space before middle later mirror found o s e =
-    let t = first_taken {others = part_lines found} later o.read refl e in
-    shown_alike mirror found middle later o.shown s t.1
+    let r = o.read.known _ e in
+    let f = first_alike (sym r.2) in
+    let a = shown_alike mirror found r.0 later o.shown s f.1 in
+    (a.0, r.1 ∙ ap Some a.1)
 
 -- namespaces are known by their lines
 abbrev part_items : KnownByLines
 part_items = record { X = MirrorView; IsValid = IsShown; lines_of = part_lines; all = parts_lines; none = refl; both = λ m parts. refl; some = λ m. omega arith; alike = shown_alike }
 
-pub parts_cut : (count left : ℕ) (parts : List MirrorView) (before middle : List Item) → before ≡ texts (parts_lines parts) ++ middle → length (parts_lines parts) + left ≡ count → 0 < left → AllByRecursion IsShown parts → NoneFirst (IsPartWithin left) middle
+pub parts_cut : (count left : ℕ) (parts : List MirrorView) (before middle : Option (List Item)) → ComeFirst before (parts_lines parts) middle → length (parts_lines parts) + left ≡ count → 0 < left → AllByRecursion IsShown parts → NoneFirst (IsPartWithin left) middle
     → NoneFirst (ArePartLines count) before
 parts_cut count left parts before middle came many some shown none lines later k e =
     let n = k.many in
-    items_cut part_items parts k.found middle later shown k.shown (omega (arith, many, n, some)) (sym came ∙ e ∙ ap (λ ls. texts ls ++ later) k.all)
+    items_cut part_items parts k.found later shown k.shown (omega (arith, many, n, some)) came (e ∙ ap (λ ls. Some (texts ls ++ later)) k.all)
     (λ m rest is within. let l = length-map m.rows line in none (part_lines m) rest (record { found = m; shown = is; within = omega (arith, l, many, n, within); all = refl }))
 
 -- the numbers of a first line, and what is behind it, where the lines of a namespace come first
-within_told : (left : ℕ) (h : Heading) (seen : List ℕ) (before middle later : List Item) (lines : List (List ℕ)) → before ≡ Text seen ∷ middle → seen ≡ join_with_byte 32 (heading_words h.space h.number h.count)
-    → (h.space < 2 ^ 64) × (h.number < 2 ^ 64) × (h.count < 2 ^ 64) → (k : IsPartWithin left lines) → before ≡ texts lines ++ later → (h.count ≡ length k.found.rows) × (middle ≡ texts (map line k.found.rows) ++ later)
+within_told : (left : ℕ) (h : Heading) (seen : List ℕ) (before middle : Option (List Item)) (later : List Item) (lines : List (List ℕ)) → ComeFirst before (seen ∷ []) middle → seen ≡ join_with_byte 32 (heading_words h.space h.number h.count)
+    → (h.space < 2 ^ 64) × (h.number < 2 ^ 64) × (h.count < 2 ^ 64) → (k : IsPartWithin left lines) → before ≡ Some (texts lines ++ later) → (h.count ≡ length k.found.rows) × (middle ≡ Some (texts (map line k.found.rows) ++ later))
 within_told left h seen before middle later lines there is small k e =
     let t = first_taken later there k.all e in
     let w = heading_tells h.space h.number h.count k.found.space k.found.number (length k.found.rows) small.0 small.1 small.2 k.shown.space k.shown.number (few (length k.found.rows) k.shown.counted) (sym is ∙ sym t.0) in
     (w.2, t.1)
 
-pub within_needs_room : (left : ℕ) (h : Heading) (seen : List ℕ) (before middle : List Item) → before ≡ Text seen ∷ middle → seen ≡ join_with_byte 32 (heading_words h.space h.number h.count)
+pub within_needs_room : (left : ℕ) (h : Heading) (seen : List ℕ) (before middle : Option (List Item)) → ComeFirst before (seen ∷ []) middle → seen ≡ join_with_byte 32 (heading_words h.space h.number h.count)
     → (h.space < 2 ^ 64) × (h.number < 2 ^ 64) × (h.count < 2 ^ 64) → left ≤ h.count → NoneFirst (IsPartWithin left) before
 within_needs_room left h seen before middle there is small over lines later k e =
     let t = within_told left h seen before middle later lines there is small k e in
@@ -169,7 +173,7 @@ within_needs_room left h seen before middle there is small over lines later k e 
     omega (arith, same, within, over)
 
 -- nor where its first line tells more rows than there may be
-pub within_needs_few : (left : ℕ) (h : Heading) (seen : List ℕ) (before middle : List Item) → before ≡ Text seen ∷ middle → seen ≡ join_with_byte 32 (heading_words h.space h.number h.count)
+pub within_needs_few : (left : ℕ) (h : Heading) (seen : List ℕ) (before middle : Option (List Item)) → ComeFirst before (seen ∷ []) middle → seen ≡ join_with_byte 32 (heading_words h.space h.number h.count)
     → (h.space < 2 ^ 64) × (h.number < 2 ^ 64) × (h.count < 2 ^ 64) → most_rows < h.count → NoneFirst (IsPartWithin left) before
 within_needs_few left h seen before middle there is small many lines later k e =
     let t = within_told left h seen before middle later lines there is small k e in
@@ -178,21 +182,21 @@ within_needs_few left h seen before middle there is small many lines later k e =
     omega (arith, same, few, many)
 
 -- no namespace comes first where fewer rows stand behind its first line than it tells
-pub within_needs_rows : (left : ℕ) (h : Heading) (seen : List ℕ) (before middle : List Item) → before ≡ Text seen ∷ middle → seen ≡ join_with_byte 32 (heading_words h.space h.number h.count)
+pub within_needs_rows : (left : ℕ) (h : Heading) (seen : List ℕ) (before middle : Option (List Item)) → ComeFirst before (seen ∷ []) middle → seen ≡ join_with_byte 32 (heading_words h.space h.number h.count)
     → (h.space < 2 ^ 64) × (h.number < 2 ^ 64) × (h.count < 2 ^ 64) → NoneFirst (AreRowLines h.count) middle → NoneFirst (IsPartWithin left) before
 within_needs_rows left h seen before middle there is small none lines later k e =
     let t = within_told left h seen before middle later lines there is small k e in
     none (map line k.found.rows) later (record { rows = k.found.rows; valid = k.shown.rows; rising = k.shown.rising; many = sym t.0; all = refl }) t.1
 
 -- how many lines come for the namespaces, and what is behind the first line, where the lines of an opening come first
-finding_told : (scope : Scope) (count : ℕ) (seen : List ℕ) (before middle later : List Item) (lines : List (List ℕ)) → before ≡ Text seen ∷ middle → seen ≡ counted_line count → count < 2 ^ 64 → (k : IsFinding scope lines) → before ≡ texts lines ++ later
-    → (length (parts_lines k.found) ≡ count) × (middle ≡ texts (parts_lines k.found) ++ later)
+finding_told : (scope : Scope) (count : ℕ) (seen : List ℕ) (before middle : Option (List Item)) (later : List Item) (lines : List (List ℕ)) → ComeFirst before (seen ∷ []) middle → seen ≡ counted_line count → count < 2 ^ 64 → (k : IsFinding scope lines) → before ≡ Some (texts lines ++ later)
+    → (length (parts_lines k.found) ≡ count) × (middle ≡ Some (texts (parts_lines k.found) ++ later))
 finding_told scope count seen before middle later lines there is small k e =
     let t = first_taken later there k.all e in
     (counted_tells (length (parts_lines k.found)) count (few_lines (length (parts_lines k.found)) k.shown.counted) small (t.0 ∙ is), t.1)
 
 -- an opening has no more lines than there may be
-pub finding_needs_few : (scope : Scope) (count : ℕ) (seen : List ℕ) (before middle : List Item) → before ≡ Text seen ∷ middle → is_refusal seen ≡ false → seen ≡ counted_line count → count < 2 ^ 64 → most_opening_lines < count
+pub finding_needs_few : (scope : Scope) (count : ℕ) (seen : List ℕ) (before middle : Option (List Item)) → ComeFirst before (seen ∷ []) middle → is_refusal seen ≡ false → seen ≡ counted_line count → count < 2 ^ 64 → most_opening_lines < count
     → NoneFirst (IsRefusedOr (IsFinding scope)) before
 finding_needs_few scope count seen before middle there tells is small many =
     unrefused_or (no_refusal there tells) (λ lines later k e.
@@ -201,27 +205,29 @@ finding_needs_few scope count seen before middle there tells is small many =
     let few = k.shown.counted in
     omega (arith, same, few, many))
 
-pub finding_needs_parts : (scope : Scope) (count : ℕ) (seen : List ℕ) (before middle : List Item) → before ≡ Text seen ∷ middle → is_refusal seen ≡ false → seen ≡ counted_line count → count < 2 ^ 64 → NoneFirst (ArePartLines count) middle
+pub finding_needs_parts : (scope : Scope) (count : ℕ) (seen : List ℕ) (before middle : Option (List Item)) → ComeFirst before (seen ∷ []) middle → is_refusal seen ≡ false → seen ≡ counted_line count → count < 2 ^ 64 → NoneFirst (ArePartLines count) middle
     → NoneFirst (IsRefusedOr (IsFinding scope)) before
 finding_needs_parts scope count seen before middle there tells is small none =
     unrefused_or (no_refusal there tells) (λ lines later k e.
     let t = finding_told scope count seen before middle later lines there is small k e in
     none (parts_lines k.found) later (record { found = k.found; shown = k.shown.each; many = t.0; all = refl }) t.1)
 
-pub finding_needs_scope : (scope : Scope) (count : ℕ) (seen : List ℕ) (parts : List MirrorView) (before middle after : List Item) → before ≡ Text seen ∷ middle → is_refusal seen ≡ false → seen ≡ counted_line count → count < 2 ^ 64
-    → middle ≡ texts (parts_lines parts) ++ after → length (parts_lines parts) ≡ count → AllByRecursion IsShown parts → (AreOf scope parts → ⊥) → NoneFirst (IsRefusedOr (IsFinding scope)) before
+pub finding_needs_scope : (scope : Scope) (count : ℕ) (seen : List ℕ) (parts : List MirrorView) (before middle after : Option (List Item)) → ComeFirst before (seen ∷ []) middle → is_refusal seen ≡ false → seen ≡ counted_line count → count < 2 ^ 64
+    → ComeFirst middle (parts_lines parts) after → length (parts_lines parts) ≡ count → AllByRecursion IsShown parts → (AreOf scope parts → ⊥) → NoneFirst (IsRefusedOr (IsFinding scope)) before
 finding_needs_scope scope count seen parts before middle after there tells is small came many shown other =
     unrefused_or (no_refusal there tells) (λ lines later k e.
     let t = finding_told scope count seen before middle later lines there is small k e in
-    let same = items_alike part_items parts k.found after later shown k.shown.each (many ∙ sym t.0) (sym came ∙ t.1) in
+    let same = items_alike part_items parts k.found later shown k.shown.each (many ∙ sym t.0) came t.1 in
     other (subst (AreOf scope) (sym same.0) k.shown.of))
 
 -- the namespaces of an opening that comes first are those that were found, and end in one place
-pub found_alike : (scope : Scope) (before middle later : List Item) (parts news : List MirrorView) → HasFound scope before middle parts → AreShown scope news → before ≡ texts (found_lines news) ++ later → (parts ≡ news) × (middle ≡ later)
+pub found_alike : (scope : Scope) (before middle : Option (List Item)) (later : List Item) (parts news : List MirrorView) → HasFound scope before middle parts → AreShown scope news → before ≡ Some (texts (found_lines news) ++ later) → (parts ≡ news) × (middle ≡ Some later)
 found_alike scope before middle later parts news f s e =
-    let t = first_taken {others = parts_lines news} later f.read refl e in
-    let n = counted_tells (length (parts_lines news)) (length (parts_lines parts)) (few_lines (length (parts_lines news)) s.counted) (few_lines (length (parts_lines parts)) f.shown.counted) t.0 in
-    items_alike part_items parts news middle later f.shown.each s.each (sym n) t.1
+    let r = f.read.known _ e in
+    let t = first_alike (sym r.2) in
+    let n = counted_tells (length (parts_lines parts)) (length (parts_lines news)) (few_lines (length (parts_lines parts)) f.shown.counted) (few_lines (length (parts_lines news)) s.counted) t.0 in
+    let a = items_alike part_items parts news later f.shown.each s.each n (come_prepended (parts_lines parts) (Some r.0)) (prepended (parts_lines parts) r.0 ∙ ap Some t.1) in
+    (a.0, r.1 ∙ a.1)
 
 -- the text of an opening
 parts_text : (parts : List MirrorView) → printed (parts_lines parts) ≡ flat_map part_text (map part_found parts)
@@ -242,7 +248,7 @@ found_is scope parts =
     (λ i. ended (counted_line (length (parts_lines parts))) ++ parts_text parts i) ∙ ap (λ n. count_text n ++ flat_map part_text (map part_found parts)) many
 
 -- the lines of what a watcher finds are the text of its opening
-pub watched_whole : (scope : Scope) (parts : List MirrorView) (before after : List Item) → HasFound scope before after parts → HasWatched scope before after parts
+pub watched_whole : (scope : Scope) (parts : List MirrorView) (before after : Option (List Item)) → HasFound scope before after parts → HasWatched scope before after parts
 watched_whole scope parts before after f = record { lines = found_lines parts; shown = f.shown; read = f.read; text = found_is scope parts }
 
 -- numbers that rise, one namespace after another
@@ -258,7 +264,7 @@ one_opening m =
     let many : length (parts_lines (m ∷ [])) ≡ 1 + length m.rows = omega (arith, c) in
     λ i. counted_line (many i) ∷ append-nil (part_lines m) i
 
-pub opening_needs_finding : (space : ℕ) (before : List Item) → NoneFirst (IsRefusedOr (IsFinding (One space))) before → NoneFirst (IsRefusedOr (IsOpening space)) before
+pub opening_needs_finding : (space : ℕ) (before : Option (List Item)) → NoneFirst (IsRefusedOr (IsFinding (One space))) before → NoneFirst (IsRefusedOr (IsOpening space)) before
 opening_needs_finding space before none lines later (inl r) e = none lines later (inl r) e
 opening_needs_finding space before none lines later (inr k) e =
     none lines later

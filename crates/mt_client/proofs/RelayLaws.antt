@@ -1,13 +1,18 @@
 -- The lines of requests and what of them went out; what was read and printed, line by line, and what cannot come first.
-use Rattle.std.proofs.Common.{Bor, ◌≡◌, ℕ, suc, ◌+◌, ◌<◌, List, [], ◌∷◌, ◌++◌, map, length, take, drop, take_all, take-append-drop, refl, sym, ap, ◌∙◌, arith, append_assoc, length-append, Result, Ok, Err, OnErr, ◌≢◌, ◌≤◌, subst, IsErrAnd, inl, inr, ◌⊎◌}
+use Rattle.std.proofs.Common.{Bor, ◌≡◌, ℕ, suc, ◌+◌, ◌<◌, List, [], ◌∷◌, ◌++◌, map, length, take, drop, take_all, take-append-drop, refl, sym, ap, ◌∙◌, arith, append_assoc, length-append, Result, Ok, Err, OnErr, ◌≢◌, ◌≤◌, subst, IsErrAnd, inl, inr, ◌⊎◌, Option, None, Some}
+use Rattle.std.proofs.KnownBytes.{Appends-nil, Appends-trans, Appends-kept}
+use Rattle.std.proofs.lemmas.Option.{same_Some}
+use Rattle.std.specs.Io.KnownBytes.{Appends, Keeps}
+use Rattle.std.specs.Option.{option_map}
 use Rattle.std.proofs.lemmas.List.{append-nil, take-append-le, map-append}
 use Rattle.std.specs.List.{flat_map, join_with_byte, AllByRecursion}
 use Rattle.mt_skel.specs.Escapes.{escaped}
 use Rattle.mt_client.specs.Requests.{request_text}
-use Rattle.mt_client.specs.Reading.{IsCutOff, IsSentPart, texts, printed, Passed, HasRead, IsWhole, HasBroken, IsBroken, NoneFirst, AreSoMany, reading_fault}
+use Rattle.mt_client.specs.Reading.{IsCutOff, IsSentPart, texts, printed, ComeFirst, prepend_lines, Passed, HasRead, IsWhole, HasBroken, IsBroken, NoneFirst, AreSoMany, reading_fault}
 use Rattle.std.proofs.lemmas.Grind.{flat_map-append}
 use Rattle.mt_lines.specs.Lines.{Item, Text, lines_of}
-use Rattle.mt_lines.specs.Reading.{IsNext, IsFaultCause, IsFaultRun}
+use Rattle.mt_lines.specs.Reading.{IsNextKnown, IsFaultCause, IsFaultRun}
+use Rattle.mt_lines.specs.declared.line.Line.TheVariants.{Text as TextLine, TooLong, Unended, End}
 use Rattle.mt_lines.specs.declared.line.ReadFault.{ReadFault}
 use Rattle.mt_lines.specs.declared.stream.StreamFault.{StreamFault}
 use Rattle.mt_lines.specs.declared.line.ReadFault.TheVariants.{Device, Interrupted, Endless, NoMemory as NoRoom}
@@ -26,10 +31,10 @@ on_err (Ok a) p = tt
 on_err (Err e) p = p
 
 -- a text that was cut in its first piece, or in its second
-pub cut_first : (text rest old new : List ℕ) (n : ℕ) → n < length text → new ≡ old ++ take n text → IsCutOff (text ++ rest) old new
+pub cut_first : (text rest : List ℕ) (old new : Option (List ℕ)) (n : ℕ) → n < length text → Appends old new (take n text) → IsCutOff (text ++ rest) old new
 cut_first text rest old new n lt e = record {
   count = n;
-  out = e ∙ ap (λ x. old ++ x) (sym (take-append-le n text rest (omega (arith, lt))));
+  out = subst (λ x. Appends old new x) (sym (take-append-le n text rest (omega (arith, lt)))) e;
   within = let l = length-append text rest in omega (arith, lt, l);
 }
 
@@ -39,10 +44,10 @@ take_behind (b ∷ text) rest n =
     let e : length (b ∷ text) + n ≡ suc (length text + n) = omega arith in
     rw e (ap (λ x. b ∷ x) (take_behind text rest n))
 
-pub cut_second : (text rest old between new : List ℕ) (n : ℕ) → between ≡ old ++ text → n < length rest → new ≡ between ++ take n rest → IsCutOff (text ++ rest) old new
+pub cut_second : (text rest : List ℕ) (old between new : Option (List ℕ)) (n : ℕ) → Appends old between text → n < length rest → Appends between new (take n rest) → IsCutOff (text ++ rest) old new
 cut_second text rest old between new n e lt f = record {
   count = length text + n;
-  out = f ∙ ap (λ x. x ++ take n rest) e ∙ append_assoc old text (take n rest) ∙ ap (λ x. old ++ x) (sym (take_behind text rest n));
+  out = subst (λ x. Appends old new x) (sym (take_behind text rest n)) (Appends-trans old between new text (take n rest) e f);
   within = let l = length-append text rest in omega (arith, lt, l);
 }
 
@@ -59,9 +64,9 @@ words_joined words others first begun all is e f =
     behind [] = refl
     behind (w ∷ ws) = ap (λ x. 32 ∷ escaped w.now ++ x) (behind ws)
 
--- a text that went out whole, or not at all, went out in part
-pub sent_whole : (text old new : List ℕ) → new ≡ old ++ text → IsSentPart text old new
-sent_whole text old new e = record { count = length text; out = e ∙ ap (λ x. old ++ x) (sym (take_all (length text) text (omega arith))) }
+-- a text that went out whole went out in part
+pub sent_whole : (text : List ℕ) (old new : Option (List ℕ)) → Appends old new text → IsSentPart text old new
+sent_whole text old new e = record { count = length text; out = subst (λ x. Appends old new x) (sym (take_all (length text) text (omega arith))) e }
 
 -- a part of a text, and of one that begins with it
 take_front : (text rest : List ℕ) (n : ℕ) → take (length (take n text)) (text ++ rest) ≡ take n text
@@ -69,17 +74,17 @@ take_front text rest n =
     let k : ℕ = length (take n text) in
     ap (λ t. take k (t ++ rest)) (sym (take-append-drop n text)) ∙ ap (take k) (append_assoc (take n text) (drop n text) rest) ∙ take-append-le k (take n text) (drop n text ++ rest) (omega arith) ∙ take_all k (take n text) (omega arith)
 
-pub part_first : (first second old new : List ℕ) → IsSentPart first old new → IsSentPart (first ++ second) old new
-part_first first second old new p = record { count = length (take p.count first); out = p.out ∙ ap (λ x. old ++ x) (sym (take_front first second p.count)) }
+pub part_first : (first second : List ℕ) (old new : Option (List ℕ)) → IsSentPart first old new → IsSentPart (first ++ second) old new
+part_first first second old new p = record { count = length (take p.count first); out = subst (λ x. Appends old new x) (sym (take_front first second p.count)) p.out }
 
-pub part_second : (first second old between new : List ℕ) → between ≡ old ++ first → IsSentPart second between new → IsSentPart (first ++ second) old new
+pub part_second : (first second : List ℕ) (old between new : Option (List ℕ)) → Appends old between first → IsSentPart second between new → IsSentPart (first ++ second) old new
 part_second first second old between new e p = record {
   count = length first + p.count;
-  out = p.out ∙ ap (λ x. x ++ take p.count second) e ∙ append_assoc old first (take p.count second) ∙ ap (λ x. old ++ x) (sym (take_behind first second p.count));
+  out = subst (λ x. Appends old new x) (sym (take_behind first second p.count)) (Appends-trans old between new first (take p.count second) e p.out);
 }
 
 -- the first of two texts went out, or both
-pub part_one : (first second old new : List ℕ) → new ≡ old ++ first → IsSentPart (first ++ second) old new
+pub part_one : (first second : List ℕ) (old new : Option (List ℕ)) → Appends old new first → IsSentPart (first ++ second) old new
 part_one first second old new e = part_first first second old new (sent_whole first old new e)
 
 pub texts-append : (xs ys : List (List ℕ)) → texts (xs ++ ys) ≡ texts xs ++ texts ys
@@ -91,14 +96,77 @@ texts_split xs ys later = ap (λ x. x ++ later) (texts-append xs ys) ∙ append_
 pub printed-append : (xs ys : List (List ℕ)) → printed (xs ++ ys) ≡ printed xs ++ printed ys
 printed-append xs ys = flat_map-append ended xs ys
 
--- lines read in two runs
-pub runs_read : (ls ms : List (List ℕ)) {before middle : List Item} (after : List Item) → before ≡ texts ls ++ middle → middle ≡ texts ms ++ after → before ≡ texts (ls ++ ms) ++ after
-runs_read ls ms after e f = e ∙ ap (λ x. texts ls ++ x) f ∙ sym (texts_split ls ms after)
+-- lines that come first: none, two runs of them, and the same lines
+pub come_none : (before : Option (List Item)) → ComeFirst before [] before
+come_none before = record { known = λ items e. (items, e, refl) }
+
+pub come_both : {xs ys : List (List ℕ)} {a b c : Option (List Item)} → ComeFirst a xs b → ComeFirst b ys c → ComeFirst a (xs ++ ys) c
+come_both {xs} {ys} p q = record {
+  known = λ items e.
+      let r = p.known items e in
+      let s = q.known r.0 r.1 in
+      (s.0, s.1, r.2 ∙ ap (λ x. texts xs ++ x) s.2 ∙ sym (texts_split xs ys s.0));
+}
+
+pub come_as : {xs ys : List (List ℕ)} {a b : Option (List Item)} → xs ≡ ys → ComeFirst a xs b → ComeFirst a ys b
+come_as {xs} {ys} {a} {b} e p = subst (λ ls. ComeFirst a ls b) e p
+
+-- lines before known ones
+pub prepended : (xs : List (List ℕ)) (later : List Item) → prepend_lines xs (Some later) ≡ Some (texts xs ++ later)
+prepended [] later = refl
+prepended (x ∷ xs) later = ap (option_map (λ items. Text x ∷ items)) (prepended xs later)
+
+unprepended : (xs : List (List ℕ)) → prepend_lines xs None ≡ None
+unprepended [] = refl
+unprepended (x ∷ xs) = ap (option_map (λ items. Text x ∷ items)) (unprepended xs)
+
+pub come_prepended : (xs : List (List ℕ)) (after : Option (List Item)) → ComeFirst (prepend_lines xs after) xs after
+come_prepended xs None = record { known = λ items e. let no : None ≡ Some items = sym (unprepended xs) ∙ e in cc }
+come_prepended xs (Some later) = record { known = λ items e. (later, refl, sym (same_Some (texts xs ++ later) items (sym (prepended xs later) ∙ e))) }
+
+-- what is known is the lines that were read of it and those that are left
+known_as : {xs : List (List ℕ)} {a b : Option (List Item)} → ComeFirst a xs b → (items : List Item) → a ≡ Some items → prepend_lines xs b ≡ Some items
+known_as {xs} p items e =
+    let r = p.known items e in
+    ap (prepend_lines xs) r.1 ∙ prepended xs r.0 ∙ ap Some (sym r.2)
+
+pub come_from : {xs ls : List (List ℕ)} {a b c : Option (List Item)} → ComeFirst a xs b → ComeFirst (prepend_lines xs b) ls c → ComeFirst a ls c
+come_from p q = record { known = λ items e. q.known items (known_as p items e) }
+
+pub none_from : {kind : List (List ℕ) → Type 0} {xs : List (List ℕ)} {a b : Option (List Item)} → ComeFirst a xs b → NoneFirst kind (prepend_lines xs b) → NoneFirst kind a
+none_from p none lines later k e = none lines later k (known_as p (texts lines ++ later) e)
 
 -- a line that is no text leaves nothing to be read
-pub none_there : (before : List Item) → ((line : List ℕ) (later : List Item) → before ≢ Text line ∷ later) → NoneFirst (AreSoMany 1) before
+pub none_there : (before : Option (List Item)) → ((line : List ℕ) (later : List Item) → before ≢ Some (Text line ∷ later)) → NoneFirst (AreSoMany 1) before
 none_there before none [] later one e = absurd (omega (arith, one))
 none_there before none (line ∷ lines) later one e = none line (texts lines ++ later) e
+
+-- one call of a reader: the line that it served, or that there is none
+pub come_text : (limit still : ℕ) (before after : Option (List ℕ)) (text : List ℕ) → still ≡ limit → IsNextKnown limit before (Ok TextLine) text after → ComeFirst (option_map (lines_of limit) before) (text ∷ []) (option_map (lines_of still) after)
+come_text limit still None after text e n = record { known = λ items no. cc }
+come_text limit still (Some before) None text e n = absurd n
+come_text limit still (Some before) (Some after) text e n =
+    record { known = λ items is. (lines_of still after, refl, sym (same_Some (lines_of limit before) items is) ∙ n ∙ ap (λ l. Text text ∷ lines_of l after) (sym e)) }
+
+pub none_long : (limit : ℕ) (before after : Option (List ℕ)) (text : List ℕ) → IsNextKnown limit before (Ok TooLong) text after → NoneFirst (AreSoMany 1) (option_map (lines_of limit) before)
+none_long limit None after text n = none_there None (λ line later e. cc)
+none_long limit (Some before) None text n = absurd n
+none_long limit (Some before) (Some after) text n = none_there (Some (lines_of limit before)) (λ line later e. let b = sym n ∙ same_Some (lines_of limit before) (Text line ∷ later) e in cc)
+
+pub none_unended : (limit : ℕ) (before after : Option (List ℕ)) (text : List ℕ) → IsNextKnown limit before (Ok Unended) text after → NoneFirst (AreSoMany 1) (option_map (lines_of limit) before)
+none_unended limit None after text n = none_there None (λ line later e. cc)
+none_unended limit (Some before) None text n = absurd n
+none_unended limit (Some before) (Some after) text n = none_there (Some (lines_of limit before)) (λ line later e. let b = sym n.0 ∙ same_Some (lines_of limit before) (Text line ∷ later) e in cc)
+
+pub none_at_end : (limit : ℕ) (before after : Option (List ℕ)) (text : List ℕ) → IsNextKnown limit before (Ok End) text after → NoneFirst (AreSoMany 1) (option_map (lines_of limit) before)
+none_at_end limit None after text n = none_there None (λ line later e. cc)
+none_at_end limit (Some before) None text n = absurd n
+none_at_end limit (Some before) (Some after) text n = none_there (Some (lines_of limit before)) (λ line later e. let b = sym n.0 ∙ same_Some (lines_of limit before) (Text line ∷ later) e in cc)
+
+none_endless : (limit : ℕ) (before after : Option (List ℕ)) (text : List ℕ) → IsNextKnown limit before (Err Endless) text after → NoneFirst (AreSoMany 1) (option_map (lines_of limit) before)
+none_endless limit None after text n = none_there None (λ line later e. cc)
+none_endless limit (Some before) None text n = absurd n
+none_endless limit (Some before) (Some after) text n = none_there (Some (lines_of limit before)) (λ line later e. let b = sym n.1 ∙ same_Some (lines_of limit before) (Text line ∷ later) e in cc)
 
 -- calls that failed later
 pub broken_later : {old first new : ℕ} {none some all : List StreamFault} → old ≤ first → (none ≡ [] → some ≡ []) → HasBroken first new some all → HasBroken old new none all
@@ -143,12 +211,17 @@ items_or k (x ∷ xs) (y ∷ ys) middle later p q le e same more =
     items_or k xs ys middle later p.1 q.1 (omega (arith, m, n, s, le)) a.1 (λ alike. same (λ i. a.0 i ∷ alike i)) (λ z rest is within. more z rest is (omega (arith, m, n, s, within)))
 
 -- as many lines are of the same items, and behind fewer lines one more comes
-pub items_alike : (k : KnownByLines) (xs ys : List k.X) (middle later : List Item) → AllByRecursion k.IsValid xs → AllByRecursion k.IsValid ys → length (k.all xs) ≡ length (k.all ys) → texts (k.all xs) ++ middle ≡ texts (k.all ys) ++ later → (xs ≡ ys) × (middle ≡ later)
-items_alike k xs ys middle later p q many e = items_or k xs ys middle later p q (omega (arith, many)) e (λ same end. (same, end)) (λ x rest is within there. let s = k.some x in absurd (omega (arith, many, s, within)))
+pub items_alike : (k : KnownByLines) (xs ys : List k.X) {before after : Option (List Item)} (later : List Item) → AllByRecursion k.IsValid xs → AllByRecursion k.IsValid ys → length (k.all xs) ≡ length (k.all ys) → ComeFirst before (k.all xs) after → before ≡ Some (texts (k.all ys) ++ later)
+    → (xs ≡ ys) × (after ≡ Some later)
+items_alike k xs ys later p q many came e =
+    let r = came.known (texts (k.all ys) ++ later) e in
+    items_or k xs ys r.0 later p q (omega (arith, many)) (sym r.2) (λ same end. (same, r.1 ∙ ap Some end)) (λ x rest is within there. let s = k.some x in absurd (omega (arith, many, s, within)))
 
-pub items_cut : (k : KnownByLines) (xs ys : List k.X) (middle later : List Item) → AllByRecursion k.IsValid xs → AllByRecursion k.IsValid ys → length (k.all xs) < length (k.all ys) → texts (k.all xs) ++ middle ≡ texts (k.all ys) ++ later
-    → ((x : k.X) (rest : List Item) → k.IsValid x → length (k.all xs) + length (k.lines_of x) ≤ length (k.all ys) → middle ≢ texts (k.lines_of x) ++ rest) → ⊥
-items_cut k xs ys middle later p q few e never = items_or k xs ys middle later p q (omega (arith, few)) e (λ same end. let n = ap (λ zs. length (k.all zs)) same in omega (arith, few, n)) never
+pub items_cut : (k : KnownByLines) (xs ys : List k.X) {before after : Option (List Item)} (later : List Item) → AllByRecursion k.IsValid xs → AllByRecursion k.IsValid ys → length (k.all xs) < length (k.all ys) → ComeFirst before (k.all xs) after → before ≡ Some (texts (k.all ys) ++ later)
+    → ((x : k.X) (rest : List Item) → k.IsValid x → length (k.all xs) + length (k.lines_of x) ≤ length (k.all ys) → after ≢ Some (texts (k.lines_of x) ++ rest)) → ⊥
+items_cut k xs ys later p q few came e never =
+    let r = came.known (texts (k.all ys) ++ later) e in
+    items_or k xs ys r.0 later p q (omega (arith, few)) (sym r.2) (λ same end. let n = ap (λ zs. length (k.all zs)) same in omega (arith, few, n)) (λ x rest is within there. never x rest is within (r.1 ∙ ap Some there))
 
 -- two lines that come first are one, and so are lists of as many lines
 pub first_alike : {x y : List ℕ} {middle later : List Item} → Text x ∷ middle ≡ Text y ∷ later → (x ≡ y) × (middle ≡ later)
@@ -161,19 +234,15 @@ each_line (line ∷ lines) = (tt, each_line lines)
 abbrev line_items : KnownByLines
 line_items = record { X = List ℕ; IsValid = λ line. Unit {0}; lines_of = λ line. line ∷ []; all = λ lines. lines; none = refl; both = λ line lines. refl; some = λ line. omega arith; alike = λ x y middle later p q e. first_alike e }
 
-pub lines_alike : (xs ys : List (List ℕ)) (middle later : List Item) → length xs ≡ length ys → texts xs ++ middle ≡ texts ys ++ later → (xs ≡ ys) × (middle ≡ later)
-lines_alike xs ys middle later many e = items_alike line_items xs ys middle later (each_line xs) (each_line ys) many e
-
--- lines one after another
-printed_both : (ls ms : List (List ℕ)) (old : List ℕ) {between new : List ℕ} → between ≡ old ++ printed ls → new ≡ between ++ printed ms → new ≡ old ++ printed (ls ++ ms)
-printed_both ls ms old e f = f ∙ ap (λ x. x ++ printed ms) e ∙ append_assoc old (printed ls) (printed ms) ∙ ap (λ x. old ++ x) (sym (printed-append ls ms))
+pub lines_alike : (xs ys : List (List ℕ)) {before after : Option (List Item)} (later : List Item) → length xs ≡ length ys → ComeFirst before xs after → before ≡ Some (texts ys ++ later) → (xs ≡ ys) × (after ≡ Some later)
+lines_alike xs ys later many came e = items_alike line_items xs ys later (each_line xs) (each_line ys) many came e
 
 -- a fault behind lines that were passed on
-pub broken_more : (f : ClientFault) (ls : List (List ℕ)) {before middle : List Item} {old between : List ℕ} (new : List ℕ) → Passed ls before middle old between → IsBroken f middle between new → IsBroken f before old new
+pub broken_more : (f : ClientFault) (ls : List (List ℕ)) {before middle : Option (List Item)} {old between : Option (List ℕ)} (new : Option (List ℕ)) → Passed ls before middle old between → IsBroken f middle between new → IsBroken f before old new
 broken_more f ls {before} {middle} {old} {between} new p b = go f b
   where
     whole : IsWhole middle between new → IsWhole before old new
-    whole w = record { lines = ls ++ w.lines; later = w.later; read = runs_read ls w.lines w.later p.read w.read; out = printed_both ls w.lines old p.out w.out }
+    whole w = record { lines = ls ++ w.lines; later = w.later; read = come_both p.read w.read; out = subst (λ x. Appends old new x) (sym (printed-append ls w.lines)) (Appends-trans old between new (printed ls) (printed w.lines) p.out w.out) }
 
     go : (f : ClientFault) → IsBroken f middle between new → IsBroken f before old new
     go Connection w = whole w
@@ -181,21 +250,27 @@ broken_more f ls {before} {middle} {old} {between} new p b = go f b
     go Output w = record {
       lines = ls ++ w.lines;
       later = w.later;
-      read = runs_read ls w.lines w.later p.read w.read;
+      read = come_both p.read w.read;
       out = subst (λ x. IsCutOff x old new) (sym (printed-append ls w.lines)) (cut_second (printed ls) (printed w.lines) old between new w.out.count p.out w.out.within w.out.out);
     }
 
+-- a fault of calls that read on from lines that were read
+pub broken_from : (f : ClientFault) {xs : List (List ℕ)} {a b : Option (List Item)} (old new : Option (List ℕ)) → ComeFirst a xs b → IsBroken f (prepend_lines xs b) old new → IsBroken f a old new
+broken_from Connection old new p w = record { lines = w.lines; later = w.later; read = come_from p w.read; out = w.out }
+broken_from NoMemory old new p w = record { lines = w.lines; later = w.later; read = come_from p w.read; out = w.out }
+broken_from Output old new p w = record { lines = w.lines; later = w.later; read = come_from p w.read; out = w.out }
+
 -- fewer lines came than were to come
-pub so_many_cut : (n count : ℕ) (before middle : List Item) → HasRead (AreSoMany n) before middle → n < count → NoneFirst (AreSoMany 1) middle → NoneFirst (AreSoMany count) before
+pub so_many_cut : (n count : ℕ) (before middle : Option (List Item)) → HasRead (AreSoMany n) before middle → n < count → NoneFirst (AreSoMany 1) middle → NoneFirst (AreSoMany count) before
 so_many_cut n count before middle h lt none lines later many e =
-    items_cut line_items h.0 lines middle later (each_line h.0) (each_line lines) (omega (arith, h.1, many, lt)) (sym h.2 ∙ e) (λ line rest is within. none (line ∷ []) rest refl)
+    items_cut line_items h.0 lines later (each_line h.0) (each_line lines) (omega (arith, h.1, many, lt)) h.2 e (λ line rest is within. none (line ∷ []) rest refl)
 
 -- a fault of the reader
-pub cut_by_fault : (f : ReadFault) (limit : ℕ) (before text after : List ℕ) (old new : ℕ) (none all : List StreamFault) → ◌≡◌ {A = Result (Unit {0}) ClientFault} (Err (reading_fault f)) (Err Connection) → IsNext limit before (Err f) text after
-    → IsFaultCause f old new → (none ≡ [] → IsFaultRun f all) → HasBroken old new none all ⊎ NoneFirst (AreSoMany 1) (lines_of limit before)
+pub cut_by_fault : (f : ReadFault) (limit : ℕ) (before : Option (List ℕ)) (text : List ℕ) (after : Option (List ℕ)) (old new : ℕ) (none all : List StreamFault) → ◌≡◌ {A = Result (Unit {0}) ClientFault} (Err (reading_fault f)) (Err Connection) → IsNextKnown limit before (Err f) text after
+    → IsFaultCause f old new → (none ≡ [] → IsFaultRun f all) → HasBroken old new none all ⊎ NoneFirst (AreSoMany 1) (option_map (lines_of limit) before)
 cut_by_fault Device limit before text after old new none all is next cause run = inl (record { more = cause; last = λ e. inl (run e) })
 cut_by_fault Interrupted limit before text after old new none all is next cause run = inl (record { more = omega (arith, cause); last = λ e. inr (run e) })
-cut_by_fault Endless limit before text after old new none all is next cause run = inr (none_there (lines_of limit before) (λ line later e. let b = sym next.1 ∙ e in cc))
+cut_by_fault Endless limit before text after old new none all is next cause run = inr (none_endless limit before after text next)
 cut_by_fault NoRoom limit before text after old new none all is next cause run = cc
 
 pub never_output : (f : ReadFault) → ◌≡◌ {A = Result (Unit {0}) ClientFault} (Err (reading_fault f)) (Err Output) → ⊥
@@ -209,18 +284,22 @@ pub same_fault : {A : Type 0} (r : Result A ClientFault) (f k : ClientFault) →
 same_fault r f k is answered = let same : k ≡ f = subst (λ x. IsErrAnd x (λ y. y ≡ f)) answered is in sym same
 
 -- a fault of the output within a line, as it is handed on
-pub broken_cut : (f : ClientFault) (line : List ℕ) (before after : List Item) (old new : List ℕ) → before ≡ Text line ∷ after → f ≡ Output → IsCutOff (ended line) old new → IsBroken f before old new
+pub broken_cut : (f : ClientFault) (line : List ℕ) (before after : Option (List Item)) (old new : Option (List ℕ)) → ComeFirst before (line ∷ []) after → f ≡ Output → IsCutOff (ended line) old new → IsBroken f before old new
 broken_cut f line before after old new e kind cut =
     subst (λ x. IsBroken x before old new) (sym kind) (record { lines = line ∷ []; later = after; read = e; out = subst (λ x. IsCutOff x old new) (sym (append-nil (ended line))) cut })
 
--- a fault that is none of the output, where nothing was printed yet
-pub unprinted : (f : ClientFault) (before : List Item) (old : List ℕ) → f ≢ Output → IsBroken f before old old
-unprinted f before old other = go f other
-  where
-    whole : IsWhole before old old
-    whole = record { lines = []; later = before; read = refl; out = sym (append-nil old) }
+-- nothing was printed
+pub kept_nothing : (old new : Option (List ℕ)) → Keeps old new → Appends old new []
+kept_nothing old new keeps = Appends-kept old old new [] (Appends-nil old) keeps
 
-    go : (f : ClientFault) → f ≢ Output → IsBroken f before old old
+-- a fault that is none of the output, where nothing was printed yet
+pub unprinted : (f : ClientFault) (before : Option (List Item)) (old new : Option (List ℕ)) → f ≢ Output → Keeps old new → IsBroken f before old new
+unprinted f before old new other keeps = go f other
+  where
+    whole : IsWhole before old new
+    whole = record { lines = []; later = before; read = come_none before; out = kept_nothing old new keeps }
+
+    go : (f : ClientFault) → f ≢ Output → IsBroken f before old new
     go Connection never = whole
     go NoMemory never = whole
     go Output never = absurd (never refl)

@@ -14,12 +14,12 @@ use Rattle.mt_info.specs.RowLine.{line}
 use Rattle.mt_info.specs.Table.{row_id}
 use Rattle.mt_info.specs.declared.row.Row.{Row}
 use Rattle.mt_info.proofs.RowLineLaws.{line-injective}
-use Rattle.mt_client.specs.Reading.{texts, HasRead, NoneFirst}
+use Rattle.mt_client.specs.Reading.{texts, ComeFirst, HasRead, NoneFirst}
 use Rattle.mt_client.specs.Awaited.{IsRowAbove, AreRowLines}
 use Rattle.mt_client.specs.Replies.{IsRowOf}
 use Rattle.mt_client.specs.Calls.{AreRead}
 use Rattle.mt_client.proofs.CallLaws.{read_both}
-use Rattle.mt_client.proofs.RelayLaws.{first_alike}
+use Rattle.mt_client.proofs.RelayLaws.{first_alike, come_as}
 
 -- a row behind these keeps them rising exactly where its ID is above the last one
 abbrev pub Follows : Option ℕ → List Row → Type 0
@@ -92,14 +92,15 @@ rises_front [] ys up = refl
 rises_front (x ∷ xs) ys up = and-true (list_all (λ y. nat_lt x.id (row_id y)) xs) _ (all_front x.id xs ys (and_first _ _ up)) (rises_front xs ys (and_second _ _ up))
 
 -- so many rows do not come first where behind fewer of them none comes with an ID above the last one
-pub rows_cut : (n count : ℕ) (last : Option ℕ) (rows : List Row) (before middle : List Item) → before ≡ texts (map line rows) ++ middle → length rows ≡ n → n < count → AllByRecursion IsRow rows → Follows last rows → NoneFirst (IsRowAbove last) middle
+pub rows_cut : (n count : ℕ) (last : Option ℕ) (rows : List Row) (before middle : Option (List Item)) → ComeFirst before (map line rows) middle → length rows ≡ n → n < count → AllByRecursion IsRow rows → Follows last rows → NoneFirst (IsRowAbove last) middle
     → NoneFirst (AreRowLines count) before
 rows_cut n count last rows before middle came many lt valid follows none lines later k e =
     let m = k.many in
-    let f = came_front rows k.rows middle later valid k.valid (omega (arith, m, many, lt)) (sym came ∙ e ∙ ap (λ ls. texts ls ++ later) k.all) in
-    go f.0 f.1 f.2 f.3
+    let c = came.known _ e in
+    let f = came_front rows k.rows c.0 later valid k.valid (omega (arith, m, many, lt)) (sym c.2 ∙ ap (λ ls. texts ls ++ later) k.all) in
+    go f.0 f.1 f.2 (c.1 ∙ ap Some f.3)
   where
-    go : (rest : List Row) → AllByRecursion IsRow rest → k.rows ≡ rows ++ rest → middle ≡ texts (map line rest) ++ later → ⊥
+    go : (rest : List Row) → AllByRecursion IsRow rest → k.rows ≡ rows ++ rest → middle ≡ Some (texts (map line rest) ++ later) → ⊥
     go [] v same there =
         let l = ap length same in
         let a = length-append rows [] in
@@ -131,5 +132,5 @@ rows_join n last id ls ms t r =
       λ k. follows_next last a.rows r.0 t.1 r.2 k ∙ ap (λ n. nat_lt n k.id) r.3,
     )
 
-pub rows_ended : (n count : ℕ) (last : Option ℕ) (before middle : List Item) → HasRead (AreRowsTo n last) before middle → n < count → NoneFirst (IsRowAbove last) middle → NoneFirst (AreRowLines count) before
-rows_ended n count last before middle h lt none = rows_cut n count last h.1.0.rows before middle (h.2 ∙ ap (λ ls. texts ls ++ middle) h.1.0.all) h.1.0.many lt h.1.0.valid h.1.1 none
+pub rows_ended : (n count : ℕ) (last : Option ℕ) (before middle : Option (List Item)) → HasRead (AreRowsTo n last) before middle → n < count → NoneFirst (IsRowAbove last) middle → NoneFirst (AreRowLines count) before
+rows_ended n count last before middle h lt none = rows_cut n count last h.1.0.rows before middle (come_as h.1.0.all h.2) h.1.0.many lt h.1.0.valid h.1.1 none

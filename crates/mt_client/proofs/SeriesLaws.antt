@@ -1,5 +1,5 @@
 -- Items that come one after another up to what ends them, and what may still come where some of them were taken.
-use Rattle.std.proofs.Common.{◌≡◌, ◌≢◌, ℕ, ◌+◌, ◌-◌, ◌<◌, ◌≤◌, Bool, true, ◌&&◌, List, [], ◌∷◌, ◌++◌, length, refl, sym, ap, subst, ◌∙◌, arith, append_assoc, append-nil, length-append, inl, inr}
+use Rattle.std.proofs.Common.{◌≡◌, ◌≢◌, ℕ, ◌+◌, ◌-◌, ◌<◌, ◌≤◌, Bool, true, ◌&&◌, List, [], ◌∷◌, ◌++◌, length, refl, sym, ap, subst, ◌∙◌, arith, append_assoc, append-nil, length-append, Option, Some, inl, inr}
 use Rattle.std.specs.List.{flat_map, fold, AllByRecursion}
 use Rattle.mt_skel.proofs.MiddleLaws.{and-true, and_first, and_second}
 use Rattle.mt_lines.specs.Lines.{Item}
@@ -32,36 +32,36 @@ pub record IsSeries (k : Series) (old : k.S) (lines : List (List ℕ)) : Type 0 
   pub all : lines ≡ flat_map k.lines_of items ++ last
 
 -- so many items were taken and made this state, and the rest of them comes first, wherever a series did at the start
-abbrev pub Came : (k : Series) → ℕ → k.S → k.S → List Item → List Item → Type 0
+abbrev pub Came : (k : Series) → ℕ → k.S → k.S → Option (List Item) → Option (List Item) → Type 0
 Came k taken old now before middle =
-    (lines : List (List ℕ)) (later : List Item) → (d : IsSeries k old lines) → before ≡ texts lines ++ later
-    → (rest : List k.X) × k.AreDue now rest × (taken + length rest ≡ length d.items) × (fold k.step now rest ≡ fold k.step old d.items) × (middle ≡ texts (flat_map k.lines_of rest ++ d.last) ++ later)
+    (lines : List (List ℕ)) (later : List Item) → (d : IsSeries k old lines) → before ≡ Some (texts lines ++ later)
+    → (rest : List k.X) × k.AreDue now rest × (taken + length rest ≡ length d.items) × (fold k.step now rest ≡ fold k.step old d.items) × (middle ≡ Some (texts (flat_map k.lines_of rest ++ d.last) ++ later))
 
 -- none was taken yet
-pub came_at_first : (k : Series) (old : k.S) (before : List Item) → Came k 0 old old before before
-came_at_first k old before lines later d e = (d.items, d.due, omega arith, refl, e ∙ ap (λ ls. texts ls ++ later) d.all)
+pub came_at_first : (k : Series) (old : k.S) (before : Option (List Item)) → Came k 0 old old before before
+came_at_first k old before lines later d e = (d.items, d.due, omega arith, refl, e ∙ ap (λ ls. Some (texts ls ++ later)) d.all)
 
 -- behind them comes what ends them, or one more
-pub came_or : {P : Type 0} (k : Series) (taken : ℕ) (old now : k.S) (before middle : List Item) → Came k taken old now before middle → (lines : List (List ℕ)) (later : List Item) → (d : IsSeries k old lines) → before ≡ texts lines ++ later
-    → (k.AreDue now [] → taken ≡ length d.items → now ≡ fold k.step old d.items → middle ≡ texts d.last ++ later → P)
+pub came_or : {P : Type 0} (k : Series) (taken : ℕ) (old now : k.S) (before middle : Option (List Item)) → Came k taken old now before middle → (lines : List (List ℕ)) (later : List Item) → (d : IsSeries k old lines) → before ≡ Some (texts lines ++ later)
+    → (k.AreDue now [] → taken ≡ length d.items → now ≡ fold k.step old d.items → middle ≡ Some (texts d.last ++ later) → P)
     → ((x : k.X) (xs : List k.X) → k.IsDue now x → k.AreDue (k.step now x) xs → taken + 1 + length xs ≡ length d.items → fold k.step (k.step now x) xs ≡ fold k.step old d.items
-    → middle ≡ texts (k.lines_of x) ++ (texts (flat_map k.lines_of xs ++ d.last) ++ later) → P) → P
+    → middle ≡ Some (texts (k.lines_of x) ++ (texts (flat_map k.lines_of xs ++ d.last) ++ later)) → P) → P
 came_or {P} k taken old now before middle came lines later d e ended more = let c = came lines later d e in go c.0 c.1 c.2 c.3 c.4
   where
-    go : (rest : List k.X) → k.AreDue now rest → taken + length rest ≡ length d.items → fold k.step now rest ≡ fold k.step old d.items → middle ≡ texts (flat_map k.lines_of rest ++ d.last) ++ later → P
+    go : (rest : List k.X) → k.AreDue now rest → taken + length rest ≡ length d.items → fold k.step now rest ≡ fold k.step old d.items → middle ≡ Some (texts (flat_map k.lines_of rest ++ d.last) ++ later) → P
     go [] due many make there = ended due (omega (arith, many)) make there
     go (x ∷ xs) due many make there =
         let f = k.first now x xs due in
         more x xs f.0 f.1 (omega (arith, many)) make
-        (there ∙ ap (λ ls. texts ls ++ later) (append_assoc (k.lines_of x) (flat_map k.lines_of xs) d.last) ∙ texts_split (k.lines_of x) (flat_map k.lines_of xs ++ d.last) later)
+        (there ∙ ap Some (ap (λ ls. texts ls ++ later) (append_assoc (k.lines_of x) (flat_map k.lines_of xs) d.last) ∙ texts_split (k.lines_of x) (flat_map k.lines_of xs ++ d.last) later))
 
 -- what ends them, as it ends those that were taken
 ends_there : (k : Series) (taken : ℕ) (old now : k.S) (lines : List (List ℕ)) (d : IsSeries k old lines) → taken ≡ length d.items → now ≡ fold k.step old d.items → k.Ends taken now d.last
 ends_there k taken old now lines d many make = subst (λ s. k.Ends taken s d.last) (sym make) (subst (λ n. k.Ends n (fold k.step old d.items) d.last) (sym many) d.ends)
 
 -- one more was taken, where what ends them does not come first
-pub came_more : (k : Series) (taken : ℕ) (old now new : k.S) (before middle after : List Item) → Came k taken old now before middle → NoneFirst (λ ls. k.AreDue now [] × k.Ends taken now ls) middle
-    → ((x : k.X) (rest : List Item) → k.IsDue now x → middle ≡ texts (k.lines_of x) ++ rest → (new ≡ k.step now x) × (after ≡ rest)) → Came k (taken + 1) old new before after
+pub came_more : (k : Series) (taken : ℕ) (old now new : k.S) (before middle after : Option (List Item)) → Came k taken old now before middle → NoneFirst (λ ls. k.AreDue now [] × k.Ends taken now ls) middle
+    → ((x : k.X) (rest : List Item) → k.IsDue now x → middle ≡ Some (texts (k.lines_of x) ++ rest) → (new ≡ k.step now x) × (after ≡ Some rest)) → Came k (taken + 1) old new before after
 came_more k taken old now new before middle after came none only lines later d e =
     came_or k taken old now before middle came lines later d e (λ due many make there. absurd (none d.last later (due, ends_there k taken old now lines d many make) there))
     (λ x xs is due many make there.
@@ -69,8 +69,8 @@ came_more k taken old now new before middle after came none only lines later d e
     (xs, subst (λ s. k.AreDue s xs) (sym o.0) due, many, ap (λ s. fold k.step s xs) o.0 ∙ make, o.1))
 
 -- no series came first, where neither what ends them does behind those that were taken, nor one more
-pub came_cut : {kind : List (List ℕ) → Type 0} (k : Series) (taken : ℕ) (old now : k.S) (before middle : List Item) → ((lines : List (List ℕ)) → kind lines → IsSeries k old lines) → Came k taken old now before middle → NoneFirst (λ ls. k.AreDue now [] × k.Ends taken now ls) middle
-    → ((x : k.X) (rest : List Item) (n : ℕ) (made : k.S) (last : List (List ℕ)) → k.IsDue now x → taken < n → k.Ends n made last → middle ≢ texts (k.lines_of x) ++ rest) → NoneFirst kind before
+pub came_cut : {kind : List (List ℕ) → Type 0} (k : Series) (taken : ℕ) (old now : k.S) (before middle : Option (List Item)) → ((lines : List (List ℕ)) → kind lines → IsSeries k old lines) → Came k taken old now before middle → NoneFirst (λ ls. k.AreDue now [] × k.Ends taken now ls) middle
+    → ((x : k.X) (rest : List Item) (n : ℕ) (made : k.S) (last : List (List ℕ)) → k.IsDue now x → taken < n → k.Ends n made last → middle ≢ Some (texts (k.lines_of x) ++ rest)) → NoneFirst kind before
 came_cut k taken old now before middle is came none never lines later h e =
     let d = is lines h in
     came_or k taken old now before middle came lines later d e (λ due many make there. none d.last later (due, ends_there k taken old now lines d many make) there)
@@ -98,15 +98,15 @@ pub are_in_lines : (k : Series) (count : ℕ) (old : k.S) (items : List k.X) (li
 are_in_lines k count old items lines due many all = record { items = items; last = []; due = (due, sym (ap length all) ∙ many); ends = refl; all = all ∙ sym (append-nil (flat_map k.lines_of items)) }
 
 -- some items were taken, and so many lines are left
-abbrev pub CameInLines : (k : Series) → ℕ → ℕ → k.S → k.S → List Item → List Item → Type 0
+abbrev pub CameInLines : (k : Series) → ℕ → ℕ → k.S → k.S → Option (List Item) → Option (List Item) → Type 0
 CameInLines k count left old now before middle = (taken : ℕ) × Came (in_lines k) taken (count, old) (left, now) before middle
 
 -- none was taken yet, one more was, and none came where none comes within the lines that are left
-pub lines_at_first : (k : Series) (count : ℕ) (old : k.S) (before : List Item) → CameInLines k count count old old before before
+pub lines_at_first : (k : Series) (count : ℕ) (old : k.S) (before : Option (List Item)) → CameInLines k count count old old before before
 lines_at_first k count old before = (0, came_at_first (in_lines k) (count, old) before)
 
-pub lines_more : (k : Series) (count left size less : ℕ) (old now new : k.S) (before middle after : List Item) → left ≡ size + less → 0 < left → CameInLines k count left old now before middle
-    → ((x : k.X) (rest : List Item) → k.IsDue now x → middle ≡ texts (k.lines_of x) ++ rest → (length (k.lines_of x) ≡ size) × (new ≡ k.step now x) × (after ≡ rest)) → CameInLines k count less old new before after
+pub lines_more : (k : Series) (count left size less : ℕ) (old now new : k.S) (before middle after : Option (List Item)) → left ≡ size + less → 0 < left → CameInLines k count left old now before middle
+    → ((x : k.X) (rest : List Item) → k.IsDue now x → middle ≡ Some (texts (k.lines_of x) ++ rest) → (length (k.lines_of x) ≡ size) × (new ≡ k.step now x) × (after ≡ Some rest)) → CameInLines k count less old new before after
 lines_more k count left size less old now new before middle after sum some came only = (
   came.0 + 1,
   came_more (in_lines k) came.0 (count, old) (left, now) (less, new) before middle after came.1 (λ ls later h e. let n = h.0.1 in omega (arith, n, some))
@@ -116,8 +116,8 @@ lines_more k count left size less old now new before middle after sum some came 
       ((λ i. (n i, o.1 i)), o.2)),
 )
 
-pub lines_cut : {kind : List (List ℕ) → Type 0} (k : Series) (count left : ℕ) (old now : k.S) (before middle : List Item) → ((lines : List (List ℕ)) → kind lines → IsSeries (in_lines k) (count, old) lines) → 0 < left → CameInLines k count left old now before middle
-    → ((x : k.X) (rest : List Item) → k.IsDue now x → length (k.lines_of x) ≤ left → middle ≢ texts (k.lines_of x) ++ rest) → NoneFirst kind before
+pub lines_cut : {kind : List (List ℕ) → Type 0} (k : Series) (count left : ℕ) (old now : k.S) (before middle : Option (List Item)) → ((lines : List (List ℕ)) → kind lines → IsSeries (in_lines k) (count, old) lines) → 0 < left → CameInLines k count left old now before middle
+    → ((x : k.X) (rest : List Item) → k.IsDue now x → length (k.lines_of x) ≤ left → middle ≢ Some (texts (k.lines_of x) ++ rest)) → NoneFirst kind before
 lines_cut k count left old now before middle is some came never =
     came_cut (in_lines k) came.0 (count, old) (left, now) before middle is came.1 (λ ls later h e. let n = h.0.1 in omega (arith, n, some)) (λ x rest n made last is lt ends. never x rest is.0 is.1)
 
@@ -197,19 +197,19 @@ last_is count taken last lines (inl s) all = inr (all ∙ ap (λ l. l ∷ []) s.
 last_is count taken last lines (inr s) all = inl (last, s.1, all)
 
 -- one more post was applied, where no refusal comes first
-pub posts_more : (k : Posts) (end : List ℕ) (count taken : ℕ) (old now new : k.S) (before middle after : List Item) → taken < count → Came (up_to k end count) taken old now before middle → NoneFirst IsOneRefusal middle → IsOnlyApplied k.apply now new middle after
+pub posts_more : (k : Posts) (end : List ℕ) (count taken : ℕ) (old now new : k.S) (before middle after : Option (List Item)) → taken < count → Came (up_to k end count) taken old now before middle → NoneFirst IsOneRefusal middle → IsOnlyApplied k.apply now new middle after
     → Came (up_to k end count) (taken + 1) old new before after
 posts_more k end count taken old now new before middle after lt came none only =
     came_more (up_to k end count) taken old now new before middle after came (λ ls later h. none ls later (h.1.0, refuses_early end count taken h.1.0 h.1.2 lt, h.1.1)) (λ p rest is. only p rest is.0)
 
 -- no such posts came first where neither a next one comes nor a refusal, and where neither their end does nor a refusal
-pub posts_cut : {kind : List (List ℕ) → Type 0} (k : Posts) (end : List ℕ) (count taken : ℕ) (old now : k.S) (before middle : List Item) → ((lines : List (List ℕ)) → kind lines → IsSeries (up_to k end count) old lines) → taken < count → Came (up_to k end count) taken old now before middle
+pub posts_cut : {kind : List (List ℕ) → Type 0} (k : Posts) (end : List ℕ) (count taken : ℕ) (old now : k.S) (before middle : Option (List Item)) → ((lines : List (List ℕ)) → kind lines → IsSeries (up_to k end count) old lines) → taken < count → Came (up_to k end count) taken old now before middle
     → NoneFirst (IsRefusedOr (IsSuchPost (k.is now))) middle → NoneFirst kind before
 posts_cut k end count taken old now before middle is lt came none =
     came_cut (up_to k end count) taken old now before middle is came (λ ls later h. none ls later (inl (h.1.0, refuses_early end count taken h.1.0 h.1.2 lt, h.1.1)))
     (λ p rest n made last due more ends. none (post_lines p) rest (inr (record { post = p; valid = due.0; such = due.1; all = refl })))
 
-pub posts_to_end : {kind : List (List ℕ) → Type 0} (k : Posts) (count taken : ℕ) (old now : k.S) (before middle : List Item) → ((lines : List (List ℕ)) → kind lines → IsSeries (up_to k (counted_line count) count) old lines) → count ≤ taken
+pub posts_to_end : {kind : List (List ℕ) → Type 0} (k : Posts) (count taken : ℕ) (old now : k.S) (before middle : Option (List Item)) → ((lines : List (List ℕ)) → kind lines → IsSeries (up_to k (counted_line count) count) old lines) → count ≤ taken
     → Came (up_to k (counted_line count) count) taken old now before middle → NoneFirst (IsRefusedOr (IsEnd count)) middle → NoneFirst kind before
 posts_to_end k count taken old now before middle is all came none =
     came_cut (up_to k (counted_line count) count) taken old now before middle is came (λ ls later h. none ls later (last_is count taken h.1.0 ls h.1.2 h.1.1))

@@ -1,10 +1,12 @@
 -- Posts that were told, one after another, also counted by their lines, and what stands behind them.
-use Rattle.std.proofs.Common.{◌≡◌, ◌≢◌, ℕ, zero, suc, ◌+◌, ◌≤◌, true, List, [], ◌∷◌, ◌++◌, replicate, refl, sym, ap, subst, ◌∙◌, arith, append_assoc, length-append, codes, inl, inr, Some, length}
+use Rattle.std.proofs.Common.{◌≡◌, ◌≢◌, ℕ, zero, suc, ◌+◌, ◌≤◌, true, List, [], ◌∷◌, ◌++◌, replicate, refl, sym, ap, subst, ◌∙◌, arith, append_assoc, length-append, codes, inl, inr, Option, Some, length}
+use Rattle.std.specs.Io.KnownBytes.{Appends, Keeps}
+use Rattle.std.proofs.KnownBytes.{Appends-nil, Appends-trans, Appends-kept}
 use Rattle.std.proofs.lemmas.List.{append-nil}
 use Rattle.std.proofs.lemmas.Grind.{flat_map-append, fold-append}
 use Rattle.std.specs.List.{flat_map}
 use Rattle.mt_skel.proofs.MiddleLaws.{and-true, each_append}
-use Rattle.mt_lines.specs.Lines.{Item, Text}
+use Rattle.mt_lines.specs.Lines.{Item}
 use Rattle.mt_events.specs.Posts.{PostView, IsPost, post_text, ended}
 use Rattle.mt_events.specs.Mirrors.{MirrorView}
 use Rattle.mt_events.specs.Texts.{count_text, followed_text}
@@ -13,14 +15,14 @@ use Rattle.mt_client.specs.declared.named.NamedTelling.{NamedTelling}
 use Rattle.mt_client.specs.declared.fault.ClientFault.{ClientFault}
 use Rattle.mt_client.specs.declared.fault.ClientFault.TheVariants.{Connection, Output, NoMemory}
 use Rattle.mt_client.specs.Requests.{numbered_text, event_count}
-use Rattle.mt_client.specs.Reading.{texts, IsCutOff, IsBroken, IsSentPart}
+use Rattle.mt_client.specs.Reading.{ComeFirst, IsCutOff, IsBroken, IsSentPart}
 use Rattle.mt_client.specs.Mirroring.{HasRefused, IsPosted, counted_line}
 use Rattle.mt_client.specs.Finding.{watch_text, HasFound}
 use Rattle.mt_client.specs.Telling.{told_in, mirrors_with, mirrors_by, is_due, are_due, posts_told, portion, follows_text, telling_text, all_posts, portions_text, HasCome, HasTold, IsUnsaid, IsStopped, IsBrokenOff, AreTold, HasToldPost, HasToldSome, HasToldPortion, HasToldSo, HasToldAll, HasToldAllOut, IsToldUpTo}
 use Rattle.mt_client.proofs.OpeningLaws.{watched_whole}
 use Rattle.mt_client.proofs.SeriesLaws.{due_to, are_both}
 use Rattle.mt_client.proofs.CallLaws.{connection≢output, no_memory≢output}
-use Rattle.mt_client.proofs.RelayLaws.{part_first, part_second, printed-append, runs_read, broken_cut}
+use Rattle.mt_client.proofs.RelayLaws.{part_first, part_second, printed-append, come_none, come_both, broken_cut}
 use Rattle.std.proofs.lemmas.Option.{same_Some}
 use Rattle.mt_lines.specs.Words.{words}
 use Rattle.mt_events.specs.declared.opening.Scope.TheVariants.{All}
@@ -33,65 +35,63 @@ told_both named (p ∷ ps) qs old =
     ap (λ t. told_in named old p ++ t) (told_both named ps qs (mirrors_with old p))
     ∙ sym (append_assoc (told_in named old p) (posts_told named (mirrors_with old p) ps) (posts_told named (mirrors_by (mirrors_with old p) ps) qs))
 
-abbrev pub both_told : {named : NamedTelling} {scope : Scope} {ps qs : List PostView} {s t : List ℕ} {old mid new : List MirrorView} {before middle after : List Item} {begun between done : List ℕ}
+abbrev pub both_told : {named : NamedTelling} {scope : Scope} {ps qs : List PostView} {s t : List ℕ} {old mid new : List MirrorView} {before middle after : Option (List Item)} {begun between done : Option (List ℕ)}
     → AreTold named scope ps s old mid before middle begun between → AreTold named scope qs t mid new middle after between done → AreTold named scope (ps ++ qs) (s ++ t) old new before after begun done
-both_told {named} {scope} {ps} {qs} {s} {t} {old} {mid} {new} {before} {middle} {after} {begun} f h = record {
+both_told {named} {scope} {ps} {qs} {s} {t} {old} {mid} {new} {before} {middle} {after} {begun} {between} {done} f h = record {
   lines = f.lines ++ h.lines;
   valid = each_append IsPost ps qs f.valid h.valid;
   due = are_both (due_to scope) ps qs old f.due (subst (λ ms. are_due scope ms qs ≡ true) f.make h.due);
   make = h.make ∙ ap (λ ms. mirrors_by ms qs) f.make ∙ sym (fold-append mirrors_with old ps qs);
-  read = runs_read f.lines h.lines after f.read h.read;
+  read = come_both f.read h.read;
   text = printed-append f.lines h.lines ∙ (λ k. f.text k ++ h.text k);
-  out =
-      h.out ∙ (λ k. f.out k ++ posts_told named (f.make k) qs)
-      ∙ append_assoc begun (posts_told named old ps) (posts_told named (mirrors_by old ps) qs)
-      ∙ ap (λ x. begun ++ x) (sym (told_both named ps qs old));
+  out = subst (λ x. Appends begun done x) (sym (told_both named ps qs old))
+      (Appends-trans begun between done (posts_told named old ps) (posts_told named (mirrors_by old ps) qs) f.out (subst (λ ms. Appends between done (posts_told named ms qs)) f.make h.out));
 }
 
-abbrev pub none_told : {named : NamedTelling} {scope : Scope} {old : List MirrorView} {before : List Item} {begun : List ℕ} → AreTold named scope [] [] old old before before begun begun
-none_told {named} {scope} {old} {before} {begun} = record { lines = []; valid = tt; due = refl; make = refl; read = refl; text = refl; out = sym (append-nil begun) }
+abbrev pub none_told : {named : NamedTelling} {scope : Scope} {old : List MirrorView} {before : Option (List Item)} {begun : Option (List ℕ)} → AreTold named scope [] [] old old before before begun begun
+none_told {named} {scope} {old} {before} {begun} = record { lines = []; valid = tt; due = refl; make = refl; read = come_none before; text = refl; out = Appends-nil begun }
 
-abbrev pub said_so : {named : NamedTelling} {scope : Scope} {ps : List PostView} {s t : List ℕ} {old new : List MirrorView} {before after : List Item} {begun done : List ℕ} → s ≡ t → AreTold named scope ps s old new before after begun done → AreTold named scope ps t old new before after begun done
+abbrev pub said_so : {named : NamedTelling} {scope : Scope} {ps : List PostView} {s t : List ℕ} {old new : List MirrorView} {before after : Option (List Item)} {begun done : Option (List ℕ)} → s ≡ t → AreTold named scope ps s old new before after begun done → AreTold named scope ps t old new before after begun done
 said_so e f = record { lines = f.lines; valid = f.valid; due = f.due; make = f.make; read = f.read; text = f.text ∙ e; out = f.out }
 
 -- one post
-abbrev pub post_told : {named : NamedTelling} (scope : Scope) {first : List ℕ} {post : PostView} (old : List MirrorView) {new : List MirrorView} {before middle after : List Item} (begun : List ℕ) {done : List ℕ} → before ≡ Text first ∷ middle → IsPosted first middle after post → IsPost post
-    → is_due scope old post ≡ true → new ≡ mirrors_with old post → done ≡ begun ++ told_in named old post → HasToldPost named scope old new before after begun done
-post_told {named} scope {first} {post} old begun there p valid due make out = (
+abbrev pub post_told : {named : NamedTelling} (scope : Scope) {first : List ℕ} {post : PostView} (old : List MirrorView) {new : List MirrorView} {before middle after : Option (List Item)} (begun : Option (List ℕ)) {done : Option (List ℕ)} → ComeFirst before (first ∷ []) middle → IsPosted first middle after post → IsPost post
+    → is_due scope old post ≡ true → new ≡ mirrors_with old post → Appends begun done (told_in named old post) → HasToldPost named scope old new before after begun done
+post_told {named} scope {first} {post} old {new} {before} {middle} {after} begun {done} there p valid due make out = (
   post,
   record {
     lines = first ∷ p.others;
     valid = (valid, tt);
     due = and-true (is_due scope old post) true due refl;
     make = make;
-    read = there ∙ ap (λ x. Text first ∷ x) p.read;
+    read = come_both there p.read;
     text = p.text;
-    out = out ∙ ap (λ x. begun ++ x) (sym (append-nil (told_in named old post)));
+    out = subst (λ x. Appends begun done x) (sym (append-nil (told_in named old post))) out;
   },
 )
 
 -- what was printed up to a fault
-pub unsaid_of : (f : ClientFault) (before : List Item) (old new : List ℕ) → IsBroken f before old new → (f ≢ Output → new ≡ old) → IsUnsaid f before old new
+pub unsaid_of : (f : ClientFault) (before : Option (List Item)) (old new : Option (List ℕ)) → IsBroken f before old new → (f ≢ Output → Keeps old new) → IsUnsaid f before old new
 unsaid_of Connection before old new b kept = kept connection≢output
 unsaid_of NoMemory before old new b kept = kept no_memory≢output
 unsaid_of Output before old new b kept = b
 
-pub stopped_post : {named : NamedTelling} {f : ClientFault} (scope : Scope) {first : List ℕ} {post : PostView} (old : List MirrorView) {before middle after : List Item} {begun done : List ℕ} → before ≡ Text first ∷ middle → IsPosted first middle after post → IsPost post
-    → (f ≢ Output → done ≡ begun) → (f ≡ Output → (is_due scope old post ≡ true) × IsCutOff (told_in named old post) begun done) → IsStopped named f scope old before begun done
+pub stopped_post : {named : NamedTelling} {f : ClientFault} (scope : Scope) {first : List ℕ} {post : PostView} (old : List MirrorView) {before middle after : Option (List Item)} {begun done : Option (List ℕ)} → ComeFirst before (first ∷ []) middle → IsPosted first middle after post → IsPost post
+    → (f ≢ Output → Keeps begun done) → (f ≡ Output → (is_due scope old post ≡ true) × IsCutOff (told_in named old post) begun done) → IsStopped named f scope old before begun done
 stopped_post {named} {f} scope {first} {post} old {before} {middle} {after} {begun} {done} there p valid kept cut = go f kept cut
   where
-    go : (f : ClientFault) → (f ≢ Output → done ≡ begun) → (f ≡ Output → (is_due scope old post ≡ true) × IsCutOff (told_in named old post) begun done) → IsStopped named f scope old before begun done
+    go : (f : ClientFault) → (f ≢ Output → Keeps begun done) → (f ≡ Output → (is_due scope old post ≡ true) × IsCutOff (told_in named old post) begun done) → IsStopped named f scope old before begun done
     go Connection same half = inl (same connection≢output)
     go NoMemory same half = inl (same no_memory≢output)
     go Output same half =
         let h = half refl in
-        inr (refl, record { post = post; lines = first ∷ p.others; later = after; valid = valid; due = h.0; read = there ∙ ap (λ x. Text first ∷ x) p.read; text = p.text; out = h.1 })
+        inr (refl, record { post = post; lines = first ∷ p.others; later = after; valid = valid; due = h.0; read = come_both there p.read; text = p.text; out = h.1 })
 
 -- so many posts
-pub none_yet : {named : NamedTelling} {scope : Scope} {old : List MirrorView} {before : List Item} {begun : List ℕ} → HasToldSome named 0 scope old old before before begun begun
+pub none_yet : {named : NamedTelling} {scope : Scope} {old : List MirrorView} {before : Option (List Item)} {begun : Option (List ℕ)} → HasToldSome named 0 scope old old before before begun begun
 none_yet = record { posts = []; many = refl; told = none_told }
 
-pub some_more : {named : NamedTelling} {n : ℕ} {scope : Scope} {old mid new : List MirrorView} {before middle after : List Item} {begun between done : List ℕ} → HasToldSome named n scope old mid before middle begun between → HasToldPost named scope mid new middle after between done
+pub some_more : {named : NamedTelling} {n : ℕ} {scope : Scope} {old mid new : List MirrorView} {before middle after : Option (List Item)} {begun between done : Option (List ℕ)} → HasToldSome named n scope old mid before middle begun between → HasToldPost named scope mid new middle after between done
     → HasToldSome named (n + 1) scope old new before after begun done
 some_more f h =
     let p : PostView = h.0 in
@@ -106,7 +106,7 @@ some_more f h =
     }
 
 -- their end
-pub portion_whole : {named : NamedTelling} {count n : ℕ} {scope : Scope} {old new : List MirrorView} {before middle after : List Item} {begun done : List ℕ} → n ≡ count → HasToldSome named n scope old new before middle begun done → middle ≡ texts (counted_line count ∷ []) ++ after
+pub portion_whole : {named : NamedTelling} {count n : ℕ} {scope : Scope} {old new : List MirrorView} {before middle after : Option (List Item)} {begun done : Option (List ℕ)} → n ≡ count → HasToldSome named n scope old new before middle begun done → ComeFirst middle (counted_line count ∷ []) after
     → HasToldPortion named count scope old new before after begun done
 portion_whole {named} {count} {n} {scope} {old} {new} {before} {middle} {after} all f e =
     let t = f.told in
@@ -118,25 +118,25 @@ portion_whole {named} {count} {n} {scope} {old} {new} {before} {middle} {after} 
         valid = t.valid;
         due = t.due;
         make = t.make;
-        read = runs_read t.lines (counted_line count ∷ []) after t.read e;
+        read = come_both t.read e;
         text = printed-append t.lines (counted_line count ∷ []) ∙ (λ k. t.text k ++ append-nil (count_text count) k);
         out = t.out;
       };
     }
 
 -- at most so many posts, and no whole portion before them
-pub so_few : {named : NamedTelling} {count n : ℕ} {scope : Scope} {old new : List MirrorView} {before after : List Item} {begun done : List ℕ} → n ≤ count → HasToldSome named n scope old new before after begun done → HasToldSo named count scope old new before after begun done
+pub so_few : {named : NamedTelling} {count n : ℕ} {scope : Scope} {old new : List MirrorView} {before after : Option (List Item)} {begun done : Option (List ℕ)} → n ≤ count → HasToldSome named n scope old new before after begun done → HasToldSo named count scope old new before after begun done
 so_few le f = record { portions = []; rest = f.posts; whole = tt; within = let m = f.many in omega (arith, m, le); told = f.told }
 
-pub so_none : {named : NamedTelling} {count : ℕ} {scope : Scope} {old : List MirrorView} {before : List Item} {begun : List ℕ} → HasToldSo named count scope old old before before begun begun
+pub so_none : {named : NamedTelling} {count : ℕ} {scope : Scope} {old : List MirrorView} {before : Option (List Item)} {begun : Option (List ℕ)} → HasToldSo named count scope old old before before begun begun
 so_none = so_few (omega arith) none_yet
 
 -- what is told from here on is told from the start on, behind the portions that were told
-abbrev pub AreToldBefore : NamedTelling → ℕ → Scope → List MirrorView → List MirrorView → List Item → List Item → List ℕ → List ℕ → Type 0
+abbrev pub AreToldBefore : NamedTelling → ℕ → Scope → List MirrorView → List MirrorView → Option (List Item) → Option (List Item) → Option (List ℕ) → Option (List ℕ) → Type 0
 AreToldBefore named count scope old mid before middle begun between =
-    (new : List MirrorView) (after : List Item) (done : List ℕ) → HasToldSo named count scope mid new middle after between done → HasToldSo named count scope old new before after begun done
+    (new : List MirrorView) (after : Option (List Item)) (done : Option (List ℕ)) → HasToldSo named count scope mid new middle after between done → HasToldSo named count scope old new before after begun done
 
-pub portion_before : {named : NamedTelling} {count : ℕ} {scope : Scope} {old mid : List MirrorView} {before middle : List Item} {begun between : List ℕ} → HasToldPortion named count scope old mid before middle begun between → AreToldBefore named count scope old mid before middle begun between
+pub portion_before : {named : NamedTelling} {count : ℕ} {scope : Scope} {old mid : List MirrorView} {before middle : Option (List Item)} {begun between : Option (List ℕ)} → HasToldPortion named count scope old mid before middle begun between → AreToldBefore named count scope old mid before middle begun between
 portion_before {named} {count} {scope} {old} {mid} {before} {middle} {begun} f new after done h =
     let first : List ℕ = followed_text f.posts (count_text count) in
     let posts : f.posts ++ all_posts h.portions h.rest ≡ all_posts (f.posts ∷ h.portions) h.rest = sym (append_assoc f.posts (flat_map (λ posts. posts) h.portions) h.rest) in
@@ -153,33 +153,38 @@ portion_before {named} {count} {scope} {old} {mid} {before} {middle} {begun} f n
     }
 
 -- a refusal behind them, and a fault
-pub all_behind : {named : NamedTelling} (count : ℕ) (scope : Scope) (old mid : List MirrorView) (before middle after : List Item) (begun between done : List ℕ) → AreToldBefore named count scope old mid before middle begun between → HasToldAllOut named count scope mid middle after between done
+pub all_behind : {named : NamedTelling} (count : ℕ) (scope : Scope) (old mid : List MirrorView) (before middle after : Option (List Item)) (begun between done : Option (List ℕ)) → AreToldBefore named count scope old mid before middle begun between → HasToldAllOut named count scope mid middle after between done
     → HasToldAllOut named count scope old before after begun done
-all_behind {named} count scope old mid before middle after begun between done f h =
+all_behind {named} count scope old mid before middle after begun between end f h =
     let a : HasToldAll named count scope h.0 mid middle after between h.1 = h.2 in
     (h.0, h.1, record { made = a.made; middle = a.middle; so = f a.made a.middle h.1 a.so; refused = a.refused }, h.3)
 
 -- the line behind so many posts
-pub all_few : {named : NamedTelling} {count n : ℕ} {scope : Scope} {refusal : List ℕ} {old new : List MirrorView} {before middle after : List Item} {begun between done : List ℕ} → n ≤ count → HasToldSome named n scope old new before middle begun between → (done ≡ between) × HasRefused refusal middle after
+some_kept : {named : NamedTelling} {n : ℕ} {scope : Scope} {old new : List MirrorView} {before middle : Option (List Item)} {begun between done : Option (List ℕ)} → HasToldSome named n scope old new before middle begun between → Keeps between done → HasToldSome named n scope old new before middle begun done
+some_kept {named} {n} {scope} {old} {new} {before} {middle} {begun} {between} {done} f kept =
+    let t = f.told in
+    record { posts = f.posts; many = f.many; told = record { lines = t.lines; valid = t.valid; due = t.due; make = t.make; read = t.read; text = t.text; out = Appends-kept begun between done (posts_told named old f.posts) t.out kept } }
+
+pub all_few : {named : NamedTelling} {count n : ℕ} {scope : Scope} {refusal : List ℕ} {old new : List MirrorView} {before middle after : Option (List Item)} {begun between done : Option (List ℕ)} → n ≤ count → HasToldSome named n scope old new before middle begun between → Keeps between done × HasRefused refusal middle after
     → HasToldAll named count scope refusal old before after begun done
-all_few {named} {count} {n} {scope} {refusal} {old} {new} {before} {middle} {after} {begun} le f r = record {
+all_few {named} {count} {n} {scope} {refusal} {old} {new} {before} {middle} le f r = record {
   made = new;
   middle = middle;
-  so = subst (λ x. HasToldSo named count scope old new before middle begun x) (sym r.0) (so_few le f);
+  so = so_few le (some_kept f r.0);
   refused = r.1;
 }
 
-pub up_to_some : {named : NamedTelling} {fault : ClientFault} {count n : ℕ} {scope : Scope} {old new : List MirrorView} {before middle : List Item} {begun between done : List ℕ} → n ≤ count → HasToldSome named n scope old new before middle begun between → IsStopped named fault scope new middle between done
+pub up_to_some : {named : NamedTelling} {fault : ClientFault} {count n : ℕ} {scope : Scope} {old new : List MirrorView} {before middle : Option (List Item)} {begun between done : Option (List ℕ)} → n ≤ count → HasToldSome named n scope old new before middle begun between → IsStopped named fault scope new middle between done
     → IsToldUpTo named fault count scope old before begun done
 up_to_some {named} {fault} {count} {n} {scope} {old} {new} {before} {middle} {begun} {between} le f s =
     record { made = new; middle = middle; between = between; so = so_few le f; stopped = s }
 
 -- a fault up to which nothing was told
-pub up_to_none : {named : NamedTelling} {fault : ClientFault} {count : ℕ} {scope : Scope} {old : List MirrorView} {before : List Item} {begun done : List ℕ} → IsUnsaid fault before begun done → IsToldUpTo named fault count scope old before begun done
+pub up_to_none : {named : NamedTelling} {fault : ClientFault} {count : ℕ} {scope : Scope} {old : List MirrorView} {before : Option (List Item)} {begun done : Option (List ℕ)} → IsUnsaid fault before begun done → IsToldUpTo named fault count scope old before begun done
 up_to_none {named} {fault} {count} {scope} {old} {before} {begun} u = record { made = old; middle = before; between = begun; so = so_none; stopped = inl u }
 
 -- of a line that was read a part was printed, not all
-pub unsaid_cut : {fault : ClientFault} {line : List ℕ} {before after : List Item} {begun done : List ℕ} → fault ≡ Output → before ≡ Text line ∷ after → IsCutOff (ended line) begun done → IsUnsaid fault before begun done
+pub unsaid_cut : {fault : ClientFault} {line : List ℕ} {before after : Option (List Item)} {begun done : Option (List ℕ)} → fault ≡ Output → ComeFirst before (line ∷ []) after → IsCutOff (ended line) begun done → IsUnsaid fault before begun done
 unsaid_cut {fault} {line} {before} {after} {begun} {done} kind there cut =
     let part : IsUnsaid Output before begun done = broken_cut Output line before after begun done there refl cut in
     subst (λ f. IsUnsaid f before begun done) (sym kind) part
@@ -194,20 +199,19 @@ follows_more count k =
     let e : k + 1 ≡ suc k = omega arith in
     ap (follows_text count) e ∙ sym (follows_again (numbered_text (codes "follow") count) k)
 
-pub follows_sent : (count k : ℕ) (old mid new : List ℕ) → mid ≡ old ++ follows_text count k → new ≡ mid ++ ended (numbered_text (codes "follow") count) → new ≡ old ++ follows_text count (k + 1)
-follows_sent count k old mid new e f =
-    f ∙ ap (λ x. x ++ ended (numbered_text (codes "follow") count)) e ∙ append_assoc old (follows_text count k) (ended (numbered_text (codes "follow") count)) ∙ ap (λ x. old ++ x) (sym (follows_more count k))
+pub follows_sent : (count k : ℕ) (old mid new : Option (List ℕ)) → Appends old mid (follows_text count k) → Appends mid new (ended (numbered_text (codes "follow") count)) → Appends old new (follows_text count (k + 1))
+follows_sent count k old mid new e f = subst (λ x. Appends old new x) (sym (follows_more count k)) (Appends-trans old mid new (follows_text count k) (ended (numbered_text (codes "follow") count)) e f)
 
-pub follows_part : (count k : ℕ) (old mid new : List ℕ) → mid ≡ old ++ follows_text count k → IsSentPart (ended (numbered_text (codes "follow") count)) mid new → (times : ℕ) × IsSentPart (follows_text count times) old new
+pub follows_part : (count k : ℕ) (old mid new : Option (List ℕ)) → Appends old mid (follows_text count k) → IsSentPart (ended (numbered_text (codes "follow") count)) mid new → (times : ℕ) × IsSentPart (follows_text count times) old new
 follows_part count k old mid new e p =
     (k + 1, subst (λ t. IsSentPart t old new) (sym (follows_more count k)) (part_second (follows_text count k) (ended (numbered_text (codes "follow") count)) old mid new e p))
 
 -- a part of the request of a watcher, as a part of the requests of a telling
-pub telling_first : (scope : Scope) (old new : List ℕ) → IsSentPart (ended (watch_text scope)) old new → (times : ℕ) × IsSentPart (telling_text scope times) old new
+pub telling_first : (scope : Scope) (old new : Option (List ℕ)) → IsSentPart (ended (watch_text scope)) old new → (times : ℕ) × IsSentPart (telling_text scope times) old new
 telling_first scope old new p = (0, part_first (ended (watch_text scope)) (follows_text portion 0) old new p)
 
 -- a whole telling
-come_whole : {named : NamedTelling} {scope : Scope} {found made : List MirrorView} {before opened after : List Item} {begun done : List ℕ} → HasFound scope before opened found → (s : HasToldSo named portion scope found made opened after begun done) → HasCome scope s.portions s.rest before after found
+come_whole : {named : NamedTelling} {scope : Scope} {found made : List MirrorView} {before opened after : Option (List Item)} {begun done : Option (List ℕ)} → HasFound scope before opened found → (s : HasToldSo named portion scope found made opened after begun done) → HasCome scope s.portions s.rest before after found
 come_whole {named} {scope} {found} {made} {before} {opened} {after} f s =
     let w = watched_whole scope found before opened f in
     let t = s.told in
@@ -218,13 +222,13 @@ come_whole {named} {scope} {found} {made} {before} {opened} {after} f s =
       within = s.within;
       valid = t.valid;
       due = t.due;
-      read = runs_read w.lines t.lines after w.read t.read;
+      read = come_both w.read t.read;
       text = printed-append w.lines t.lines ∙ (λ k. w.text k ++ t.text k);
     }
 
 -- what a watcher found, all that was told behind it, and the refusal at its end
-pub told_whole : {named : NamedTelling} {scope : Scope} {found : List MirrorView} {before opened : List Item} (after : List Item) (begun done : List ℕ) → HasFound scope before opened found → HasToldAllOut named portion scope found opened after begun done
-    → (mirrors : List MirrorView) × (portions : List (List PostView)) × (rest : List PostView) × (refusal : List ℕ) × HasTold scope portions rest refusal before after mirrors × (done ≡ begun ++ posts_told named mirrors (all_posts portions rest) ++ ended refusal)
+pub told_whole : {named : NamedTelling} {scope : Scope} {found : List MirrorView} {before opened : Option (List Item)} (after : Option (List Item)) (begun done : Option (List ℕ)) → HasFound scope before opened found → HasToldAllOut named portion scope found opened after begun done
+    → (mirrors : List MirrorView) × (portions : List (List PostView)) × (rest : List PostView) × (refusal : List ℕ) × HasTold scope portions rest refusal before after mirrors × Appends begun done (posts_told named mirrors (all_posts portions rest) ++ ended refusal)
 told_whole {named} {scope} {found} {before} {opened} after begun done f h =
     let a : HasToldAll named portion scope h.0 found opened after begun h.1 = h.2 in
     let s = a.so in
@@ -234,11 +238,11 @@ told_whole {named} {scope} {found} {before} {opened} after begun done f h =
       s.rest,
       h.0,
       record { middle = a.middle; came = come_whole f s; refused = a.refused },
-      h.3 ∙ ap (λ x. x ++ ended h.0) t.out,
+      Appends-trans begun h.1 done (posts_told named found (all_posts s.portions s.rest)) (ended h.0) t.out h.3,
     )
 
 -- what was told behind what a watcher found, up to a fault
-pub telling_stopped : {named : NamedTelling} {fault : ClientFault} {scope : Scope} {found : List MirrorView} {before opened : List Item} {begun done : List ℕ} → HasFound scope before opened found → IsToldUpTo named fault portion scope found opened begun done → IsBrokenOff named fault scope before begun done
+pub telling_stopped : {named : NamedTelling} {fault : ClientFault} {scope : Scope} {found : List MirrorView} {before opened : Option (List Item)} {begun done : Option (List ℕ)} → HasFound scope before opened found → IsToldUpTo named fault portion scope found opened begun done → IsBrokenOff named fault scope before begun done
 telling_stopped {named} {fault} {scope} {found} {before} {opened} {begun} {done} f h =
     let s = h.so in
     let t = s.told in
@@ -247,13 +251,14 @@ telling_stopped {named} {fault} {scope} {found} {before} {opened} {begun} {done}
       s.portions,
       s.rest,
       h.middle,
+      h.between,
       come_whole f s,
-      subst (λ x. IsStopped named fault scope (mirrors_by found (all_posts s.portions s.rest)) h.middle x done) t.out
-          (subst (λ ms. IsStopped named fault scope ms h.middle h.between done) t.make h.stopped),
+      t.out,
+      subst (λ ms. IsStopped named fault scope ms h.middle h.between done) t.make h.stopped,
     )
 
 -- some, and then others
-pub both_lines : {named : NamedTelling} {k n : ℕ} {old mid new : List MirrorView} {before middle after : List Item} {begun between done : List ℕ}
+pub both_lines : {named : NamedTelling} {k n : ℕ} {old mid new : List MirrorView} {before middle after : Option (List Item)} {begun between done : Option (List ℕ)}
     → HasToldLines named k old mid before middle begun between → HasToldLines named n mid new middle after between done → HasToldLines named (k + n) old new before after begun done
 both_lines f h =
     let ps = f.posts in
@@ -266,8 +271,8 @@ both_lines f h =
     }
 
 -- one post, of its first line and so many behind it
-pub one_told : {named : NamedTelling} {behind : ℕ} {first : List ℕ} {post : PostView} {old new : List MirrorView} {before middle after : List Item} {begun done : List ℕ}
-    → before ≡ Text first ∷ middle → Some behind ≡ event_count (words first) → IsPosted first middle after post → IsPost post → is_due All old post ≡ true → new ≡ mirrors_with old post → done ≡ begun ++ told_in named old post
+pub one_told : {named : NamedTelling} {behind : ℕ} {first : List ℕ} {post : PostView} {old new : List MirrorView} {before middle after : Option (List Item)} {begun done : Option (List ℕ)}
+    → ComeFirst before (first ∷ []) middle → Some behind ≡ event_count (words first) → IsPosted first middle after post → IsPost post → is_due All old post ≡ true → new ≡ mirrors_with old post → Appends begun done (told_in named old post)
     → HasToldLines named (1 + behind) old new before after begun done
 one_told {named} {behind} {first} {post} {old} {new} {before} {middle} {after} {begun} there counts p valid due make out =
     let same = same_Some behind (length p.others) (counts ∙ p.counted) in

@@ -1,6 +1,6 @@
 -- Which lines a mirror waits for: an opening of one namespace, posts that follow it, and their end; or a refusal in the place of a line.
 -- A word with no source is this project's rule.
-use Rattle.std.specs.Prelude.{◌≡◌, ℕ, ◌≤◌, Bool, true, List, [], ◌∷◌, ◌++◌, map, length, Option, IsTrue, ◌⊎◌}
+use Rattle.std.specs.Prelude.{◌≡◌, ℕ, ◌≤◌, Bool, true, List, [], ◌∷◌, ◌++◌, map, length, Option, Some, IsTrue, ◌⊎◌}
 use Rattle.std.specs.List.{flat_map, AllByRecursion}
 use Rattle.mt_skel.specs.Keyed.{rises}
 use Rattle.mt_skel.specs.Rising.{is_above}
@@ -53,12 +53,12 @@ abbrev pub IsPostBehind : List ℕ → List (List ℕ) → Type 0
 IsPostBehind first others = (post : PostView) × IsPost post × (first ∷ others ≡ post_lines post)
 
 -- where the lines of a post come behind a first line, it is this one, and all of them are read, and no others
-abbrev pub IsOnlyPost : List ℕ → List Item → List Item → PostView → Type 0
-IsOnlyPost first before after post = (other : PostView) (others : List (List ℕ)) (rest : List Item) → IsPost other → first ∷ others ≡ post_lines other → before ≡ texts others ++ rest → (other ≡ post) × (after ≡ rest)
+abbrev pub IsOnlyPost : List ℕ → Option (List Item) → Option (List Item) → PostView → Type 0
+IsOnlyPost first before after post = (other : PostView) (others : List (List ℕ)) (rest : List Item) → IsPost other → first ∷ others ≡ post_lines other → before ≡ Some (texts others ++ rest) → (other ≡ post) × (after ≡ Some rest)
 
 -- where the lines of a post come first, it was applied, and all of them are read, and no others
-abbrev pub IsOnlyApplied : {S : Type 0} → (S → PostView → S) → S → S → List Item → List Item → Type 0
-IsOnlyApplied apply old new before after = (post : PostView) (rest : List Item) → IsPost post → before ≡ texts (post_lines post) ++ rest → (new ≡ apply old post) × (after ≡ rest)
+abbrev pub IsOnlyApplied : {S : Type 0} → (S → PostView → S) → S → S → Option (List Item) → Option (List Item) → Type 0
+IsOnlyApplied apply old new before after = (post : PostView) (rest : List Item) → IsPost post → before ≡ Some (texts (post_lines post) ++ rest) → (new ≡ apply old post) × (after ≡ Some rest)
 
 -- the line behind so many posts: this end where all have come, or a refusal
 abbrev pub IsLast : List ℕ → ℕ → ℕ → List ℕ → Type 0

@@ -1,6 +1,6 @@
 -- Which lines a telling waits for: an opening, posts that are due in portions, each with its end, and a refusal in the place of a line.
 -- A word with no source is this project's rule.
-use Rattle.std.specs.Prelude.{◌≡◌, ℕ, ◌≤◌, ◌<◌, true, List, [], ◌∷◌, ◌++◌, length}
+use Rattle.std.specs.Prelude.{◌≡◌, ℕ, ◌≤◌, ◌<◌, true, List, [], ◌∷◌, ◌++◌, length, Option, Some}
 use Rattle.std.specs.List.{flat_map, AllByRecursion}
 use Rattle.mt_lines.specs.Lines.{Item}
 use Rattle.mt_events.specs.Posts.{PostView, IsPost, post_lines}
@@ -51,6 +51,6 @@ pub record IsTelling (scope : Scope) (lines : List (List ℕ)) : Type 0 where
   pub behind : AreDuePortions portion scope found others
 
 -- where such posts come first, and their end or a refusal, they were so many, and applied, and all of these lines are read, and no others
-abbrev pub AreOnlyApplied : ℕ → Scope → List MirrorView → List MirrorView → List Item → List Item → Type 0
+abbrev pub AreOnlyApplied : ℕ → Scope → List MirrorView → List MirrorView → Option (List Item) → Option (List Item) → Type 0
 AreOnlyApplied count scope old new before after =
-    (lines : List (List ℕ)) (rest : List Item) → (d : AreDuePosts count scope old lines) → before ≡ texts lines ++ rest → (length d.posts ≡ count) × (IsRefusal d.last → ⊥) × (new ≡ mirrors_by old d.posts) × (after ≡ rest)
+    (lines : List (List ℕ)) (rest : List Item) → (d : AreDuePosts count scope old lines) → before ≡ Some (texts lines ++ rest) → (length d.posts ≡ count) × (IsRefusal d.last → ⊥) × (new ≡ mirrors_by old d.posts) × (after ≡ Some rest)

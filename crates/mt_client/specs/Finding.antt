@@ -1,6 +1,6 @@
 -- What a watcher finds: the namespaces of its scope, each with the number of its last post and its table.
 -- A word with no source is this project's rule.
-use Rattle.std.specs.Prelude.{◌≡◌, ℕ, ◌+◌, ◌≤◌, List, [], ◌∷◌, ◌++◌, map, length, IsTrue, codes}
+use Rattle.std.specs.Prelude.{◌≡◌, ℕ, ◌+◌, ◌≤◌, List, [], ◌∷◌, ◌++◌, map, length, Option, IsTrue, codes}
 use Rattle.std.specs.List.{flat_map, AllByRecursion}
 use Rattle.mt_skel.specs.Keyed.{rises}
 use Rattle.mt_lines.specs.Lines.{Item}
@@ -12,7 +12,7 @@ use Rattle.mt_events.specs.declared.opening.Scope.TheVariants.{One, All}
 use Rattle.mt_events.specs.Texts.{opening_text}
 use Rattle.mt_client.specs.Limits.{most_opening_lines}
 use Rattle.mt_client.specs.Requests.{numbered_text}
-use Rattle.mt_client.specs.Reading.{texts, printed}
+use Rattle.mt_client.specs.Reading.{printed, ComeFirst}
 use Rattle.mt_client.specs.Mirroring.{IsShown, counted_line, part_lines}
 
 -- the line of the request of a watcher
@@ -52,15 +52,15 @@ abbrev pub opening_found : Scope → List MirrorView → Opening
 opening_found scope parts = record { scope = scope; parts = map part_found parts }
 
 -- the lines that were read are those of these namespaces, which a server can show to a watcher of this scope
-pub record HasFound (scope : Scope) (before after : List Item) (parts : List MirrorView) : Type 0 where
+pub record HasFound (scope : Scope) (before after : Option (List Item)) (parts : List MirrorView) : Type 0 where
   pub shown : AreShown scope parts
-  pub read : before ≡ texts (found_lines parts) ++ after
+  pub read : ComeFirst before (found_lines parts) after
 
 -- lines were read that are the text of an opening that a server can show to a watcher of this scope
-pub record HasWatched (scope : Scope) (before after : List Item) (parts : List MirrorView) : Type 0 where
+pub record HasWatched (scope : Scope) (before after : Option (List Item)) (parts : List MirrorView) : Type 0 where
   pub lines : List (List ℕ)
   pub shown : AreShown scope parts
-  pub read : before ≡ texts lines ++ after
+  pub read : ComeFirst before lines after
   pub text : printed lines ≡ opening_text (opening_found scope parts)
 
 -- the lines of what a watcher of this scope finds

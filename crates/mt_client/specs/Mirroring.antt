@@ -1,9 +1,9 @@
 -- What a mirror reads: the opening of a watcher of one namespace, posts that follow it, and their end.
 -- A word with no source is this project's rule.
-use Rattle.std.specs.Prelude.{◌≡◌, ℕ, ◌+◌, ◌≤◌, ◌<◌, ◌^◌, true, List, [], ◌∷◌, ◌++◌, map, length, IsTrue, Some, codes, decimal, ◌⊎◌}
+use Rattle.std.specs.Prelude.{◌≡◌, ℕ, ◌+◌, ◌≤◌, ◌<◌, ◌^◌, true, List, [], ◌∷◌, ◌++◌, map, length, IsTrue, Option, Some, codes, decimal, ◌⊎◌}
 use Rattle.std.specs.List.{flat_map, join_with_byte, AllByRecursion}
 use Rattle.mt_skel.specs.Keyed.{rises}
-use Rattle.mt_lines.specs.Lines.{Item, Text}
+use Rattle.mt_lines.specs.Lines.{Item}
 use Rattle.mt_lines.specs.Words.{words}
 use Rattle.mt_info.specs.Table.{row_id}
 use Rattle.mt_info.specs.Laws.{IsRow}
@@ -15,7 +15,7 @@ use Rattle.mt_events.specs.declared.opening.Scope.TheVariants.{One}
 use Rattle.mt_events.specs.Texts.{count_text, opening_text, followed_text}
 use Rattle.mt_client.specs.Limits.{most_rows}
 use Rattle.mt_client.specs.Requests.{is_refusal, numbered_text, event_count}
-use Rattle.mt_client.specs.Reading.{texts, printed}
+use Rattle.mt_client.specs.Reading.{printed, ComeFirst}
 
 -- the line of an answer `ok` with a number
 abbrev pub counted_line : ℕ → List ℕ
@@ -58,78 +58,78 @@ pub record AreMirrored (posts : List PostView) (old new : MirrorView) : Type 0 w
   pub make : new ≡ mirrored_by old posts
 
 -- these lines were read of an opening that a server can show, and are its text
-pub record HasOpened (space : ℕ) (before after : List Item) (found : MirrorView) : Type 0 where
+pub record HasOpened (space : ℕ) (before after : Option (List Item)) (found : MirrorView) : Type 0 where
   pub shown : IsShown found
   pub of : found.space ≡ space
-  pub read : before ≡ texts (opening_lines found) ++ after
+  pub read : ComeFirst before (opening_lines found) after
 
 -- lines were read that are, behind a first line that tells how many they are, the text of this post
-pub record IsPosted (first : List ℕ) (before after : List Item) (post : PostView) : Type 0 where
+pub record IsPosted (first : List ℕ) (before after : Option (List Item)) (post : PostView) : Type 0 where
   pub others : List (List ℕ)
   pub counted : event_count (words first) ≡ Some (length others)
-  pub read : before ≡ texts others ++ after
+  pub read : ComeFirst before others after
   pub text : printed (first ∷ others) ≡ post_text post
 
 -- lines were read that are the text of a next post
-pub record HasFollowed (before after : List Item) (old new : MirrorView) : Type 0 where
+pub record HasFollowed (before after : Option (List Item)) (old new : MirrorView) : Type 0 where
   pub lines : List (List ℕ)
   pub post : PostView
   pub valid : IsPost post
-  pub read : before ≡ texts lines ++ after
+  pub read : ComeFirst before lines after
   pub text : printed lines ≡ post_text post
   pub follows : AreMirrored (post ∷ []) old new
 
 -- lines were read that are the texts of so many next posts
-pub record HasFollowedSome (count : ℕ) (before after : List Item) (old new : MirrorView) : Type 0 where
+pub record HasFollowedSome (count : ℕ) (before after : Option (List Item)) (old new : MirrorView) : Type 0 where
   pub lines : List (List ℕ)
   pub posts : List PostView
   pub valid : AllByRecursion IsPost posts
-  pub read : before ≡ texts lines ++ after
+  pub read : ComeFirst before lines after
   pub text : printed lines ≡ flat_map post_text posts
   pub many : length posts ≡ count
   pub follows : AreMirrored posts old new
 
 -- lines were read that are the texts of so many next posts, and their end
-pub record HasFollowedAll (count : ℕ) (before after : List Item) (old new : MirrorView) : Type 0 where
+pub record HasFollowedAll (count : ℕ) (before after : Option (List Item)) (old new : MirrorView) : Type 0 where
   pub lines : List (List ℕ)
   pub posts : List PostView
   pub valid : AllByRecursion IsPost posts
-  pub read : before ≡ texts lines ++ after
+  pub read : ComeFirst before lines after
   pub text : printed lines ≡ followed_text posts (count_text count)
   pub many : length posts ≡ count
   pub follows : AreMirrored posts old new
 
 -- one line was read, which refuses
-pub record HasRefused (refusal : List ℕ) (before after : List Item) : Type 0 where
+pub record HasRefused (refusal : List ℕ) (before after : Option (List Item)) : Type 0 where
   pub is : IsRefusal refusal
-  pub read : before ≡ Text refusal ∷ after
+  pub read : ComeFirst before (refusal ∷ []) after
 
 -- lines were read that are the text of the opening of this namespace and of so many posts that follow it, and their end; the mirror that they make
-pub record HasMirrored (space count : ℕ) (before after : List Item) (made : MirrorView) : Type 0 where
+pub record HasMirrored (space count : ℕ) (before after : Option (List Item)) (made : MirrorView) : Type 0 where
   pub found : MirrorView
   pub posts : List PostView
   pub lines : List (List ℕ)
   pub shown : IsShown found
   pub valid : AllByRecursion IsPost posts
   pub of : found.space ≡ space
-  pub read : before ≡ texts lines ++ after
+  pub read : ComeFirst before lines after
   pub text : printed lines ≡ opening_text (opening_with found) ++ followed_text posts (count_text count)
   pub many : length posts ≡ count
   pub follows : AreMirrored posts found made
 
 -- a refusal was read behind fewer posts than were to come
-pub record IsRefusedMidway (count : ℕ) (refusal : List ℕ) (before after : List Item) (old new : MirrorView) : Type 0 where
+pub record IsRefusedMidway (count : ℕ) (refusal : List ℕ) (before after : Option (List Item)) (old new : MirrorView) : Type 0 where
   pub taken : ℕ
-  pub middle : List Item
+  pub middle : Option (List Item)
   pub few : taken ≤ count
   pub some : HasFollowedSome taken before middle old new
   pub refused : HasRefused refusal middle after
 
 -- a refusal was read in the place of an opening, or behind one and some of its posts
-abbrev pub IsRefused : ℕ → ℕ → List ℕ → List Item → List Item → Type 0
+abbrev pub IsRefused : ℕ → ℕ → List ℕ → Option (List Item) → Option (List Item) → Type 0
 IsRefused space count refusal before after =
     HasRefused refusal before after
-    ⊎ ((found : MirrorView) × (made : MirrorView) × (middle : List Item) × HasOpened space before middle found × IsRefusedMidway count refusal middle after found made)
+    ⊎ ((found : MirrorView) × (made : MirrorView) × (middle : Option (List Item)) × HasOpened space before middle found × IsRefusedMidway count refusal middle after found made)
 
 -- the lines of the requests of a mirror
 abbrev pub requests_text : ℕ → ℕ → List ℕ

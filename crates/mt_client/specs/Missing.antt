@@ -1,6 +1,6 @@
 -- Which lines are missing where the effects of a line are not told: what a watcher finds, an answer, or the posts of the watcher.
 -- A word with no source is this project's rule.
-use Rattle.std.specs.Prelude.{◌≡◌, ℕ, ◌+◌, Bool, true, List, ◌∷◌, ◌++◌, length, Some, ◌⊎◌}
+use Rattle.std.specs.Prelude.{◌≡◌, ℕ, ◌+◌, Bool, true, List, ◌∷◌, ◌++◌, length, Option, Some, ◌⊎◌}
 use Rattle.std.specs.List.{flat_map, AllByRecursion}
 use Rattle.mt_lines.specs.Lines.{Item}
 use Rattle.mt_events.specs.Posts.{PostView, IsPost, post_lines}
@@ -32,22 +32,22 @@ pub record IsWaiting (mirrors : List MirrorView) (lines : List (List ℕ)) : Typ
   pub posts : AreDueLines count mirrors others
 
 -- no lines of this kind come first, or a request did not go out and no refusal comes first
-abbrev pub IsMissing : Type 0 → (List (List ℕ) → Type 0) → List Item → Type 0
+abbrev pub IsMissing : Type 0 → (List (List ℕ) → Type 0) → Option (List Item) → Type 0
 IsMissing unsent kind before = NoneFirst kind before ⊎ (unsent × NoneFirst IsOneRefusal before)
 
 -- no answer to a line comes first, or no posts that wait behind it
-abbrev pub IsMissingAnswer : Type 0 → List ℕ → List MirrorView → List Item → Type 0
+abbrev pub IsMissingAnswer : Type 0 → List ℕ → List MirrorView → Option (List Item) → Type 0
 IsMissingAnswer unsent line mirrors opened =
     IsMissing unsent (λ lines. (told : Bool) × IsAnswer (form_of line) lines told) opened
-    ⊎ ((answered : List Item) × HasRead (λ lines. IsAnswer (form_of line) lines true) opened answered × IsMissing unsent (IsRefusedOr (IsWaiting mirrors)) answered)
+    ⊎ ((answered : Option (List Item)) × HasRead (λ lines. IsAnswer (form_of line) lines true) opened answered × IsMissing unsent (IsRefusedOr (IsWaiting mirrors)) answered)
 
 -- the same, or nothing that a watcher of all namespaces finds comes first
-abbrev pub IsMissingEffect : Type 0 → List ℕ → List Item → Type 0
+abbrev pub IsMissingEffect : Type 0 → List ℕ → Option (List Item) → Type 0
 IsMissingEffect unsent line before =
     IsMissing unsent (IsRefusedOr (IsFinding All)) before
-    ⊎ ((found : List MirrorView) × (opened : List Item) × HasFound All before opened found × IsMissingAnswer unsent line found opened)
+    ⊎ ((found : List MirrorView) × (opened : Option (List Item)) × HasFound All before opened found × IsMissingAnswer unsent line found opened)
 
 -- where the lines of a post come first, so many stand behind its first one, it was applied, and all of them are read, and no others
-abbrev pub IsOnlyCounted : ℕ → List MirrorView → List MirrorView → List Item → List Item → Type 0
+abbrev pub IsOnlyCounted : ℕ → List MirrorView → List MirrorView → Option (List Item) → Option (List Item) → Type 0
 IsOnlyCounted behind old new before after =
-    (post : PostView) (rest : List Item) → IsPost post → before ≡ texts (post_lines post) ++ rest → (length (post_lines post) ≡ 1 + behind) × (new ≡ mirrors_with old post) × (after ≡ rest)
+    (post : PostView) (rest : List Item) → IsPost post → before ≡ Some (texts (post_lines post) ++ rest) → (length (post_lines post) ≡ 1 + behind) × (new ≡ mirrors_with old post) × (after ≡ Some rest)

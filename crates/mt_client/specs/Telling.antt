@@ -1,6 +1,7 @@
 -- What a watcher is told in words: the posts that it is sent, each against the mirror of its namespace.
 -- A word with no source is this project's rule.
-use Rattle.std.specs.Prelude.{◌≡◌, ℕ, ◌==◌, ◌≤◌, cond, true, Bool, ◌&&◌, List, [], ◌∷◌, ◌++◌, length, replicate, codes, fold, ◌⊎◌}
+use Rattle.std.specs.Prelude.{◌≡◌, ℕ, ◌==◌, ◌≤◌, cond, true, Bool, ◌&&◌, List, [], ◌∷◌, ◌++◌, length, replicate, codes, fold, Option, ◌⊎◌}
+use Rattle.std.specs.Io.KnownBytes.{Appends, Keeps}
 use Rattle.std.specs.List.{flat_map, AllByRecursion}
 use Rattle.std.specs.Option.{option_map_or}
 use Rattle.mt_skel.specs.Keyed.{put, row_at}
@@ -16,7 +17,7 @@ use Rattle.mt_client.specs.declared.named.SpaceName.{SpaceName}
 use Rattle.mt_client.specs.declared.fault.ClientFault.{ClientFault}
 use Rattle.mt_client.specs.declared.fault.ClientFault.TheVariants.{Connection, Output, NoMemory}
 use Rattle.mt_client.specs.Requests.{numbered_text}
-use Rattle.mt_client.specs.Reading.{texts, printed, IsCutOff, IsPart}
+use Rattle.mt_client.specs.Reading.{printed, ComeFirst, IsCutOff, IsPart}
 use Rattle.mt_client.specs.Mirroring.{HasRefused}
 use Rattle.mt_client.specs.Finding.{mirror_space, watch_text, AreShown, opening_found}
 
@@ -80,78 +81,78 @@ abbrev pub portions_text : ℕ → List (List PostView) → List PostView → Li
 portions_text count portions rest = flat_map (λ posts. followed_text posts (count_text count)) portions ++ flat_map post_text rest
 
 -- lines were read that are the text of an opening that a server can show, of whole portions of posts that are due, each with its end, and of at most one portion more
-pub record HasCome (scope : Scope) (portions : List (List PostView)) (rest : List PostView) (before after : List Item) (found : List MirrorView) : Type 0 where
+pub record HasCome (scope : Scope) (portions : List (List PostView)) (rest : List PostView) (before after : Option (List Item)) (found : List MirrorView) : Type 0 where
   pub lines : List (List ℕ)
   pub shown : AreShown scope found
   pub whole : AllByRecursion (λ posts. length posts ≡ portion) portions
   pub within : length rest ≤ portion
   pub valid : AllByRecursion IsPost (all_posts portions rest)
   pub due : are_due scope found (all_posts portions rest) ≡ true
-  pub read : before ≡ texts lines ++ after
+  pub read : ComeFirst before lines after
   pub text : printed lines ≡ opening_text (opening_found scope found) ++ portions_text portion portions rest
 
 -- and behind them a refusal
-pub record HasTold (scope : Scope) (portions : List (List PostView)) (rest : List PostView) (refusal : List ℕ) (before after : List Item) (found : List MirrorView) : Type 0 where
-  pub middle : List Item
+pub record HasTold (scope : Scope) (portions : List (List PostView)) (rest : List PostView) (refusal : List ℕ) (before after : Option (List Item)) (found : List MirrorView) : Type 0 where
+  pub middle : Option (List Item)
   pub came : HasCome scope portions rest before middle found
   pub refused : HasRefused refusal middle after
 
 -- what was printed of lines up to a fault: nothing, or of lines that were read a part, and not all
-abbrev pub IsUnsaid : ClientFault → List Item → List ℕ → List ℕ → Type 0
+abbrev pub IsUnsaid : ClientFault → Option (List Item) → Option (List ℕ) → Option (List ℕ) → Type 0
 IsUnsaid Output before old new = IsPart before old new
-IsUnsaid Connection before old new = new ≡ old
-IsUnsaid NoMemory before old new = new ≡ old
+IsUnsaid Connection before old new = Keeps old new
+IsUnsaid NoMemory before old new = Keeps old new
 
 -- a post was read that is due, and a part of its words was printed, not all
-pub record IsHalfTold (named : NamedTelling) (scope : Scope) (mirrors : List MirrorView) (before : List Item) (old new : List ℕ) : Type 0 where
+pub record IsHalfTold (named : NamedTelling) (scope : Scope) (mirrors : List MirrorView) (before : Option (List Item)) (old new : Option (List ℕ)) : Type 0 where
   pub post : PostView
   pub lines : List (List ℕ)
-  pub later : List Item
+  pub later : Option (List Item)
   pub valid : IsPost post
   pub due : is_due scope mirrors post ≡ true
-  pub read : before ≡ texts lines ++ later
+  pub read : ComeFirst before lines later
   pub text : printed lines ≡ post_text post
   pub out : IsCutOff (told_in named mirrors post) old new
 
 -- what was printed up to a fault, where these mirrors have followed
-abbrev pub IsStopped : NamedTelling → ClientFault → Scope → List MirrorView → List Item → List ℕ → List ℕ → Type 0
+abbrev pub IsStopped : NamedTelling → ClientFault → Scope → List MirrorView → Option (List Item) → Option (List ℕ) → Option (List ℕ) → Type 0
 IsStopped named fault scope mirrors before old new = IsUnsaid fault before old new ⊎ ((fault ≡ Output) × IsHalfTold named scope mirrors before old new)
 
 -- the same of a whole telling: nothing was told, or posts that had come behind the opening
-abbrev pub IsBrokenOff : NamedTelling → ClientFault → Scope → List Item → List ℕ → List ℕ → Type 0
+abbrev pub IsBrokenOff : NamedTelling → ClientFault → Scope → Option (List Item) → Option (List ℕ) → Option (List ℕ) → Type 0
 IsBrokenOff named fault scope before old new =
     IsUnsaid fault before old new
-    ⊎ ((found : List MirrorView) × (portions : List (List PostView)) × (rest : List PostView) × (middle : List Item) × HasCome scope portions rest before middle found
-    × IsStopped named fault scope (mirrors_by found (all_posts portions rest)) middle (old ++ posts_told named found (all_posts portions rest)) new)
+    ⊎ ((found : List MirrorView) × (portions : List (List PostView)) × (rest : List PostView) × (middle : Option (List Item)) × (between : Option (List ℕ)) × HasCome scope portions rest before middle found
+    × Appends old between (posts_told named found (all_posts portions rest)) × IsStopped named fault scope (mirrors_by found (all_posts portions rest)) middle between new)
 
 -- lines were read that are this text, of these posts, which are due; they were told, and the mirrors have followed
-pub record AreTold (named : NamedTelling) (scope : Scope) (posts : List PostView) (said : List ℕ) (old new : List MirrorView) (before after : List Item) (begun done : List ℕ) : Type 0 where
+pub record AreTold (named : NamedTelling) (scope : Scope) (posts : List PostView) (said : List ℕ) (old new : List MirrorView) (before after : Option (List Item)) (begun done : Option (List ℕ)) : Type 0 where
   pub lines : List (List ℕ)
   pub valid : AllByRecursion IsPost posts
   pub due : are_due scope old posts ≡ true
   pub make : new ≡ mirrors_by old posts
-  pub read : before ≡ texts lines ++ after
+  pub read : ComeFirst before lines after
   pub text : printed lines ≡ said
-  pub out : done ≡ begun ++ posts_told named old posts
+  pub out : Appends begun done (posts_told named old posts)
 
 -- one post was told
-abbrev pub HasToldPost : NamedTelling → Scope → List MirrorView → List MirrorView → List Item → List Item → List ℕ → List ℕ → Type 0
+abbrev pub HasToldPost : NamedTelling → Scope → List MirrorView → List MirrorView → Option (List Item) → Option (List Item) → Option (List ℕ) → Option (List ℕ) → Type 0
 HasToldPost named scope old new before after begun done = (post : PostView) × AreTold named scope (post ∷ []) (post_text post) old new before after begun done
 
 -- so many posts were told
-pub record HasToldSome (named : NamedTelling) (count : ℕ) (scope : Scope) (old new : List MirrorView) (before after : List Item) (begun done : List ℕ) : Type 0 where
+pub record HasToldSome (named : NamedTelling) (count : ℕ) (scope : Scope) (old new : List MirrorView) (before after : Option (List Item)) (begun done : Option (List ℕ)) : Type 0 where
   pub posts : List PostView
   pub many : length posts ≡ count
   pub told : AreTold named scope posts (flat_map post_text posts) old new before after begun done
 
 -- so many posts were told, and their end was read
-pub record HasToldPortion (named : NamedTelling) (count : ℕ) (scope : Scope) (old new : List MirrorView) (before after : List Item) (begun done : List ℕ) : Type 0 where
+pub record HasToldPortion (named : NamedTelling) (count : ℕ) (scope : Scope) (old new : List MirrorView) (before after : Option (List Item)) (begun done : Option (List ℕ)) : Type 0 where
   pub posts : List PostView
   pub many : length posts ≡ count
   pub told : AreTold named scope posts (followed_text posts (count_text count)) old new before after begun done
 
 -- portions of so many posts were told, and at most so many posts more
-pub record HasToldSo (named : NamedTelling) (count : ℕ) (scope : Scope) (old new : List MirrorView) (before after : List Item) (begun done : List ℕ) : Type 0 where
+pub record HasToldSo (named : NamedTelling) (count : ℕ) (scope : Scope) (old new : List MirrorView) (before after : Option (List Item)) (begun done : Option (List ℕ)) : Type 0 where
   pub portions : List (List PostView)
   pub rest : List PostView
   pub whole : AllByRecursion (λ posts. length posts ≡ count) portions
@@ -159,21 +160,21 @@ pub record HasToldSo (named : NamedTelling) (count : ℕ) (scope : Scope) (old n
   pub told : AreTold named scope (all_posts portions rest) (portions_text count portions rest) old new before after begun done
 
 -- and behind them a refusal was read
-pub record HasToldAll (named : NamedTelling) (count : ℕ) (scope : Scope) (refusal : List ℕ) (old : List MirrorView) (before after : List Item) (begun done : List ℕ) : Type 0 where
+pub record HasToldAll (named : NamedTelling) (count : ℕ) (scope : Scope) (refusal : List ℕ) (old : List MirrorView) (before after : Option (List Item)) (begun done : Option (List ℕ)) : Type 0 where
   pub made : List MirrorView
-  pub middle : List Item
+  pub middle : Option (List Item)
   pub so : HasToldSo named count scope old made before middle begun done
   pub refused : HasRefused refusal middle after
 
 -- and it was printed
-abbrev pub HasToldAllOut : NamedTelling → ℕ → Scope → List MirrorView → List Item → List Item → List ℕ → List ℕ → Type 0
+abbrev pub HasToldAllOut : NamedTelling → ℕ → Scope → List MirrorView → Option (List Item) → Option (List Item) → Option (List ℕ) → Option (List ℕ) → Type 0
 HasToldAllOut named count scope old before after begun done =
-    (refusal : List ℕ) × (between : List ℕ) × HasToldAll named count scope refusal old before after begun between × (done ≡ between ++ ended refusal)
+    (refusal : List ℕ) × (between : Option (List ℕ)) × HasToldAll named count scope refusal old before after begun between × Appends between done (ended refusal)
 
 -- posts were told up to a fault
-pub record IsToldUpTo (named : NamedTelling) (fault : ClientFault) (count : ℕ) (scope : Scope) (old : List MirrorView) (before : List Item) (begun done : List ℕ) : Type 0 where
+pub record IsToldUpTo (named : NamedTelling) (fault : ClientFault) (count : ℕ) (scope : Scope) (old : List MirrorView) (before : Option (List Item)) (begun done : Option (List ℕ)) : Type 0 where
   pub made : List MirrorView
-  pub middle : List Item
-  pub between : List ℕ
+  pub middle : Option (List Item)
+  pub between : Option (List ℕ)
   pub so : HasToldSo named count scope old made before middle begun between
   pub stopped : IsStopped named fault scope made middle between done

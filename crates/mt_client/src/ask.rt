@@ -1,12 +1,13 @@
 //! One request and its answer.
-ghost use Rattle.std.specs.Prelude.{◌≡◌, Bool, true, false, [], ◌++◌, ◌⊎◌, map, None, Ok, Err, IfOk, IfErr, OnOk, IsTrue};
+ghost use Rattle.std.specs.Prelude.{◌≡◌, Bool, true, false, [], ◌⊎◌, map, None, Ok, Err, IfOk, IfErr, OnOk, IsTrue};
+ghost use Rattle.std.specs.Io.KnownBytes.{Appends};
 ghost use Rattle.mt_lines.specs.Reading.{last_faults, fault_of, limit_of};
 ghost use Rattle.mt_events.specs.Posts.{ended};
 ghost use Rattle.mt_protocol.specs.Verbs.{form_of};
 ghost use Rattle.mt_client.specs.Requests.{request_text};
 ghost use Rattle.mt_client.specs.Awaited.{IsOneRefusal};
 ghost use Rattle.mt_client.specs.Replies.{IsAnswer};
-ghost use Rattle.mt_client.specs.Reading.{lines_left, HasPassed, HasBroken, IsBroken, IsSentPart, IsCut};
+ghost use Rattle.mt_client.specs.Reading.{known_lines, HasPassed, HasBroken, IsBroken, IsSentPart, IsCut};
 
 use crate::fault::ClientFault;
 use crate::relay::pass_answer;
@@ -36,23 +37,20 @@ pub fn ask_line<R: Input + Drop, W: Output, O: Output>(
     requires fresh { fault_of lines.old ≡ None }
 
     // The whole line of the request went out, or calls of the writer failed, and then a part of it did.
-    ensures sent { result ≡ Ok true → IsTrue W.tells
-        → W.written writer.new ≡ W.written writer.old ++ ended line.now }
-    ensures part { IsTrue W.tells
-        → IsSentPart (ended line.now) (W.written writer.old) (W.written writer.new) }
+    ensures sent { result ≡ Ok true → Appends (W.contents writer.old) (W.contents writer.new) (ended line.now) }
+    ensures part { IsSentPart (ended line.now) (W.contents writer.old) (W.contents writer.new) }
 
     // The lines that were read are a whole answer to the request, `ok` or `no` as is told, and these lines were
     // printed. Up to a fault those that were read whole were printed, of the last a part where the output failed.
-    ensures answer { IfOk result (λ told. IsTrue R.tells → IsTrue O.tells
-        → HasPassed (λ all. IsAnswer (form_of line.now) all told) (lines_left lines.old) (lines_left lines.new) (O.written out.old) (O.written out.new)) }
-    ensures broken { IsTrue R.tells → IsTrue O.tells → IfErr result
-        (λ fault. IsBroken fault (lines_left lines.old) (O.written out.old) (O.written out.new)) }
+    ensures answer { IfOk result (λ told. HasPassed (λ all. IsAnswer (form_of line.now) all told) (known_lines lines.old) (known_lines lines.new) (O.contents out.old) (O.contents out.new)) }
+    ensures broken { IfErr result
+        (λ fault. IsBroken fault (known_lines lines.old) (O.contents out.old) (O.contents out.new)) }
 
     // `Connection` only where calls of the reader failed, or no whole answer to the request comes first, or where calls of
     // the writer failed and no refusal comes first, and `Output` only where calls of the output failed; where no fault of
     // the stream stood, the last call failed then, or was the last of as many interrupted ones in succession as end a
     // read or a send.
-    ensures connection { result ≡ Err ClientFault.Connection → IsTrue R.tells → IsTrue R.counts → IsTrue W.counts
+    ensures connection { result ≡ Err ClientFault.Connection → IsTrue R.counts → IsTrue W.counts
         → (HasBroken (W.failed writer.old) (W.failed writer.new) (W.faults writer.old) (W.faults writer.new) × IsCut IsOneRefusal lines.old lines.new) ⊎ IsCut (λ all. (told : Bool) × IsAnswer (form_of line.now) all told) lines.old lines.new }
     ensures output { result ≡ Err ClientFault.Output → IsTrue O.counts
         → HasBroken (O.failed out.old) (O.failed out.new) (O.faults out.old) (O.faults out.new) }
@@ -93,23 +91,20 @@ pub fn ask<R: Input + Drop, W: Output, O: Output>(
     requires fresh { fault_of lines.old ≡ None }
 
     // The whole line of the request went out, or calls of the writer failed, and then a part of it did.
-    ensures sent { result ≡ Ok true → IsTrue W.tells
-        → W.written writer.new ≡ W.written writer.old ++ ended (request_text (map (λ word. word.now) words.now)) }
-    ensures part { IsTrue W.tells
-        → IsSentPart (ended (request_text (map (λ word. word.now) words.now))) (W.written writer.old) (W.written writer.new) }
+    ensures sent { result ≡ Ok true → Appends (W.contents writer.old) (W.contents writer.new) (ended (request_text (map (λ word. word.now) words.now))) }
+    ensures part { IsSentPart (ended (request_text (map (λ word. word.now) words.now))) (W.contents writer.old) (W.contents writer.new) }
 
     // The lines that were read are a whole answer to the request, `ok` or `no` as is told, and these lines were
     // printed. Up to a fault those that were read whole were printed, of the last a part where the output failed.
-    ensures answer { IfOk result (λ told. IsTrue R.tells → IsTrue O.tells
-        → HasPassed (λ all. IsAnswer (form_of (request_text (map (λ word. word.now) words.now))) all told) (lines_left lines.old) (lines_left lines.new) (O.written out.old) (O.written out.new)) }
-    ensures broken { IsTrue R.tells → IsTrue O.tells → IfErr result
-        (λ fault. IsBroken fault (lines_left lines.old) (O.written out.old) (O.written out.new)) }
+    ensures answer { IfOk result (λ told. HasPassed (λ all. IsAnswer (form_of (request_text (map (λ word. word.now) words.now))) all told) (known_lines lines.old) (known_lines lines.new) (O.contents out.old) (O.contents out.new)) }
+    ensures broken { IfErr result
+        (λ fault. IsBroken fault (known_lines lines.old) (O.contents out.old) (O.contents out.new)) }
 
     // `Connection` only where calls of the reader failed, or no whole answer to the request comes first, or where calls of
     // the writer failed and no refusal comes first, and `Output` only where calls of the output failed; where no fault of
     // the stream stood, the last call failed then, or was the last of as many interrupted ones in succession as end a
     // read or a send.
-    ensures connection { result ≡ Err ClientFault.Connection → IsTrue R.tells → IsTrue R.counts → IsTrue W.counts
+    ensures connection { result ≡ Err ClientFault.Connection → IsTrue R.counts → IsTrue W.counts
         → (HasBroken (W.failed writer.old) (W.failed writer.new) (W.faults writer.old) (W.faults writer.new) × IsCut IsOneRefusal lines.old lines.new) ⊎ IsCut (λ all. (told : Bool) × IsAnswer (form_of (request_text (map (λ word. word.now) words.now))) all told) lines.old lines.new }
     ensures output { result ≡ Err ClientFault.Output → IsTrue O.counts
         → HasBroken (O.failed out.old) (O.failed out.new) (O.faults out.old) (O.faults out.new) }

@@ -1,12 +1,13 @@
 //! What a line changes, told.
-ghost use Rattle.std.specs.Prelude.{◌≡◌, ℕ, ◌+◌, ◌⊎◌, List, [], ◌++◌, true, false, None, Ok, Err, IfOk, IfErr, OnOk, IsTrue};
+ghost use Rattle.std.specs.Prelude.{◌≡◌, ℕ, ◌+◌, ◌⊎◌, List, [], ◌++◌, true, false, Option, None, Ok, Err, IfOk, IfErr, OnOk, IsTrue};
+ghost use Rattle.std.specs.Io.KnownBytes.{Appends};
 ghost use Rattle.mt_skel.specs.Keyed.{rises};
 ghost use Rattle.mt_lines.specs.Reading.{failed_calls, last_faults, fault_of, limit_of};
 ghost use Rattle.mt_lines.specs.Lines.{Item};
 ghost use Rattle.mt_events.specs.Posts.{ended};
 ghost use Rattle.mt_protocol.specs.Verbs.{form_of};
 ghost use Rattle.mt_client.specs.Replies.{IsAnswer};
-ghost use Rattle.mt_client.specs.Reading.{lines_left, HasBroken, IsSentPart, HasPassed};
+ghost use Rattle.mt_client.specs.Reading.{known_lines, HasBroken, IsSentPart, HasPassed};
 ghost use Rattle.mt_client.specs.Calls.{ReadsOn, WritesOn, IsOut, IsTellFault, IsEffectFault};
 ghost use Rattle.mt_client.specs.Awaited.{IsRefusedOr, IsSuchPost};
 ghost use Rattle.mt_client.specs.Finding.{mirror_space};
@@ -41,13 +42,11 @@ fn tell_next<R: Input + Drop, O: Output>(
 ) -> Result<u64, ClientFault>
     requires fresh { fault_of lines.old ≡ None }
     requires rising { IsTrue (rises mirror_space mirrors.old.items) }
-    ensures told { IfOk result (λ behind. IsTrue R.tells → IsTrue O.tells
-        → HasToldLines named.now (1 + behind) mirrors.old.items mirrors.new.items (lines_left lines.old) (lines_left lines.new) (O.written out.old) (O.written out.new)) }
+    ensures told { IfOk result (λ behind. HasToldLines named.now (1 + behind) mirrors.old.items mirrors.new.items (known_lines lines.old) (known_lines lines.new) (O.contents out.old) (O.contents out.new)) }
     ensures rising { OnOk result (IsTrue (rises mirror_space mirrors.new.items)) }
-    ensures broken { IsTrue R.tells → IsTrue O.tells → IfErr result
-        (λ fault. IsStopped named.now fault All mirrors.old.items (lines_left lines.old) (O.written out.old) (O.written out.new)) }
-    ensures only { IfOk result (λ behind. IsTrue R.tells
-        → IsOnlyCounted behind mirrors.old.items mirrors.new.items (lines_left lines.old) (lines_left lines.new)) }
+    ensures broken { IfErr result
+        (λ fault. IsStopped named.now fault All mirrors.old.items (known_lines lines.old) (O.contents out.old) (O.contents out.new)) }
+    ensures only { IfOk result (λ behind. IsOnlyCounted behind mirrors.old.items mirrors.new.items (known_lines lines.old) (known_lines lines.new)) }
     ensures on { OnOk result (ReadsOn lines.old lines.new) }
     ensures prints { OnOk result (WritesOn O.Output out.old out.new) }
     ensures fault { IfErr result (λ fault. IsTellFault O.Output fault (IsSuchPost (is_due All mirrors.old.items)) lines.old lines.new out.old out.new) }
@@ -72,10 +71,9 @@ fn tell_lines<R: Input + Drop, O: Output>(
 ) -> Result<(), ClientFault>
     requires fresh { fault_of lines.old ≡ None }
     requires rising { IsTrue (rises mirror_space mirrors.old.items) }
-    ensures told { OnOk result (IsTrue R.tells → IsTrue O.tells
-        → HasToldLines named.now count mirrors.old.items mirrors.new.items (lines_left lines.old) (lines_left lines.new) (O.written out.old) (O.written out.new)) }
-    ensures broken { IsTrue R.tells → IsTrue O.tells → IfErr result
-        (λ fault. IsToldShort named.now fault mirrors.old.items (lines_left lines.old) (O.written out.old) (O.written out.new)) }
+    ensures told { OnOk result (HasToldLines named.now count mirrors.old.items mirrors.new.items (known_lines lines.old) (known_lines lines.new) (O.contents out.old) (O.contents out.new)) }
+    ensures broken { IfErr result
+        (λ fault. IsToldShort named.now fault mirrors.old.items (known_lines lines.old) (O.contents out.old) (O.contents out.new)) }
     ensures on { OnOk result (ReadsOn lines.old lines.new) }
     ensures prints { OnOk result (WritesOn O.Output out.old out.new) }
     ensures fault { IfErr result (λ fault. IsTellFault O.Output fault (AreDueLines count mirrors.old.items) lines.old lines.new out.old out.new) }
@@ -101,12 +99,10 @@ fn tell_taken<R: Input + Drop, O: Output>(
 ) -> Result<bool, ClientFault>
     requires fresh { fault_of lines.old ≡ None }
     requires rising { IsTrue (rises mirror_space mirrors.old.items) }
-    ensures told { result ≡ Ok true → IsTrue R.tells → IsTrue O.tells
-        → HasToldTaken named.now mirrors.old.items (lines_left lines.old) (lines_left lines.new) (O.written out.old) (O.written out.new) }
-    ensures refused { result ≡ Ok false → IsTrue R.tells → IsTrue O.tells
-        → IsRefusedOut (lines_left lines.old) (lines_left lines.new) (O.written out.old) (O.written out.new) }
-    ensures broken { IsTrue R.tells → IsTrue O.tells → IfErr result
-        (λ fault. IsTakenShort named.now fault mirrors.old.items (lines_left lines.old) (O.written out.old) (O.written out.new)) }
+    ensures told { result ≡ Ok true → HasToldTaken named.now mirrors.old.items (known_lines lines.old) (known_lines lines.new) (O.contents out.old) (O.contents out.new) }
+    ensures refused { result ≡ Ok false → IsRefusedOut (known_lines lines.old) (known_lines lines.new) (O.contents out.old) (O.contents out.new) }
+    ensures broken { IfErr result
+        (λ fault. IsTakenShort named.now fault mirrors.old.items (known_lines lines.old) (O.contents out.old) (O.contents out.new)) }
     ensures on { OnOk result (ReadsOn lines.old lines.new) }
     ensures prints { OnOk result (WritesOn O.Output out.old out.new) }
     ensures fault { IfErr result (λ fault. IsTellFault O.Output fault (IsRefusedOr (IsWaiting mirrors.old.items)) lines.old lines.new out.old out.new) }
@@ -134,18 +130,15 @@ fn tell_changes<R: Input + Drop, W: Output, O: Output>(
 ) -> Result<bool, ClientFault>
     requires fresh { fault_of lines.old ≡ None }
     requires rising { IsTrue (rises mirror_space mirrors.old.items) }
-    ensures told { result ≡ Ok true → IsTrue R.tells → IsTrue O.tells
-        → HasToldTaken named.now mirrors.old.items (lines_left lines.old) (lines_left lines.new) (O.written out.old) (O.written out.new) }
-    ensures part { IsTrue W.tells
-        → IsSentPart (ended taking_text) (W.written writer.old) (W.written writer.new) }
-    ensures refused { result ≡ Ok false → IsTrue R.tells → IsTrue O.tells
-        → IsRefusedOut (lines_left lines.old) (lines_left lines.new) (O.written out.old) (O.written out.new) }
-    ensures broken { IsTrue R.tells → IsTrue O.tells → IfErr result
-        (λ fault. IsTakenShort named.now fault mirrors.old.items (lines_left lines.old) (O.written out.old) (O.written out.new)) }
+    ensures told { result ≡ Ok true → HasToldTaken named.now mirrors.old.items (known_lines lines.old) (known_lines lines.new) (O.contents out.old) (O.contents out.new) }
+    ensures part { IsSentPart (ended taking_text) (W.contents writer.old) (W.contents writer.new) }
+    ensures refused { result ≡ Ok false → IsRefusedOut (known_lines lines.old) (known_lines lines.new) (O.contents out.old) (O.contents out.new) }
+    ensures broken { IfErr result
+        (λ fault. IsTakenShort named.now fault mirrors.old.items (known_lines lines.old) (O.contents out.old) (O.contents out.new)) }
     ensures sent { result ≡ Ok true → IsOut W.Output (ended taking_text) writer.old writer.new }
     ensures on { OnOk result (ReadsOn lines.old lines.new) }
     ensures prints { OnOk result (WritesOn O.Output out.old out.new) }
-    ensures fault { IfErr result (λ fault. IsEffectFault W.Output O.Output fault (λ unsent. IsMissing unsent (IsRefusedOr (IsWaiting mirrors.old.items)) (lines_left lines.old)) lines.old lines.new writer.old writer.new out.old out.new) }
+    ensures fault { IfErr result (λ fault. IsEffectFault W.Output O.Output fault (λ unsent. IsMissing unsent (IsRefusedOr (IsWaiting mirrors.old.items)) (known_lines lines.old)) lines.old lines.new writer.old writer.new out.old out.new) }
 {
     if !send_request(lines, writer, b"take 1024\n", out)? {
         return Ok(false);
@@ -165,19 +158,17 @@ fn tell_answered<R: Input + Drop, W: Output, O: Output>(
 ) -> Result<bool, ClientFault>
     requires fresh { fault_of lines.old ≡ None }
     requires rising { IsTrue (rises mirror_space mirrors.old.items) }
-    ensures told { result ≡ Ok true → IsTrue R.tells → IsTrue O.tells → (answered : List Item) × (between : List ℕ)
-        × HasPassed (λ all. IsAnswer (form_of line.now) all true) (lines_left lines.old) answered (O.written out.old) between
-        × HasToldTaken named.now mirrors.old.items answered (lines_left lines.new) between (O.written out.new) }
-    ensures refused { result ≡ Ok false → IsTrue R.tells → IsTrue O.tells
-        → IsRefusedLine line.now (lines_left lines.old) (lines_left lines.new) (O.written out.old) (O.written out.new) }
-    ensures broken { IsTrue R.tells → IsTrue O.tells → IfErr result
-        (λ fault. IsAnsweredShort named.now fault line.now mirrors.old.items (lines_left lines.old) (O.written out.old) (O.written out.new)) }
+    ensures told { result ≡ Ok true → (answered : Option (List Item)) × (between : Option (List ℕ))
+        × HasPassed (λ all. IsAnswer (form_of line.now) all true) (known_lines lines.old) answered (O.contents out.old) between
+        × HasToldTaken named.now mirrors.old.items answered (known_lines lines.new) between (O.contents out.new) }
+    ensures refused { result ≡ Ok false → IsRefusedLine line.now (known_lines lines.old) (known_lines lines.new) (O.contents out.old) (O.contents out.new) }
+    ensures broken { IfErr result
+        (λ fault. IsAnsweredShort named.now fault line.now mirrors.old.items (known_lines lines.old) (O.contents out.old) (O.contents out.new)) }
     ensures sent { result ≡ Ok true → IsOut W.Output (ended line.now ++ ended taking_text) writer.old writer.new }
-    ensures part { IsTrue W.tells
-        → IsSentPart (ended line.now ++ ended taking_text) (W.written writer.old) (W.written writer.new) }
+    ensures part { IsSentPart (ended line.now ++ ended taking_text) (W.contents writer.old) (W.contents writer.new) }
     ensures on { OnOk result (ReadsOn lines.old lines.new) }
     ensures prints { OnOk result (WritesOn O.Output out.old out.new) }
-    ensures fault { IfErr result (λ fault. IsEffectFault W.Output O.Output fault (λ unsent. IsMissingAnswer unsent line.now mirrors.old.items (lines_left lines.old)) lines.old lines.new writer.old writer.new out.old out.new) }
+    ensures fault { IfErr result (λ fault. IsEffectFault W.Output O.Output fault (λ unsent. IsMissingAnswer unsent line.now mirrors.old.items (known_lines lines.old)) lines.old lines.new writer.old writer.new out.old out.new) }
 {
     let request = ended_line(alloc, line)?;
     if !send_request(lines, writer, request.as_slice(), out)? {
@@ -214,33 +205,29 @@ pub fn tell_effects<R: Input + Drop, W: Output, O: Output>(
 
     // The lines that were read are what a watcher of all namespaces finds, a whole answer to the line, which was printed,
     // and the posts that waited behind it, which were told.
-    ensures told { result ≡ Ok true → IsTrue R.tells → IsTrue O.tells
-        → HasEffects named.now line.now (lines_left lines.old) (lines_left lines.new) (O.written out.old) (O.written out.new) }
+    ensures told { result ≡ Ok true → HasEffects named.now line.now (known_lines lines.old) (known_lines lines.new) (O.contents out.old) (O.contents out.new) }
 
     // Else a refusal was printed, and nothing behind it: that in the place of what the watcher finds, that of the line or
     // in the place of its answer, or one in the place of the posts.
-    ensures refused { result ≡ Ok false → IsTrue R.tells → IsTrue O.tells
-        → IsRefusedEffect line.now (lines_left lines.old) (lines_left lines.new) (O.written out.old) (O.written out.new) }
+    ensures refused { result ≡ Ok false → IsRefusedEffect line.now (known_lines lines.old) (known_lines lines.new) (O.contents out.old) (O.contents out.new) }
 
     // Up to a fault nothing was printed, or whole lines of the answer, or all of it and what is told of posts that had
     // come, from the first one on, each whole. Where the output failed, a part of one more text was printed, of lines
     // that had come or of a post that is the next one of its namespace.
-    ensures broken { IsTrue R.tells → IsTrue O.tells → IfErr result
-        (λ fault. IsEffectShort named.now fault line.now (lines_left lines.old) (O.written out.old) (O.written out.new)) }
+    ensures broken { IfErr result
+        (λ fault. IsEffectShort named.now fault line.now (known_lines lines.old) (O.contents out.old) (O.contents out.new)) }
 
     // The request of the watcher went out, then the line, and then that for the posts; or a part of these, and nothing
     // else.
-    ensures sent { result ≡ Ok true → IsTrue W.tells
-        → W.written writer.new ≡ W.written writer.old ++ effects_text line.now }
-    ensures part { IsTrue W.tells
-        → IsSentPart (effects_text line.now) (W.written writer.old) (W.written writer.new) }
+    ensures sent { result ≡ Ok true → Appends (W.contents writer.old) (W.contents writer.new) (effects_text line.now) }
+    ensures part { IsSentPart (effects_text line.now) (W.contents writer.old) (W.contents writer.new) }
 
     // `Connection` only where calls of the reader failed, or the lines do not begin with what a watcher of all namespaces
     // finds, or behind that with an answer to the line, or behind that with the posts that wait, nor with a refusal in the
     // place of one of these; or where calls of the writer failed, and no refusal comes there.
-    ensures connection { result ≡ Err ClientFault.Connection → IsTrue R.tells → IsTrue R.counts → IsTrue W.counts
+    ensures connection { result ≡ Err ClientFault.Connection → IsTrue R.counts → IsTrue W.counts
         → HasBroken (failed_calls lines.old) (failed_calls lines.new) (last_faults lines.old) (last_faults lines.new)
-        ⊎ IsMissingEffect (HasBroken (W.failed writer.old) (W.failed writer.new) (W.faults writer.old) (W.faults writer.new)) line.now (lines_left lines.old) }
+        ⊎ IsMissingEffect (HasBroken (W.failed writer.old) (W.failed writer.new) (W.faults writer.old) (W.faults writer.new)) line.now (known_lines lines.old) }
 
     // `Output` comes only where calls of the output failed. Where no fault of it stood, the last call failed then, or
     // was the last of as many interrupted ones in succession as end a send.

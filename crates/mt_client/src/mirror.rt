@@ -1,10 +1,11 @@
 //! The table of a namespace, as its posts tell it to a client.
 ghost use Rattle.std.specs.Prelude.{◌≡◌, ◌≢◌, ◌⊎◌, ℕ, List, [], ◌∷◌, ◌++◌, true, false, None, Ok, Err, IfOk, IfErr, IfSome, OnOk, OnErr, IsTrue, MatchBool, MatchOption, codes};
+ghost use Rattle.std.specs.Io.KnownBytes.{Appends, Keeps};
 ghost use Rattle.mt_lines.specs.Reading.{last_faults, fault_of, last_line, limit_of};
 ghost use Rattle.mt_events.specs.Texts.{table_text};
 ghost use Rattle.mt_events.specs.Mirrors.{MirrorView, is_next, mirrored};
 ghost use Rattle.mt_events.specs.Posts.{ended};
-ghost use Rattle.mt_client.specs.Reading.{lines_left, texts, HasBroken, IsSentPart, NoneFirst, IsCut};
+ghost use Rattle.mt_client.specs.Reading.{known_lines, ComeFirst, HasBroken, IsSentPart, NoneFirst, IsCut};
 ghost use Rattle.mt_client.specs.Calls.{ReadsOn, WritesOn, IsOut, IsReadFault, IsTalkFault, IsTurnedAway, IsAskFault};
 ghost use Rattle.mt_client.specs.Requests.{numbered_text};
 ghost use Rattle.mt_client.specs.Mirroring.{counted_line, HasOpened, HasFollowed, HasFollowedAll, HasRefused, IsRefusedMidway, HasMirrored, requests_text, IsRefused};
@@ -41,14 +42,12 @@ fn watch_one<R: Input + Drop, W: Output, O: Output>(
     out: &mut O,
 ) -> Result<Option<Mirror>, ClientFault>
     requires fresh { fault_of lines.old ≡ None }
-    ensures opened { IfOk result (λ found. IfSome found (λ mirror. IsTrue R.tells
-        → HasOpened space (lines_left lines.old) (lines_left lines.new) mirror)) }
-    ensures unrefused { IfOk result (λ found. IfSome found (λ mirror. IsTrue R.tells → NoneFirst IsOneRefusal (lines_left lines.old))) }
+    ensures opened { IfOk result (λ found. IfSome found (λ mirror. HasOpened space (known_lines lines.old) (known_lines lines.new) mirror)) }
+    ensures unrefused { IfOk result (λ found. IfSome found (λ mirror. NoneFirst IsOneRefusal (known_lines lines.old))) }
     ensures sent { IfOk result (λ found. IfSome found (λ mirror. IsOut W.Output (ended (numbered_text (codes "watch") space)) writer.old writer.new)) }
     ensures unprinted { IfOk result (λ found. IfSome found (λ mirror. out.new ≡ out.old)) }
     ensures refused { result ≡ Ok None → IsTurnedAway W.Output O.Output (ended (numbered_text (codes "watch") space)) lines.old lines.new writer.old writer.new out.old out.new }
-    ensures part { IsTrue W.tells
-        → IsSentPart (ended (numbered_text (codes "watch") space)) (W.written writer.old) (W.written writer.new) }
+    ensures part { IsSentPart (ended (numbered_text (codes "watch") space)) (W.contents writer.old) (W.contents writer.new) }
     ensures on { OnOk result (ReadsOn lines.old lines.new) }
     ensures prints { OnOk result (WritesOn O.Output out.old out.new) }
     ensures fault { IfErr result (λ fault. IsAskFault W.Output O.Output fault (IsRefusedOr (IsOpening space)) lines.old lines.new writer.old writer.new out.old out.new) }
@@ -69,14 +68,14 @@ fn follow_post<R: Input + Drop>(
     mirror: &mut Mirror,
 ) -> Result<bool, ClientFault>
     requires fresh { fault_of lines.old ≡ None }
-    ensures followed { IfOk result (λ going. IsTrue R.tells → MatchBool going
-        (HasFollowed (lines_left lines.old) (lines_left lines.new) mirror.old mirror.new)
-        (HasRefused (last_line lines.new) (lines_left lines.old) (lines_left lines.new))) }
+    ensures followed { IfOk result (λ going. MatchBool going
+        (HasFollowed (known_lines lines.old) (known_lines lines.new) mirror.old mirror.new)
+        (HasRefused (last_line lines.new) (known_lines lines.old) (known_lines lines.new))) }
     ensures unchanged { result ≡ Ok false → mirror.new ≡ mirror.old }
-    ensures applied { result ≡ Ok true → IsTrue R.tells → IsOnlyApplied mirrored mirror.old mirror.new (lines_left lines.old) (lines_left lines.new) }
-    ensures unrefused { result ≡ Ok true → IsTrue R.tells → NoneFirst IsOneRefusal (lines_left lines.old) }
+    ensures applied { result ≡ Ok true → IsOnlyApplied mirrored mirror.old mirror.new (known_lines lines.old) (known_lines lines.new) }
+    ensures unrefused { result ≡ Ok true → NoneFirst IsOneRefusal (known_lines lines.old) }
     ensures on { OnOk result (ReadsOn lines.old lines.new) }
-    ensures fault { IfErr result (λ fault. IsReadFault fault (IsRefusedOr (IsSuchPost (is_next mirror.old))) (lines_left lines.old) lines.old lines.new) }
+    ensures fault { IfErr result (λ fault. IsReadFault fault (IsRefusedOr (IsSuchPost (is_next mirror.old))) (known_lines lines.old) lines.old lines.new) }
 {
     next_text(lines)?;
     if is_refusal(lines.line()) {
@@ -103,12 +102,12 @@ pub(crate) fn read_end<R: Input + Drop>(
     count: u64,
 ) -> Result<bool, ClientFault>
     requires fresh { fault_of lines.old ≡ None }
-    ensures ended { IfOk result (λ going. IsTrue R.tells → MatchBool going
-        (lines_left lines.old ≡ texts (counted_line count ∷ []) ++ lines_left lines.new)
-        (HasRefused (last_line lines.new) (lines_left lines.old) (lines_left lines.new))) }
-    ensures unrefused { result ≡ Ok true → IsTrue R.tells → NoneFirst IsOneRefusal (lines_left lines.old) }
+    ensures ended { IfOk result (λ going. MatchBool going
+        (ComeFirst (known_lines lines.old) (counted_line count ∷ []) (known_lines lines.new))
+        (HasRefused (last_line lines.new) (known_lines lines.old) (known_lines lines.new))) }
+    ensures unrefused { result ≡ Ok true → NoneFirst IsOneRefusal (known_lines lines.old) }
     ensures on { OnOk result (ReadsOn lines.old lines.new) }
-    ensures fault { IfErr result (λ fault. IsReadFault fault (IsRefusedOr (IsEnd count)) (lines_left lines.old) lines.old lines.new) }
+    ensures fault { IfErr result (λ fault. IsReadFault fault (IsRefusedOr (IsEnd count)) (known_lines lines.old) lines.old lines.new) }
 {
     next_text(lines)?;
     if is_refusal(lines.line()) {
@@ -130,11 +129,11 @@ fn follow_posts<R: Input + Drop>(
     count: u64,
 ) -> Result<bool, ClientFault>
     requires fresh { fault_of lines.old ≡ None }
-    ensures followed { IfOk result (λ going. IsTrue R.tells → MatchBool going
-        (HasFollowedAll count (lines_left lines.old) (lines_left lines.new) mirror.old mirror.new)
-        (IsRefusedMidway count (last_line lines.new) (lines_left lines.old) (lines_left lines.new) mirror.old mirror.new)) }
+    ensures followed { IfOk result (λ going. MatchBool going
+        (HasFollowedAll count (known_lines lines.old) (known_lines lines.new) mirror.old mirror.new)
+        (IsRefusedMidway count (last_line lines.new) (known_lines lines.old) (known_lines lines.new) mirror.old mirror.new)) }
     ensures on { OnOk result (ReadsOn lines.old lines.new) }
-    ensures fault { IfErr result (λ fault. IsReadFault fault (IsFollowing (counted_line count) count mirror.old) (lines_left lines.old) lines.old lines.new) }
+    ensures fault { IfErr result (λ fault. IsReadFault fault (IsFollowing (counted_line count) count mirror.old) (known_lines lines.old) lines.old lines.new) }
 {
     'posts: for _post in 0..count {
         if !follow_post(alloc, lines, mirror)? {
@@ -146,8 +145,7 @@ fn follow_posts<R: Input + Drop>(
 
 /// Prints the table of a mirror, as the server shows it.
 fn print_mirror<O: Output>(alloc: Global, out: &mut O, mirror: &Mirror) -> Result<(), ClientFault>
-    ensures kept { OnErr result (result ≢ Err ClientFault.Output → IsTrue O.tells
-        → O.written out.new ≡ O.written out.old) }
+    ensures kept { OnErr result (result ≢ Err ClientFault.Output → Keeps (O.contents out.old) (O.contents out.new)) }
     ensures kind { result ≢ Err ClientFault.Connection }
     ensures cause { result ≡ Err ClientFault.Output → IsTrue O.counts
         → HasBroken (O.failed out.old) (O.failed out.new) (O.faults out.old) (O.faults out.new) }
@@ -167,21 +165,19 @@ fn print_followed<R: Input + Drop, W: Output, O: Output>(
     out: &mut O,
 ) -> Result<bool, ClientFault>
     requires fresh { fault_of lines.old ≡ None }
-    ensures followed { result ≡ Ok true → IsTrue R.tells → HasFollowedAll count (lines_left lines.old) (lines_left lines.new) mirror.old mirror.new }
+    ensures followed { result ≡ Ok true → HasFollowedAll count (known_lines lines.old) (known_lines lines.new) mirror.old mirror.new }
     ensures printed { result ≡ Ok true → IsOut O.Output (table_text mirror.new.number mirror.new.rows) out.old out.new }
-    ensures left { result ≡ Ok false → IsTrue R.tells → (made : MirrorView)
-        × IsRefusedMidway count (last_line lines.new) (lines_left lines.old) (lines_left lines.new) mirror.old made }
+    ensures left { result ≡ Ok false → (made : MirrorView)
+        × IsRefusedMidway count (last_line lines.new) (known_lines lines.old) (known_lines lines.new) mirror.old made }
     ensures refused { result ≡ Ok false → IsOut O.Output (ended (last_line lines.new)) out.old out.new }
     ensures sent { result ≡ Ok true → IsOut W.Output (ended (numbered_text (codes "follow") count)) writer.old writer.new }
     ensures unsent { result ≡ Ok false → IsTrue W.counts → (W.faults writer.old ≡ [] → W.faults writer.new ≡ [])
         ⊎ HasBroken (W.failed writer.old) (W.failed writer.new) (W.faults writer.old) (W.faults writer.new) }
-    ensures part { IsTrue W.tells
-        → IsSentPart (ended (numbered_text (codes "follow") count)) (W.written writer.old) (W.written writer.new) }
+    ensures part { IsSentPart (ended (numbered_text (codes "follow") count)) (W.contents writer.old) (W.contents writer.new) }
     ensures on { OnOk result (ReadsOn lines.old lines.new) }
     ensures prints { OnOk result (WritesOn O.Output out.old out.new) }
     ensures fault { IfErr result (λ fault. IsTalkFault W.Output O.Output fault (IsFollowing (counted_line count) count mirror.old) lines.old lines.new writer.old writer.new out.old out.new) }
-    ensures kept { IfErr result (λ fault. fault ≢ ClientFault.Output → IsTrue O.tells
-        → O.written out.new ≡ O.written out.old) }
+    ensures kept { IfErr result (λ fault. fault ≢ ClientFault.Output → Keeps (O.contents out.old) (O.contents out.new)) }
 {
     let follow = numbered_line(alloc, b"follow", count)?;
     if !send_request(lines, writer, follow.as_slice(), out)? {
@@ -220,32 +216,29 @@ pub fn mirror<R: Input + Drop, W: Output, O: Output>(
     // Where a table is printed, the lines that were read are the text of an opening of the namespace that a server can
     // show, and of so many posts that are well-formed and follow it; it is the table, and the number, that applying
     // these posts to the opening gives.
-    ensures mirrored { result ≡ Ok true → IsTrue R.tells → IsTrue O.tells → (made : MirrorView)
-        × HasMirrored space count (lines_left lines.old) (lines_left lines.new) made
-        × (O.written out.new ≡ O.written out.old ++ table_text made.number made.rows) }
+    ensures mirrored { result ≡ Ok true → (made : MirrorView)
+        × HasMirrored space count (known_lines lines.old) (known_lines lines.new) made
+        × Appends (O.contents out.old) (O.contents out.new) (table_text made.number made.rows) }
 
     // Else a refusal was printed, that of the opening, or one behind some of the posts.
-    ensures refused { result ≡ Ok false → IsTrue R.tells → IsTrue O.tells → (refusal : List ℕ)
-        × IsRefused space count refusal (lines_left lines.old) (lines_left lines.new)
-        × (O.written out.new ≡ O.written out.old ++ ended refusal) }
+    ensures refused { result ≡ Ok false → (refusal : List ℕ)
+        × IsRefused space count refusal (known_lines lines.old) (known_lines lines.new)
+        × Appends (O.contents out.old) (O.contents out.new) (ended refusal) }
 
     // Both requests went out where a table is printed, and up to a refusal or a fault a part of them.
-    ensures sent { result ≡ Ok true → IsTrue W.tells
-        → W.written writer.new ≡ W.written writer.old ++ requests_text space count }
-    ensures part { IsTrue W.tells
-        → IsSentPart (requests_text space count) (W.written writer.old) (W.written writer.new) }
+    ensures sent { result ≡ Ok true → Appends (W.contents writer.old) (W.contents writer.new) (requests_text space count) }
+    ensures part { IsSentPart (requests_text space count) (W.contents writer.old) (W.contents writer.new) }
 
     // `Connection` only where calls of the reader failed, or the lines do not begin with an opening of the namespace, so
     // many posts that follow it, and their end, nor with a refusal in the place of one of these, or where calls of the
     // writer failed and no refusal comes first.
     // Where no fault of the stream stood, the last call failed then, or was the last of as many interrupted ones in
     // succession as end a read or a send. So it is with `Output`.
-    ensures connection { result ≡ Err ClientFault.Connection → IsTrue R.tells → IsTrue R.counts → IsTrue W.counts
+    ensures connection { result ≡ Err ClientFault.Connection → IsTrue R.counts → IsTrue W.counts
         → (HasBroken (W.failed writer.old) (W.failed writer.new) (W.faults writer.old) (W.faults writer.new) × IsCut IsOneRefusal lines.old lines.new) ⊎ IsCut (IsRefusedOr (IsMirroring space count)) lines.old lines.new }
 
     // Nothing was printed where the output did not fail, and `Output` comes only where calls of it failed.
-    ensures kept { IfErr result (λ fault. fault ≢ ClientFault.Output → IsTrue O.tells
-        → O.written out.new ≡ O.written out.old) }
+    ensures kept { IfErr result (λ fault. fault ≢ ClientFault.Output → Keeps (O.contents out.old) (O.contents out.new)) }
     ensures output { result ≡ Err ClientFault.Output → IsTrue O.counts
         → HasBroken (O.failed out.old) (O.failed out.new) (O.faults out.old) (O.faults out.new) }
     // What the next call finds: a reader that has met no fault, and where none of a stream stood, none, but where calls

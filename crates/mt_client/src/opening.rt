@@ -7,7 +7,7 @@ ghost use Rattle.mt_lines.specs.Reading.{fault_of};
 ghost use Rattle.mt_info.specs.Laws.{IsRow};
 ghost use Rattle.mt_info.specs.RowLine.{line};
 ghost use Rattle.mt_info.specs.Table.{row_id};
-ghost use Rattle.mt_client.specs.Reading.{lines_left};
+ghost use Rattle.mt_client.specs.Reading.{known_lines};
 ghost use Rattle.mt_client.specs.Calls.{AreRead, IsReadFault};
 ghost use Rattle.mt_client.specs.Mirroring.{counted_line, heading_words};
 ghost use Rattle.mt_client.specs.Awaited.{IsRowAbove, AreRowLines};
@@ -136,7 +136,7 @@ fn read_row_line<R: Input + Drop>(
     ensures row { IfOk result (λ row. AreRead (line row ∷ []) lines.old lines.new) }
     ensures valid { IfOk result (λ row. IsRow row) }
     ensures above { IfOk result (λ row. is_above last row.id ≡ true) }
-    ensures fault { IfErr result (λ fault. IsReadFault fault (IsRowAbove last) (lines_left lines.old) lines.old lines.new) }
+    ensures fault { IfErr result (λ fault. IsReadFault fault (IsRowAbove last) (known_lines lines.old) lines.old lines.new) }
 {
     next_text(lines)?;
     row_above(alloc, lines.line(), last)
@@ -153,7 +153,7 @@ pub(crate) fn read_rows<R: Input + Drop>(
     ensures many { IfOk result (λ rows. length rows.items ≡ count) }
     ensures valid { IfOk result (λ rows. AllByRecursion IsRow rows.items) }
     ensures rising { IfOk result (λ rows. IsTrue (rises row_id rows.items)) }
-    ensures fault { IfErr result (λ fault. IsReadFault fault (AreRowLines count) (lines_left lines.old) lines.old lines.new) }
+    ensures fault { IfErr result (λ fault. IsReadFault fault (AreRowLines count) (known_lines lines.old) lines.old lines.new) }
 {
     let mut rows = Vec::new(alloc);
     let mut last = None;

@@ -3,7 +3,7 @@ ghost use Rattle.std.specs.Prelude.{◌≡◌, ◌≢◌, ◌+◌, ◌≤◌, []
 ghost use Rattle.std.specs.List.{AllByRecursion};
 ghost use Rattle.mt_skel.specs.Keyed.{rises};
 ghost use Rattle.mt_lines.specs.Reading.{fault_of, last_line};
-ghost use Rattle.mt_client.specs.Reading.{lines_left, NoneFirst};
+ghost use Rattle.mt_client.specs.Reading.{known_lines, NoneFirst};
 ghost use Rattle.mt_client.specs.Calls.{ReadsOn, AreRead, IsReadFault};
 ghost use Rattle.mt_client.specs.Mirroring.{IsShown, part_lines, HasRefused};
 ghost use Rattle.mt_client.specs.Awaited.{IsOneRefusal, IsRefusedOr};
@@ -32,7 +32,7 @@ fn read_next<R: Input + Drop>(
     ensures part { IfOk result (λ mirror. AreRead (part_lines mirror) lines.old lines.new) }
     ensures within { IfOk result (λ mirror. 1 + length mirror.rows ≤ left) }
     ensures shown { IfOk result (λ mirror. IsShown mirror) }
-    ensures fault { IfErr result (λ fault. IsReadFault fault (IsPartWithin left) (lines_left lines.old) lines.old lines.new) }
+    ensures fault { IfErr result (λ fault. IsReadFault fault (IsPartWithin left) (known_lines lines.old) lines.old lines.new) }
 {
     next_text(lines)?;
     let Some(heading) = read_heading(lines.line()) else {
@@ -58,7 +58,7 @@ fn read_parts<R: Input + Drop>(
     ensures parts { IfOk result (λ parts. AreRead (parts_lines parts.items) lines.old lines.new) }
     ensures many { IfOk result (λ parts. length (parts_lines parts.items) ≡ count) }
     ensures shown { IfOk result (λ parts. AllByRecursion IsShown parts.items) }
-    ensures fault { IfErr result (λ fault. IsReadFault fault (ArePartLines count) (lines_left lines.old) lines.old lines.new) }
+    ensures fault { IfErr result (λ fault. IsReadFault fault (ArePartLines count) (known_lines lines.old) lines.old lines.new) }
 {
     let mut parts = Vec::new(alloc);
     let mut left = count;
@@ -112,13 +112,13 @@ pub(crate) fn read_found<R: Input + Drop>(
     scope: Scope,
 ) -> Result<Option<Vec<Mirror>>, ClientFault>
     requires fresh { fault_of lines.old ≡ None }
-    ensures found { IfOk result (λ found. IsTrue R.tells → MatchOption found
-        (HasRefused (last_line lines.new) (lines_left lines.old) (lines_left lines.new))
-        (λ parts. HasFound scope (lines_left lines.old) (lines_left lines.new) parts.items)) }
+    ensures found { IfOk result (λ found. MatchOption found
+        (HasRefused (last_line lines.new) (known_lines lines.old) (known_lines lines.new))
+        (λ parts. HasFound scope (known_lines lines.old) (known_lines lines.new) parts.items)) }
     ensures rising { IfOk result (λ found. IfSome found (λ parts. IsTrue (rises mirror_space parts.items))) }
-    ensures unrefused { IfOk result (λ found. IsTrue R.tells → IfSome found (λ parts. NoneFirst IsOneRefusal (lines_left lines.old))) }
+    ensures unrefused { IfOk result (λ found. IfSome found (λ parts. NoneFirst IsOneRefusal (known_lines lines.old))) }
     ensures on { OnOk result (ReadsOn lines.old lines.new) }
-    ensures fault { IfErr result (λ fault. IsReadFault fault (IsRefusedOr (IsFinding scope)) (lines_left lines.old) lines.old lines.new) }
+    ensures fault { IfErr result (λ fault. IsReadFault fault (IsRefusedOr (IsFinding scope)) (known_lines lines.old) lines.old lines.new) }
 {
     next_text(lines)?;
     if is_refusal(lines.line()) {

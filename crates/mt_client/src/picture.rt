@@ -1,10 +1,11 @@
 //! A drawing of the tables that a watcher found.
-ghost use Rattle.std.specs.Prelude.{◌≡◌, ◌≢◌, ◌⊎◌, List, ℕ, [], ◌++◌, true, false, None, Ok, Err, IfOk, IfErr, OnOk, OnErr, IsTrue};
+ghost use Rattle.std.specs.Prelude.{◌≡◌, ◌≢◌, ◌⊎◌, List, ℕ, [], true, false, None, Ok, Err, IfOk, IfErr, OnOk, OnErr, IsTrue};
+ghost use Rattle.std.specs.Io.KnownBytes.{Appends, Keeps};
 ghost use Rattle.mt_lines.specs.Reading.{last_faults, fault_of, limit_of};
 ghost use Rattle.mt_events.specs.Mirrors.{MirrorView};
 ghost use Rattle.mt_events.specs.Posts.{ended};
 ghost use Rattle.mt_render.specs.Drawings.{drawing_text};
-ghost use Rattle.mt_client.specs.Reading.{lines_left, HasBroken, IsSentPart, IsCut};
+ghost use Rattle.mt_client.specs.Reading.{known_lines, HasBroken, IsSentPart, IsCut};
 ghost use Rattle.mt_client.specs.Calls.{IsOut};
 ghost use Rattle.mt_client.specs.Mirroring.{HasRefused};
 ghost use Rattle.mt_client.specs.Awaited.{IsOneRefusal, IsRefusedOr};
@@ -27,8 +28,7 @@ fn print_drawing<O: Output>(
     drawing: Drawing,
     parts: &[Mirror],
 ) -> Result<(), ClientFault>
-    ensures kept { OnErr result (result ≢ Err ClientFault.Output → IsTrue O.tells
-        → O.written out.new ≡ O.written out.old) }
+    ensures kept { OnErr result (result ≢ Err ClientFault.Output → Keeps (O.contents out.old) (O.contents out.new)) }
     ensures kind { result ≢ Err ClientFault.Connection }
     ensures cause { result ≡ Err ClientFault.Output → IsTrue O.counts
         → HasBroken (O.failed out.old) (O.failed out.new) (O.faults out.old) (O.faults out.new) }
@@ -61,30 +61,27 @@ pub fn draw<R: Input + Drop, W: Output, O: Output>(
 
     // Where a drawing is printed, the lines that were read are the text of an opening that a server can show to a
     // watcher of the scope, and it is the drawing of all that it has.
-    ensures drawn { result ≡ Ok true → IsTrue R.tells → IsTrue O.tells → (parts : List MirrorView)
-        × HasWatched scope (lines_left lines.old) (lines_left lines.new) parts
-        × (O.written out.new ≡ O.written out.old ++ drawing_text drawing parts) }
+    ensures drawn { result ≡ Ok true → (parts : List MirrorView)
+        × HasWatched scope (known_lines lines.old) (known_lines lines.new) parts
+        × Appends (O.contents out.old) (O.contents out.new) (drawing_text drawing parts) }
 
     // Else the refusal was printed that stands in the place of the opening.
-    ensures refused { result ≡ Ok false → IsTrue R.tells → IsTrue O.tells → (refusal : List ℕ)
-        × HasRefused refusal (lines_left lines.old) (lines_left lines.new)
-        × (O.written out.new ≡ O.written out.old ++ ended refusal) }
+    ensures refused { result ≡ Ok false → (refusal : List ℕ)
+        × HasRefused refusal (known_lines lines.old) (known_lines lines.new)
+        × Appends (O.contents out.old) (O.contents out.new) (ended refusal) }
 
     // The request went out, or calls of the writer failed, and then a part of it did; and nothing else.
-    ensures sent { result ≡ Ok true → IsTrue W.tells
-        → W.written writer.new ≡ W.written writer.old ++ ended (watch_text scope) }
-    ensures part { IsTrue W.tells
-        → IsSentPart (ended (watch_text scope)) (W.written writer.old) (W.written writer.new) }
+    ensures sent { result ≡ Ok true → Appends (W.contents writer.old) (W.contents writer.new) (ended (watch_text scope)) }
+    ensures part { IsSentPart (ended (watch_text scope)) (W.contents writer.old) (W.contents writer.new) }
 
     // `Connection` only where calls of the reader failed, or the lines begin neither with such an opening nor with a
     // refusal, or where calls of the writer failed and no refusal comes first. Where no fault of the stream stood, the last call failed then, or was the last of as
     // many interrupted ones in succession as end a read or a send. So it is with `Output`.
-    ensures connection { result ≡ Err ClientFault.Connection → IsTrue R.tells → IsTrue R.counts → IsTrue W.counts
+    ensures connection { result ≡ Err ClientFault.Connection → IsTrue R.counts → IsTrue W.counts
         → (HasBroken (W.failed writer.old) (W.failed writer.new) (W.faults writer.old) (W.faults writer.new) × IsCut IsOneRefusal lines.old lines.new) ⊎ IsCut (IsRefusedOr (IsFinding scope)) lines.old lines.new }
 
     // Nothing was printed where the output did not fail, and `Output` comes only where calls of it failed.
-    ensures kept { IfErr result (λ fault. fault ≢ ClientFault.Output → IsTrue O.tells
-        → O.written out.new ≡ O.written out.old) }
+    ensures kept { IfErr result (λ fault. fault ≢ ClientFault.Output → Keeps (O.contents out.old) (O.contents out.new)) }
     ensures output { result ≡ Err ClientFault.Output → IsTrue O.counts
         → HasBroken (O.failed out.old) (O.failed out.new) (O.faults out.old) (O.faults out.new) }
     // What the next call finds: a reader that has met no fault, and where none of a stream stood, none, but where calls

@@ -1,11 +1,11 @@
 //! Posts as they are followed.
-ghost use Rattle.std.specs.Prelude.{◌≡◌, ◌≢◌, ℕ, List, ◌++◌, length, true, false, None, Err, IfOk, IfErr, OnOk, IsTrue};
+ghost use Rattle.std.specs.Prelude.{◌≡◌, ◌≢◌, ℕ, List, ◌++◌, length, true, false, None, Err, IfOk, IfErr, OnOk};
 ghost use Rattle.mt_lines.specs.Reading.{fault_of, last_line};
 ghost use Rattle.mt_lines.specs.Words.{words};
 ghost use Rattle.mt_events.specs.Posts.{PostView, IsPost, post_text, ended};
 ghost use Rattle.mt_events.specs.Mirrors.{is_next, mirrored};
 ghost use Rattle.mt_client.specs.Requests.{event_count};
-ghost use Rattle.mt_client.specs.Reading.{lines_left, printed, AreSoMany};
+ghost use Rattle.mt_client.specs.Reading.{known_lines, printed, AreSoMany};
 ghost use Rattle.mt_client.specs.Calls.{ReadsOn, AreRead, IsReadFault};
 ghost use Rattle.mt_client.specs.Mirroring.{IsPosted};
 ghost use Rattle.mt_client.specs.Awaited.{IsPostBehind, IsOnlyPost};
@@ -58,7 +58,7 @@ pub(crate) fn push_lines<R: Input + Drop>(
     requires fresh { fault_of lines.old ≡ None }
     ensures text { OnOk result ((all : List (List ℕ)) × (length all ≡ count) × AreRead all lines.old lines.new
         × (text.new.items ≡ text.old.items ++ printed all)) }
-    ensures fault { IfErr result (λ fault. IsReadFault fault (AreSoMany count) (lines_left lines.old) lines.old lines.new) }
+    ensures fault { IfErr result (λ fault. IsReadFault fault (AreSoMany count) (known_lines lines.old) lines.old lines.new) }
 {
     'lines: for _line in 0..count {
         next_text(lines)?;
@@ -84,13 +84,11 @@ pub(crate) fn read_posted<R: Input + Drop>(
     lines: &mut LineReader<R>,
 ) -> Result<Post, ClientFault>
     requires fresh { fault_of lines.old ≡ None }
-    ensures posted { IfOk result (λ post. IsTrue R.tells
-        → IsPosted (last_line lines.old) (lines_left lines.old) (lines_left lines.new) post) }
+    ensures posted { IfOk result (λ post. IsPosted (last_line lines.old) (known_lines lines.old) (known_lines lines.new) post) }
     ensures valid { IfOk result (λ post. IsPost post) }
-    ensures only { IfOk result (λ post. IsTrue R.tells
-        → IsOnlyPost (last_line lines.old) (lines_left lines.old) (lines_left lines.new) post) }
+    ensures only { IfOk result (λ post. IsOnlyPost (last_line lines.old) (known_lines lines.old) (known_lines lines.new) post) }
     ensures on { OnOk result (ReadsOn lines.old lines.new) }
-    ensures fault { IfErr result (λ fault. IsReadFault fault (IsPostBehind (last_line lines.old)) (lines_left lines.old) lines.old lines.new) }
+    ensures fault { IfErr result (λ fault. IsReadFault fault (IsPostBehind (last_line lines.old)) (known_lines lines.old) lines.old lines.new) }
 {
     let Some(count) = lines_of_event(lines.line()) else {
         return Err(ClientFault::Connection);

@@ -1,9 +1,10 @@
 //! Lines of answers, printed as they are read.
-ghost use Rattle.std.specs.Prelude.{◌≡◌, Bool, ◌≤◌, [], ◌∷◌, ◌++◌, None, IfOk, IfErr, OnOk, OnErr, IsTrue, MatchBool};
+ghost use Rattle.std.specs.Prelude.{◌≡◌, Bool, ◌≤◌, [], ◌∷◌, None, IfOk, IfErr, OnOk, OnErr, IsTrue, MatchBool};
+ghost use Rattle.std.specs.Io.KnownBytes.{Appends};
 ghost use Rattle.mt_lines.specs.Reading.{fault_of, last_line};
 ghost use Rattle.mt_events.specs.Posts.{ended};
 ghost use Rattle.mt_client.specs.Replies.{IsHeaded, IsEnding, IsFollowAnswer, IsAnswer};
-ghost use Rattle.mt_client.specs.Reading.{lines_left, IsCutOff, HasBroken, AreSoMany, reading_fault};
+ghost use Rattle.mt_client.specs.Reading.{known_lines, IsCutOff, HasBroken, AreSoMany, reading_fault};
 ghost use Rattle.mt_client.specs.Calls.{AreRead, IsOut, IsOutInPart, IsReadFault, IsPassFault, PassesOn};
 
 use crate::answer::{is_refusal, lines_behind, verdict};
@@ -32,7 +33,7 @@ fn reading_fault(fault: ReadFault) -> ClientFault
 pub(crate) fn next_text<R: Input + Drop>(lines: &mut LineReader<R>) -> Result<(), ClientFault>
     requires fresh { fault_of lines.old ≡ None }
     ensures read { OnOk result (AreRead (last_line lines.new ∷ []) lines.old lines.new) }
-    ensures fault { IfErr result (λ fault. IsReadFault fault (AreSoMany 1) (lines_left lines.old) lines.old lines.new) }
+    ensures fault { IfErr result (λ fault. IsReadFault fault (AreSoMany 1) (known_lines lines.old) lines.old lines.new) }
 {
     match lines.next() {
         Ok(Line::Text) => Ok(()),
@@ -45,10 +46,8 @@ pub(crate) fn next_text<R: Input + Drop>(lines: &mut LineReader<R>) -> Result<()
 
 /// Prints a text. Refused as `Output` where a write fails, and then a part of it, not all, is out.
 pub fn print_text<O: Output>(out: &mut O, text: &[u8]) -> Result<(), ClientFault>
-    ensures printed { OnOk result (IsTrue O.tells
-        → O.written out.new ≡ O.written out.old ++ text.now) }
-    ensures cut { OnErr result (IsTrue O.tells
-        → IsCutOff text.now (O.written out.old) (O.written out.new)) }
+    ensures printed { OnOk result (Appends (O.contents out.old) (O.contents out.new) text.now) }
+    ensures cut { OnErr result (IsCutOff text.now (O.contents out.old) (O.contents out.new)) }
     ensures kind { IfErr result (λ fault. fault ≡ ClientFault.Output) }
     ensures cause { OnErr result (IsTrue O.counts → HasBroken (O.failed out.old) (O.failed out.new) (O.faults out.old) (O.faults out.new)) }
     ensures counted { IsTrue O.counts → O.failed out.old ≤ O.failed out.new }

@@ -3,6 +3,7 @@
 //! A server that turns a client away tells it so at once and ends the connection. A client that is slower than that
 //! cannot send its request any more, but it can still read why.
 ghost use Rattle.std.specs.Prelude.{◌≡◌, ◌≢◌, [], true, false, None, Ok, Err, IfErr, OnOk, OnErr, IsTrue};
+ghost use Rattle.std.specs.Io.KnownBytes.{Keeps};
 ghost use Rattle.mt_lines.specs.Reading.{fault_of};
 ghost use Rattle.mt_client.specs.Reading.{HasBroken, IsSentPart};
 ghost use Rattle.mt_client.specs.Calls.{ReadsOn, WritesOn, IsOut, IsOutInPart, IsPassFault, PassesRefusal};
@@ -22,8 +23,7 @@ fn pass_refusal<R: Input + Drop, O: Output>(
     requires fresh { fault_of lines.old ≡ None }
     ensures passed { OnOk result (PassesRefusal O.Output lines.old lines.new out.old out.new) }
     ensures fault { IfErr result (λ fault. IsPassFault O.Output fault IsOneRefusal [] lines.old lines.new out.old out.new) }
-    ensures kept { OnErr result (result ≢ Err ClientFault.Output → IsTrue O.tells
-        → O.written out.new ≡ O.written out.old) }
+    ensures kept { OnErr result (result ≢ Err ClientFault.Output → Keeps (O.contents out.old) (O.contents out.new)) }
 {
     next_text(lines)?;
     if !is_refusal(lines.line()) {
@@ -50,8 +50,7 @@ pub(crate) fn send_request<R: Input + Drop, W: Output, O: Output>(
 ) -> Result<bool, ClientFault>
     requires fresh { fault_of lines.old ≡ None }
     ensures sent { result ≡ Ok true → IsOut W.Output request.now writer.old writer.new }
-    ensures part { IsTrue W.tells
-        → IsSentPart request.now (W.written writer.old) (W.written writer.new) }
+    ensures part { IsSentPart request.now (W.contents writer.old) (W.contents writer.new) }
     // Nothing was read or printed where the request went out, and else a refusal was.
     ensures unread { result ≡ Ok true → lines.new ≡ lines.old }
     ensures unprinted { result ≡ Ok true → out.new ≡ out.old }
@@ -62,8 +61,7 @@ pub(crate) fn send_request<R: Input + Drop, W: Output, O: Output>(
     ensures cause { result ≢ Ok true → IsTrue W.counts
         → HasBroken (W.failed writer.old) (W.failed writer.new) (W.faults writer.old) (W.faults writer.new) }
     ensures fault { IfErr result (λ fault. IsPassFault O.Output fault IsOneRefusal [] lines.old lines.new out.old out.new) }
-    ensures kept { OnErr result (result ≢ Err ClientFault.Output → IsTrue O.tells
-        → O.written out.new ≡ O.written out.old) }
+    ensures kept { OnErr result (result ≢ Err ClientFault.Output → Keeps (O.contents out.old) (O.contents out.new)) }
 {
     if send_whole(writer, request).is_ok() {
         return Ok(true);

@@ -1,11 +1,12 @@
 //! The posts of a watcher, told as they come.
 ghost use Rattle.std.specs.Prelude.{◌≡◌, ◌≢◌, ℕ, ◌⊎◌, List, [], ◌++◌, true, false, None, Ok, Err, IfOk, IfErr, OnOk, OnErr, IsTrue, MatchBool, codes};
+ghost use Rattle.std.specs.Io.KnownBytes.{Appends, Keeps};
 ghost use Rattle.mt_skel.specs.Keyed.{rises};
 ghost use Rattle.mt_lines.specs.Reading.{last_faults, fault_of, last_line, limit_of};
 ghost use Rattle.mt_events.specs.Mirrors.{MirrorView};
 ghost use Rattle.mt_events.specs.Posts.{PostView, ended};
 ghost use Rattle.mt_client.specs.Requests.{numbered_text};
-ghost use Rattle.mt_client.specs.Reading.{lines_left, HasBroken, IsSentPart, NoneFirst, IsCut};
+ghost use Rattle.mt_client.specs.Reading.{known_lines, HasBroken, IsSentPart, NoneFirst, IsCut};
 ghost use Rattle.mt_client.specs.Calls.{ReadsOn, WritesOn, IsOut, IsOutInPart, IsTellFault, IsTalkFault};
 ghost use Rattle.mt_client.specs.Mirroring.{HasRefused};
 ghost use Rattle.mt_client.specs.Awaited.{IsOneRefusal, IsRefusedOr, IsSuchPost, IsOnlyApplied};
@@ -50,8 +51,7 @@ pub(crate) fn tell_due<O: Output>(
     ensures due { OnOk result (is_due scope mirrors.old.items post.now ≡ true) }
     ensures rising { OnOk result (IsTrue (rises mirror_space mirrors.new.items)) }
     ensures refused { result ≡ Err ClientFault.Connection → is_due scope mirrors.old.items post.now ≡ false }
-    ensures kept { OnErr result (result ≢ Err ClientFault.Output → IsTrue O.tells
-        → O.written out.new ≡ O.written out.old) }
+    ensures kept { OnErr result (result ≢ Err ClientFault.Output → Keeps (O.contents out.old) (O.contents out.new)) }
     ensures out { OnOk result (IsOut O.Output (told_in named.now mirrors.old.items post.now) out.old out.new) }
     ensures part { result ≡ Err ClientFault.Output → (is_due scope mirrors.old.items post.now ≡ true)
         × IsOutInPart O.Output (told_in named.now mirrors.old.items post.now) out.old out.new }
@@ -76,15 +76,14 @@ fn tell_post<R: Input + Drop, O: Output>(
 ) -> Result<bool, ClientFault>
     requires fresh { fault_of lines.old ≡ None }
     requires rising { IsTrue (rises mirror_space mirrors.old.items) }
-    ensures told { IfOk result (λ going. IsTrue R.tells → IsTrue O.tells → MatchBool going
-        (HasToldPost named.now scope mirrors.old.items mirrors.new.items (lines_left lines.old) (lines_left lines.new) (O.written out.old) (O.written out.new))
-        ((O.written out.new ≡ O.written out.old) × HasRefused (last_line lines.new) (lines_left lines.old) (lines_left lines.new))) }
+    ensures told { IfOk result (λ going. MatchBool going
+        (HasToldPost named.now scope mirrors.old.items mirrors.new.items (known_lines lines.old) (known_lines lines.new) (O.contents out.old) (O.contents out.new))
+        (Keeps (O.contents out.old) (O.contents out.new) × HasRefused (last_line lines.new) (known_lines lines.old) (known_lines lines.new))) }
     ensures rising { OnOk result (IsTrue (rises mirror_space mirrors.new.items)) }
-    ensures broken { IsTrue R.tells → IsTrue O.tells → IfErr result
-        (λ fault. IsStopped named.now fault scope mirrors.old.items (lines_left lines.old) (O.written out.old) (O.written out.new)) }
-    ensures applied { result ≡ Ok true → IsTrue R.tells
-        → IsOnlyApplied mirrors_with mirrors.old.items mirrors.new.items (lines_left lines.old) (lines_left lines.new) }
-    ensures unrefused { result ≡ Ok true → IsTrue R.tells → NoneFirst IsOneRefusal (lines_left lines.old) }
+    ensures broken { IfErr result
+        (λ fault. IsStopped named.now fault scope mirrors.old.items (known_lines lines.old) (O.contents out.old) (O.contents out.new)) }
+    ensures applied { result ≡ Ok true → IsOnlyApplied mirrors_with mirrors.old.items mirrors.new.items (known_lines lines.old) (known_lines lines.new) }
+    ensures unrefused { result ≡ Ok true → NoneFirst IsOneRefusal (known_lines lines.old) }
     ensures on { OnOk result (ReadsOn lines.old lines.new) }
     ensures prints { OnOk result (WritesOn O.Output out.old out.new) }
     ensures fault { IfErr result (λ fault. IsTellFault O.Output fault (IsRefusedOr (IsSuchPost (is_due scope mirrors.old.items))) lines.old lines.new out.old out.new) }
@@ -111,14 +110,13 @@ fn tell_posts<R: Input + Drop, O: Output>(
 ) -> Result<bool, ClientFault>
     requires fresh { fault_of lines.old ≡ None }
     requires rising { IsTrue (rises mirror_space mirrors.old.items) }
-    ensures told { IfOk result (λ going. IsTrue R.tells → IsTrue O.tells → MatchBool going
-        (HasToldPortion named.now count scope mirrors.old.items mirrors.new.items (lines_left lines.old) (lines_left lines.new) (O.written out.old) (O.written out.new))
-        (HasToldAll named.now count scope (last_line lines.new) mirrors.old.items (lines_left lines.old) (lines_left lines.new) (O.written out.old) (O.written out.new))) }
+    ensures told { IfOk result (λ going. MatchBool going
+        (HasToldPortion named.now count scope mirrors.old.items mirrors.new.items (known_lines lines.old) (known_lines lines.new) (O.contents out.old) (O.contents out.new))
+        (HasToldAll named.now count scope (last_line lines.new) mirrors.old.items (known_lines lines.old) (known_lines lines.new) (O.contents out.old) (O.contents out.new))) }
     ensures rising { OnOk result (IsTrue (rises mirror_space mirrors.new.items)) }
-    ensures broken { IsTrue R.tells → IsTrue O.tells → IfErr result
-        (λ fault. IsToldUpTo named.now fault count scope mirrors.old.items (lines_left lines.old) (O.written out.old) (O.written out.new)) }
-    ensures applied { result ≡ Ok true → IsTrue R.tells
-        → AreOnlyApplied count scope mirrors.old.items mirrors.new.items (lines_left lines.old) (lines_left lines.new) }
+    ensures broken { IfErr result
+        (λ fault. IsToldUpTo named.now fault count scope mirrors.old.items (known_lines lines.old) (O.contents out.old) (O.contents out.new)) }
+    ensures applied { result ≡ Ok true → AreOnlyApplied count scope mirrors.old.items mirrors.new.items (known_lines lines.old) (known_lines lines.new) }
     ensures on { OnOk result (ReadsOn lines.old lines.new) }
     ensures prints { OnOk result (WritesOn O.Output out.old out.new) }
     ensures fault { IfErr result (λ fault. IsTellFault O.Output fault (AreDuePosts count scope mirrors.old.items) lines.old lines.new out.old out.new) }
@@ -144,16 +142,14 @@ fn tell_portion<R: Input + Drop, W: Output, O: Output>(
 ) -> Result<bool, ClientFault>
     requires fresh { fault_of lines.old ≡ None }
     requires rising { IsTrue (rises mirror_space mirrors.old.items) }
-    ensures told { IfOk result (λ going. IsTrue R.tells → IsTrue O.tells → MatchBool going
-        (HasToldPortion named.now count scope mirrors.old.items mirrors.new.items (lines_left lines.old) (lines_left lines.new) (O.written out.old) (O.written out.new))
-        (HasToldAllOut named.now count scope mirrors.old.items (lines_left lines.old) (lines_left lines.new) (O.written out.old) (O.written out.new))) }
+    ensures told { IfOk result (λ going. MatchBool going
+        (HasToldPortion named.now count scope mirrors.old.items mirrors.new.items (known_lines lines.old) (known_lines lines.new) (O.contents out.old) (O.contents out.new))
+        (HasToldAllOut named.now count scope mirrors.old.items (known_lines lines.old) (known_lines lines.new) (O.contents out.old) (O.contents out.new))) }
     ensures rising { OnOk result (IsTrue (rises mirror_space mirrors.new.items)) }
-    ensures broken { IsTrue R.tells → IsTrue O.tells → IfErr result
-        (λ fault. IsToldUpTo named.now fault count scope mirrors.old.items (lines_left lines.old) (O.written out.old) (O.written out.new)) }
-    ensures part { IsTrue W.tells
-        → IsSentPart (ended (numbered_text (codes "follow") count)) (W.written writer.old) (W.written writer.new) }
-    ensures applied { result ≡ Ok true → IsTrue R.tells
-        → AreOnlyApplied count scope mirrors.old.items mirrors.new.items (lines_left lines.old) (lines_left lines.new) }
+    ensures broken { IfErr result
+        (λ fault. IsToldUpTo named.now fault count scope mirrors.old.items (known_lines lines.old) (O.contents out.old) (O.contents out.new)) }
+    ensures part { IsSentPart (ended (numbered_text (codes "follow") count)) (W.contents writer.old) (W.contents writer.new) }
+    ensures applied { result ≡ Ok true → AreOnlyApplied count scope mirrors.old.items mirrors.new.items (known_lines lines.old) (known_lines lines.new) }
     ensures sent { result ≡ Ok true → IsOut W.Output (ended (numbered_text (codes "follow") count)) writer.old writer.new }
     ensures on { OnOk result (ReadsOn lines.old lines.new) }
     ensures prints { OnOk result (WritesOn O.Output out.old out.new) }
@@ -183,12 +179,10 @@ fn tell_portions<R: Input + Drop, W: Output, O: Output>(
 ) -> Result<(), ClientFault>
     requires fresh { fault_of lines.old ≡ None }
     requires rising { IsTrue (rises mirror_space mirrors.old.items) }
-    ensures told { OnOk result (IsTrue R.tells → IsTrue O.tells
-        → HasToldAllOut named.now count scope mirrors.old.items (lines_left lines.old) (lines_left lines.new) (O.written out.old) (O.written out.new)) }
-    ensures broken { IsTrue R.tells → IsTrue O.tells → IfErr result
-        (λ fault. IsToldUpTo named.now fault count scope mirrors.old.items (lines_left lines.old) (O.written out.old) (O.written out.new)) }
-    ensures part { IsTrue W.tells
-        → (times : ℕ) × IsSentPart (follows_text count times) (W.written writer.old) (W.written writer.new) }
+    ensures told { OnOk result (HasToldAllOut named.now count scope mirrors.old.items (known_lines lines.old) (known_lines lines.new) (O.contents out.old) (O.contents out.new)) }
+    ensures broken { IfErr result
+        (λ fault. IsToldUpTo named.now fault count scope mirrors.old.items (known_lines lines.old) (O.contents out.old) (O.contents out.new)) }
+    ensures part { (times : ℕ) × IsSentPart (follows_text count times) (W.contents writer.old) (W.contents writer.new) }
     ensures on { OnOk result (ReadsOn lines.old lines.new) }
     ensures prints { OnOk result (WritesOn O.Output out.old out.new) }
     ensures fault { IfErr result (λ fault. IsTalkFault W.Output O.Output fault (AreDuePortions count scope mirrors.old.items) lines.old lines.new writer.old writer.new out.old out.new) }
@@ -229,26 +223,24 @@ pub fn tell<R: Input + Drop, W: Output, O: Output>(
     // opening that a server can show to a watcher of the scope, and of posts that are due to it, each the next one of its
     // namespace, and a refusal; each of the posts was told, against the tables that those before it had led
     // to, and then the refusal was printed.
-    ensures told { OnOk result (IsTrue R.tells → IsTrue O.tells
-        → ((refusal : List ℕ) × HasRefused refusal (lines_left lines.old) (lines_left lines.new) × (O.written out.new ≡ O.written out.old ++ ended refusal))
+    ensures told { OnOk result (((refusal : List ℕ) × HasRefused refusal (known_lines lines.old) (known_lines lines.new) × Appends (O.contents out.old) (O.contents out.new) (ended refusal))
         ⊎ ((found : List MirrorView) × (portions : List (List PostView)) × (rest : List PostView) × (refusal : List ℕ)
-        × HasTold scope portions rest refusal (lines_left lines.old) (lines_left lines.new) found
-        × (O.written out.new ≡ O.written out.old ++ posts_told named.now found (all_posts portions rest) ++ ended refusal))) }
+        × HasTold scope portions rest refusal (known_lines lines.old) (known_lines lines.new) found
+        × Appends (O.contents out.old) (O.contents out.new) (posts_told named.now found (all_posts portions rest) ++ ended refusal))) }
 
     // Up to a fault nothing was printed, or what is told of posts that had come, from the first one on, each whole. Where
     // the output failed, a part of one more text was printed, that of a post that is due, or of lines that had come.
-    ensures broken { IsTrue R.tells → IsTrue O.tells → IfErr result
-        (λ fault. IsBrokenOff named.now fault scope (lines_left lines.old) (O.written out.old) (O.written out.new)) }
+    ensures broken { IfErr result
+        (λ fault. IsBrokenOff named.now fault scope (known_lines lines.old) (O.contents out.old) (O.contents out.new)) }
 
     // A part of the requests went out, that of the watcher and some for posts, and nothing else.
-    ensures part { IsTrue W.tells
-        → (times : ℕ) × IsSentPart (telling_text scope times) (W.written writer.old) (W.written writer.new) }
+    ensures part { (times : ℕ) × IsSentPart (telling_text scope times) (W.contents writer.old) (W.contents writer.new) }
 
     // `Connection` only where calls of the reader failed, or the lines do not begin with an opening of the scope, posts
     // that are due to it, each portion with its end, and a refusal, nor with a refusal in the place of the opening, or
     // where calls of the writer failed and no refusal comes first. Where no fault of the stream stood, the last call
     // failed then, or was the last of as many interrupted ones in succession as end a read or a send.
-    ensures connection { result ≡ Err ClientFault.Connection → IsTrue R.tells → IsTrue R.counts → IsTrue W.counts
+    ensures connection { result ≡ Err ClientFault.Connection → IsTrue R.counts → IsTrue W.counts
         → (HasBroken (W.failed writer.old) (W.failed writer.new) (W.faults writer.old) (W.faults writer.new) × IsCut IsOneRefusal lines.old lines.new) ⊎ IsCut (IsRefusedOr (IsTelling scope)) lines.old lines.new }
 
     // `Output` comes only where calls of the output failed. Where no fault of it stood, the last call failed then, or

@@ -3,7 +3,7 @@ ghost use Rattle.std.specs.Prelude.{◌≡◌, None, Ok, IfOk, IfErr, IfSome, On
 ghost use Rattle.mt_skel.specs.Keyed.{rises};
 ghost use Rattle.mt_lines.specs.Reading.{fault_of};
 ghost use Rattle.mt_events.specs.Posts.{ended};
-ghost use Rattle.mt_client.specs.Reading.{lines_left, IsSentPart, NoneFirst};
+ghost use Rattle.mt_client.specs.Reading.{known_lines, IsSentPart, NoneFirst};
 ghost use Rattle.mt_client.specs.Awaited.{IsOneRefusal, IsRefusedOr};
 ghost use Rattle.mt_client.specs.Finding.{mirror_space, watch_text, HasFound, IsFinding};
 ghost use Rattle.mt_client.specs.Calls.{ReadsOn, WritesOn, IsOut, IsTurnedAway, IsAskFault};
@@ -42,15 +42,13 @@ pub(crate) fn watch<R: Input + Drop, W: Output, O: Output>(
     out: &mut O,
 ) -> Result<Option<Vec<Mirror>>, ClientFault>
     requires fresh { fault_of lines.old ≡ None }
-    ensures found { IfOk result (λ found. IfSome found (λ parts. IsTrue R.tells
-        → HasFound scope (lines_left lines.old) (lines_left lines.new) parts.items)) }
-    ensures unrefused { IfOk result (λ found. IfSome found (λ parts. IsTrue R.tells → NoneFirst IsOneRefusal (lines_left lines.old))) }
+    ensures found { IfOk result (λ found. IfSome found (λ parts. HasFound scope (known_lines lines.old) (known_lines lines.new) parts.items)) }
+    ensures unrefused { IfOk result (λ found. IfSome found (λ parts. NoneFirst IsOneRefusal (known_lines lines.old))) }
     ensures sent { IfOk result (λ found. IfSome found (λ parts. IsOut W.Output (ended (watch_text scope)) writer.old writer.new)) }
     ensures unprinted { IfOk result (λ found. IfSome found (λ parts. out.new ≡ out.old)) }
     ensures rising { IfOk result (λ found. IfSome found (λ parts. IsTrue (rises mirror_space parts.items))) }
     ensures refused { result ≡ Ok None → IsTurnedAway W.Output O.Output (ended (watch_text scope)) lines.old lines.new writer.old writer.new out.old out.new }
-    ensures part { IsTrue W.tells
-        → IsSentPart (ended (watch_text scope)) (W.written writer.old) (W.written writer.new) }
+    ensures part { IsSentPart (ended (watch_text scope)) (W.contents writer.old) (W.contents writer.new) }
     ensures on { OnOk result (ReadsOn lines.old lines.new) }
     ensures prints { OnOk result (WritesOn O.Output out.old out.new) }
     ensures fault { IfErr result (λ fault. IsAskFault W.Output O.Output fault (IsRefusedOr (IsFinding scope)) lines.old lines.new writer.old writer.new out.old out.new) }

@@ -1,4 +1,4 @@
-//! Watchers of a desk: one that lags, one that keeps up, those after a stop, and as many as there may be.
+//! Watchers of a desk: one that lags, one that keeps up, watchers after a stop, and as many as there may be.
 ghost use Rattle.std.specs.Prelude.{◌≡◌};
 
 use crate::fixture::{are_done, commands_of};
@@ -21,7 +21,7 @@ mkfs d ext4 /dev/x
 mkdir a /m
 newns a";
 
-/// Two commands, each of which changes the table of namespace 1 after the other.
+/// Two commands, each of which changes the table of namespace 1 when it comes after the other.
 const TURNS: &[u8] = b"setattr 1 / set=ro
 setattr 1 / clr=ro";
 
@@ -41,7 +41,7 @@ fn number_of(post: Option<Arc<Post>>) -> u64 {
     }
 }
 
-/// Whether a watcher meets its desk so.
+/// Whether a meeting of a watcher with its desk tells this.
 pub(crate) fn meets<J: Naming>(
     desk: &mut Desk<J>,
     watcher: &mut Watcher<J>,
@@ -99,7 +99,7 @@ fn lags<J: Naming, R: Wait>(
     numbers == (2, 3, 0) && meets(desk, watcher, 2, 2, Phase::Lagged)
 }
 
-/// Whether a watcher takes the post of each command, where the first has this number.
+/// Whether a watcher takes the post of each command, if the first has this number.
 fn takes_each<J: Naming, R: Wait>(
     rt: &R,
     desk: &mut Desk<J>,
@@ -117,7 +117,7 @@ fn takes_each<J: Naming, R: Wait>(
     true
 }
 
-/// Whether a watcher with room for two posts never lags where it takes after each command.
+/// Whether a watcher with room for two posts never lags if it takes after each command.
 fn keeps_up<J: Naming, R: Wait>(
     rt: &R,
     desk: &mut Desk<J>,
@@ -154,7 +154,7 @@ fn stops<J: Naming, R: Wait>(
     refused && begins_not(desk, Fault::Stopped) && meets(desk, watcher, 1, 0, Phase::Ended)
 }
 
-/// Whether a watcher of namespace 1 is refused so.
+/// Whether a watcher of namespace 1 is refused for this reason.
 fn begins_not<J: Naming>(desk: &mut Desk<J>, wanted: Fault) -> bool {
     match desk.open(Scope::One(1)) {
         Ok(_) => false,
@@ -185,7 +185,7 @@ fn goes_well<J: Naming, R: Wait>(
     }
 }
 
-/// How many posts are left where a watcher is closed after a trial that goes as it should.
+/// How many posts are left when a watcher is closed after a trial that goes as it should.
 fn left_on<J: Naming, R: Wait>(
     rt: &R,
     alloc: Global,
@@ -256,7 +256,8 @@ fn all_lag<J: Naming>(desk: &mut Desk<J>, watchers: &mut Vec<Watcher<J>>) -> boo
     true
 }
 
-/// Whether 64 watchers are the most, those that lag too, and one more may begin once one is closed.
+/// Whether 64 watchers are the most, including those that lag, and one more may begin once one is
+/// closed.
 fn is_full_at_64<J: Naming, R: Wait>(rt: &R, alloc: Global, lines: Lines) -> Result<bool, Fault>
     requires { lines.lines ≡ J.lines }
 {

@@ -78,8 +78,8 @@ fn push_turn(alloc: Global, text: &mut Vec<u8>, book: &mut Book, line: &[u8]) ->
     push_answer(text, &answer)
 }
 
-/// What a book answers and posts to the commands of a text, each a line behind `> `: their lines, and below each its
-/// answer and its posts. Other lines of the text are not read.
+/// What a book answers and posts to the commands of a text, each a line after `> `: their lines, and below each line
+/// its answer and its posts. Other lines of the text are not read.
 pub(crate) fn played(alloc: Global, book: &mut Book, text: &[u8]) -> Result<Vec<u8>, Fault> {
     let mut told = Vec::new(alloc);
     for line in Pieces::new(b'\n', text) {

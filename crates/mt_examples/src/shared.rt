@@ -33,8 +33,8 @@ space 1 1 1
 1 1 0:1 / / rw,relatime - tmpfs none rw
 ";
 
-/// Whether a session whose writer fails behind the answer to `watch` is cut there, and has closed its watcher: as many may
-/// begin as there may be at all.
+/// Whether a session whose writer fails after the answer to `watch` is cut there, and has closed its watcher:
+/// afterwards as many may begin as there may be at all.
 fn leaves_no_watcher<J: Naming, R: Wait + Clock>(
     rt: &R,
     alloc: Global,

@@ -56,7 +56,7 @@ pub(crate) fn ended_by(answer: Result<(), ServerFault>) -> Ended {
     }
 }
 
-/// A listener at a path where there may be the socket of an earlier run.
+/// A listener at a path where the socket of an earlier run may be.
 pub(crate) fn listening<R: Files + Net>(rt: &R, path: &String) -> io::Result<UnixListener> {
     let _ = fs::remove_file(rt, path.as_str());
     UnixListener::bind(rt, path.as_str())
@@ -73,7 +73,7 @@ pub(crate) struct Plan {
     pub(crate) stopped: bool,
 }
 
-/// A door of which each accept fails.
+/// A door at which each accept fails.
 #[derive(Drop)]
 struct Failing;
 

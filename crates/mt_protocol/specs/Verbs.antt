@@ -42,7 +42,7 @@ verbs = Mkfs ∷ Mkdir ∷ Newns ∷ Copyns ∷ Dropns ∷ Mount ∷ Bind ∷ Rb
 unfoldable pub verb_of : List ℕ → Option Verb
 verb_of word = find (λ verb. bytes_eq (verb_word verb) word) verbs
 
--- which lines answer a line with the verb, where it is not refused
+-- which lines answer a line with the verb, if it is not refused
 abbrev pub verb_form : Verb → Form
 verb_form Mkfs = Number
 verb_form Mkdir = Done

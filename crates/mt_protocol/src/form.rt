@@ -21,14 +21,14 @@ pub enum Form {
     Opening,
     /// `ok` and a count, and as many lines as it says, of posts.
     Posts,
-    /// Posts, and behind them `ok` and how many they are, or a refusal.
+    /// Posts, and after them `ok` and how many there are, or a refusal.
     Followed,
     /// None: what has no verb is refused.
     Never,
 }
 
 impl Verb {
-    /// Which lines answer a line with the verb, where it is not refused.
+    /// Which lines answer a line with the verb, if it is not refused.
     pub fn form(self) -> Form
         ensures { result ≡ verb_form self }
     {

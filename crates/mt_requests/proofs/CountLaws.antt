@@ -38,7 +38,7 @@ of_parts : {v : Verb} {A : Type 0} (make : A → Request) (parts : Result A Faul
 of_parts make (Ok a) r e right = of_said (make a) r e (right a)
 of_parts make (Err f) r e right = cc
 
--- a count is at least one, and at most so many
+-- a count is at least one, and at most this many
 in_bounds : (n most k : ℕ) (low high : Bool) → nat_lt 0 n ≡ low → nat_le n most ≡ high → cond {A = Option ℕ} (low && high) (Some n) None ≡ Some k → (0 < k) × (k ≤ most)
 in_bounds n most k true true some most_is e = let same : n ≡ k = cc in (grind (arith, nat_tests), grind (arith, nat_tests))
 in_bounds n most k true false some most_is e = cc

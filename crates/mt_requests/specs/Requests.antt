@@ -20,7 +20,7 @@ use Rattle.mt_book.specs.declared.command.Command.TheVariants as command
 use Rattle.mt_requests.specs.declared.request.Request.{Request}
 use Rattle.mt_requests.specs.declared.request.Request.TheVariants as request
 
--- how many bytes a word stands for; none where it is empty, has a zero byte, or has a backslash that begins no escape
+-- how many bytes a word stands for; none if it is empty, has a zero byte, or has a backslash that begins no escape
 abbrev pub text_length : List ℕ → Option ℕ
 text_length word =
     if nat_eq (length word) 0 || list_any (λ b. b == 0) word then None else option_map (λ bytes. length bytes) (unescaped word)
@@ -33,7 +33,7 @@ label_fault word = option_map_or (λ n. refuse_if (nat_lt 255 n) TooLong) (text_
 abbrev pub label_bytes : List ℕ → List ℕ
 label_bytes word = unwrap_or (unescaped word) []
 
--- the components of a path stand between its slashes, behind the first; `/` alone has none
+-- the components of a path stand between its slashes, after the first; `/` alone has none
 abbrev pub components : List ℕ → List (List ℕ)
 components path = if bytes_eq path (codes "/") then [] else drop 1 (pieces 47 path)
 
@@ -41,11 +41,12 @@ components path = if bytes_eq path (codes "/") then [] else drop 1 (pieces 47 pa
 abbrev pub is_path : List ℕ → Bool
 is_path path = starts_with nat_eq path (codes "/") && list_all is_name (components path)
 
--- whether a piece between slashes, in front of them or behind them has more than 255 bytes
+-- whether a piece between slashes, before them or after them has more than 255 bytes
 abbrev pub has_long_piece : List ℕ → Bool
 has_long_piece path = list_any (λ piece. nat_lt 255 (length piece)) (pieces 47 path)
 
--- a word that stands for no text is a bad line, one of more than 4,095 bytes or with a long piece is too long, and any other is to be a path
+-- a word that stands for no text is a bad line, one of more than 4,095 bytes or with a long piece is too long, and any other has to
+-- be a path
 abbrev pub path_fault : List ℕ → Option Fault
 path_fault word =
     option_map_or (λ n. first_fault (refuse_if (nat_lt 4095 n || has_long_piece (label_bytes word)) TooLong
@@ -87,7 +88,7 @@ abbrev pub request_from : {A : Type 0} → (A → Request) → Result A Fault �
 request_from make (Ok said) = Ok (make said)
 request_from make (Err f) = Err f
 
--- what was read is what a line says, or want of memory in place of what is not refused
+-- what was read is what a line says, or want of memory instead of what is not refused
 abbrev pub Reads : {A : Type 0} → Result A Fault → Result A Fault → Type 0
 Reads said read = (read ≡ said) ⊎ ((read ≡ Err NoMemory) × (is_ok said ≡ true))
 
@@ -124,7 +125,7 @@ abbrev pub dropns_of : List (List ℕ) → Result Request Fault
 dropns_of (space ∷ []) = option_map_or (λ n. Ok (request.Run (command.DropSpace n))) (number_in_text space) (Err BadLine)
 dropns_of _ = Err BadLine
 
--- the namespace that a line names, and the two words behind it; without them, or with a bad number, it is a bad line, which comes
+-- the namespace that a line names, and the two words after it; without them, or with a bad number, it is a bad line, which comes
 -- before every other fault
 abbrev pub space_and_two : List (List ℕ) → Option (ℕ × List ℕ × List ℕ)
 space_and_two (space ∷ first ∷ second ∷ []) = option_map (λ n. (n, first, second)) (number_in_text space)
@@ -164,7 +165,7 @@ one_path_of _ = Err BadLine
 abbrev pub umount_of : List (List ℕ) → Result Request Fault
 umount_of words = request_from (λ (space, path). request.Run (command.Unmount space path)) (one_path_of words)
 
--- `detach NS PATH` unmounts with all below
+-- `detach NS PATH` unmounts a mount with all mounts below it
 abbrev pub detach_of : List (List ℕ) → Result Request Fault
 detach_of words = request_from (λ (space, path). request.Run (command.Detach space path)) (one_path_of words)
 
@@ -184,7 +185,7 @@ show_of _ = Err BadLine
 abbrev pub find_of : List (List ℕ) → Result Request Fault
 find_of words = request_from (λ (space, path). request.Find space path) (one_path_of words)
 
--- a line of one word asks for this, with nothing behind the word
+-- a line of one word asks for this, with nothing after the word
 abbrev pub one_word : Request → List (List ℕ) → Result Request Fault
 one_word r [] = Ok r
 one_word r _ = Err BadLine
@@ -203,7 +204,7 @@ most_taken = 1024
 abbrev pub most_followed : ℕ
 most_followed = 1048576
 
--- how many posts a word asks for, of at most so many and at least one
+-- how many posts a word asks for, of at most this many and at least one
 abbrev pub count_of : ℕ → List ℕ → Option ℕ
 count_of most word = option_map_or (λ n. if nat_lt 0 n && nat_le n most then Some n else None) (number_in_text word) None
 
@@ -223,7 +224,7 @@ HasRightCount (request.Take k) = (0 < k) × (k ≤ most_taken)
 HasRightCount (request.Follow k) = (0 < k) × (k ≤ most_followed)
 HasRightCount r = Unit {0}
 
--- how the words behind a verb are read; `close` ends the watcher, `quit` the session, and `stop` the server
+-- how the words after a verb are read; `close` ends the watcher, `quit` the session, and `stop` the server
 abbrev pub read_by : Verb → List (List ℕ) → Result Request Fault
 read_by verb.Mkfs = mkfs_of
 read_by verb.Mkdir = mkdir_of
@@ -247,7 +248,7 @@ read_by verb.Close = one_word request.Close
 read_by verb.Quit = one_word request.Quit
 read_by verb.Stop = one_word request.Stop
 
--- the verb of a line chooses how the words behind it are read; without one it is a bad line
+-- the verb of a line chooses how the words after it are read; without one it is a bad line
 abbrev pub by_words : List (List ℕ) → Result Request Fault
 by_words [] = Err BadLine
 by_words (word ∷ rest) = option_map_or (λ v. read_by v rest) (verb_of word) (Err BadLine)

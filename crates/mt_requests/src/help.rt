@@ -1,4 +1,4 @@
-//! The lines of a session in words, for the helps of programs.
+//! The lines of a session in words, for the help of programs.
 
 /// The lines of a session, each with what it does, and how they are answered. The last line has no line end.
 pub const LINES: &str = "\

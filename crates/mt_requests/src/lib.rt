@@ -1,10 +1,10 @@
-//! Requests, as the lines of a session say them.
+//! Requests, as the lines of a session give them.
 //!
 //! [`request::read_request`] takes the words of a line apart and makes a [`request::Request`] of
-//! them, or says why there is none.
+//! them, or says why that is impossible.
 //!
 //! Its words are read by [`label`] and [`path`], and those of a `setattr` line by [`options`]; [`watching`] reads the
-//! lines of watchers. [`help`] says all lines in words, and [`laws`] has what is true of them.
+//! lines of watchers. [`help`] describes all lines in words, and [`laws`] has what is true of them.
 #![tactic(auto)]
 
 pub mod help;

@@ -1,4 +1,4 @@
-//! Requests, as lines say them.
+//! Requests, as lines give them.
 ghost use Rattle.std.specs.Prelude.{◌≡◌, IfOk, None, Some, MatchOption};
 ghost use Rattle.mt_requests.specs.Requests.{ReadsAs, request_of, HasNoFault, prior_of_two, prior_fault, Reads, two_paths_of, mkfs_of, mkdir_of, newns_of, copy_said, copyns_of, dropns_of, space_and_two, mount_of, bind_of, move_of, pivot_of, one_path_of, umount_of, detach_of, setattr_of, show_of, find_of, one_word, read_by, HasRightCount};
 
@@ -25,9 +25,9 @@ pub enum Request {
     Find { space: u64, path: Names },
     /// `watch NS` begins a watcher of a namespace, and `watch all` one of all.
     Watch(Scope),
-    /// `take K` takes up to so many posts of the watcher, 1 to 1,024.
+    /// `take K` takes up to this many posts of the watcher, 1 to 1,024.
     Take(u64),
-    /// `follow K` takes so many posts of the watcher as they come, 1 to 1,048,576.
+    /// `follow K` takes this many posts of the watcher as they come, 1 to 1,048,576.
     Follow(u64),
     /// `close` ends the watcher.
     Close,
@@ -37,7 +37,7 @@ pub enum Request {
     Stop,
 }
 
-/// The fault of two words that is refused first.
+/// Of the faults of two words, the one that is refused first.
 fn prior_of_two(first: Option<Fault>, second: Option<Fault>) -> Option<Fault>
     ensures { result ≡ prior_of_two first second }
 {
@@ -51,7 +51,7 @@ fn prior_of_two(first: Option<Fault>, second: Option<Fault>) -> Option<Fault>
     }
 }
 
-/// The fault among those of a line's words that is refused first.
+/// Of the faults of a line's words, the one that is refused first.
 fn prior_fault(faults: &[Option<Fault>]) -> Option<Fault>
     ensures prior_fault { result ≡ prior_fault faults.now }
     ensures none { result ≡ None → HasNoFault faults.now }
@@ -63,7 +63,7 @@ fn prior_fault(faults: &[Option<Fault>]) -> Option<Fault>
     prior_fault
 }
 
-/// The request of a line `mkfs NAME TYPE SOURCE`, behind the first word.
+/// The request of a line `mkfs NAME TYPE SOURCE`, after the first word.
 fn read_mkfs(alloc: Global, words: &mut Words<'_>) -> Result<Request, Fault>
     ensures { ReadsAs (mkfs_of words.old) result }
 {
@@ -84,7 +84,7 @@ fn read_mkfs(alloc: Global, words: &mut Words<'_>) -> Result<Request, Fault>
     Ok(Request::Run(Command::MakeFs { name, kind, source }))
 }
 
-/// The request of a line `mkdir FS DIR`, behind the first word.
+/// The request of a line `mkdir FS DIR`, after the first word.
 fn read_mkdir(alloc: Global, words: &mut Words<'_>) -> Result<Request, Fault>
     ensures { ReadsAs (mkdir_of words.old) result }
 {
@@ -99,7 +99,7 @@ fn read_mkdir(alloc: Global, words: &mut Words<'_>) -> Result<Request, Fault>
     Ok(Request::Run(Command::MakeDir { fs, path }))
 }
 
-/// The request of a line `newns FS`, behind the first word.
+/// The request of a line `newns FS`, after the first word.
 fn read_newns(alloc: Global, words: &mut Words<'_>) -> Result<Request, Fault>
     ensures { ReadsAs (newns_of words.old) result }
 {
@@ -121,7 +121,7 @@ fn copy_said(space: &[u8], less: bool) -> Result<Request, Fault>
     Ok(Request::Run(Command::CopySpace { space, less }))
 }
 
-/// The request of a line `copyns NS` or `copyns NS less`, behind the first word.
+/// The request of a line `copyns NS` or `copyns NS less`, after the first word.
 fn read_copyns(words: &mut Words<'_>) -> Result<Request, Fault>
     ensures { result ≡ copyns_of words.old }
 {
@@ -138,7 +138,7 @@ fn read_copyns(words: &mut Words<'_>) -> Result<Request, Fault>
     }
 }
 
-/// The request of a line `dropns NS`, behind the first word.
+/// The request of a line `dropns NS`, after the first word.
 fn read_dropns(words: &mut Words<'_>) -> Result<Request, Fault>
     ensures { result ≡ dropns_of words.old }
 {
@@ -149,8 +149,8 @@ fn read_dropns(words: &mut Words<'_>) -> Result<Request, Fault>
     Ok(Request::Run(Command::DropSpace { space }))
 }
 
-/// The namespace that a line names, and the two words behind it. None where these are not three words, or the first is
-/// no number.
+/// The namespace that a line names, and the two words after it. `None` if these are not three words, or the first is
+/// not a number.
 fn space_and_two<'a>(words: &mut Words<'a>) -> Option<(u64, &'a [u8], &'a [u8])>
     ensures { MatchOption result (space_and_two words.old ≡ None) (λ (space, first, second). space_and_two words.old ≡ Some (space, first.now, second.now)) }
 {
@@ -165,7 +165,7 @@ fn space_and_two<'a>(words: &mut Words<'a>) -> Option<(u64, &'a [u8], &'a [u8])>
     Some((number(space)?, first, second))
 }
 
-/// The request of a line `mount NS FS PATH`, behind the first word.
+/// The request of a line `mount NS FS PATH`, after the first word.
 fn read_mount(alloc: Global, words: &mut Words<'_>) -> Result<Request, Fault>
     ensures { ReadsAs (mount_of words.old) result }
 {
@@ -178,7 +178,7 @@ fn read_mount(alloc: Global, words: &mut Words<'_>) -> Result<Request, Fault>
     Ok(Request::Run(Command::Mount { space, fs, path }))
 }
 
-/// The namespace and the two paths of a line, behind its first word.
+/// The namespace and the two paths of a line, after its first word.
 fn read_two_paths(alloc: Global, words: &mut Words<'_>) -> Result<(u64, Names, Names), Fault>
     ensures { Reads (two_paths_of words.old) result }
 {
@@ -191,7 +191,7 @@ fn read_two_paths(alloc: Global, words: &mut Words<'_>) -> Result<(u64, Names, N
     Ok((space, src, dst))
 }
 
-/// The request of a line `bind NS SRC DST`, or with `deep` of a line `rbind NS SRC DST`, behind the
+/// The request of a line `bind NS SRC DST`, or with `deep` of a line `rbind NS SRC DST`, after the
 /// first word.
 fn read_bind(alloc: Global, words: &mut Words<'_>, deep: bool) -> Result<Request, Fault>
     ensures { ReadsAs (bind_of deep words.old) result }
@@ -205,7 +205,7 @@ fn read_bind(alloc: Global, words: &mut Words<'_>, deep: bool) -> Result<Request
     }))
 }
 
-/// The request of a line `move NS SRC DST`, behind the first word.
+/// The request of a line `move NS SRC DST`, after the first word.
 fn read_move(alloc: Global, words: &mut Words<'_>) -> Result<Request, Fault>
     ensures { ReadsAs (move_of words.old) result }
 {
@@ -213,7 +213,7 @@ fn read_move(alloc: Global, words: &mut Words<'_>) -> Result<Request, Fault>
     Ok(Request::Run(Command::Move { space, src, dst }))
 }
 
-/// The request of a line `pivot NS NEW OLD`, behind the first word.
+/// The request of a line `pivot NS NEW OLD`, after the first word.
 fn read_pivot(alloc: Global, words: &mut Words<'_>) -> Result<Request, Fault>
     ensures { ReadsAs (pivot_of words.old) result }
 {
@@ -221,7 +221,7 @@ fn read_pivot(alloc: Global, words: &mut Words<'_>) -> Result<Request, Fault>
     Ok(Request::Run(Command::Pivot { space, new, old }))
 }
 
-/// The namespace and the path of a line, behind its first word.
+/// The namespace and the path of a line, after its first word.
 fn read_one_path(alloc: Global, words: &mut Words<'_>) -> Result<(u64, Names), Fault>
     ensures { Reads (one_path_of words.old) result }
 {
@@ -236,7 +236,7 @@ fn read_one_path(alloc: Global, words: &mut Words<'_>) -> Result<(u64, Names), F
     Ok((space, path))
 }
 
-/// The request of a line `umount NS PATH`, behind the first word.
+/// The request of a line `umount NS PATH`, after the first word.
 fn read_umount(alloc: Global, words: &mut Words<'_>) -> Result<Request, Fault>
     ensures { ReadsAs (umount_of words.old) result }
 {
@@ -244,7 +244,7 @@ fn read_umount(alloc: Global, words: &mut Words<'_>) -> Result<Request, Fault>
     Ok(Request::Run(Command::Unmount { space, path }))
 }
 
-/// The request of a line `detach NS PATH`, behind the first word.
+/// The request of a line `detach NS PATH`, after the first word.
 fn read_detach(alloc: Global, words: &mut Words<'_>) -> Result<Request, Fault>
     ensures { ReadsAs (detach_of words.old) result }
 {
@@ -252,7 +252,7 @@ fn read_detach(alloc: Global, words: &mut Words<'_>) -> Result<Request, Fault>
     Ok(Request::Run(Command::Detach { space, path }))
 }
 
-/// The request of a line `setattr NS PATH` with its options, behind the first word.
+/// The request of a line `setattr NS PATH` with its options, after the first word.
 fn read_setattr(alloc: Global, words: &mut Words<'_>) -> Result<Request, Fault>
     ensures { ReadsAs (setattr_of words.old) result }
 {
@@ -272,7 +272,7 @@ fn read_setattr(alloc: Global, words: &mut Words<'_>) -> Result<Request, Fault>
     }))
 }
 
-/// The request of a line `show NS`, behind the first word.
+/// The request of a line `show NS`, after the first word.
 fn read_show(words: &mut Words<'_>) -> Result<Request, Fault>
     ensures { result ≡ show_of words.old }
 {
@@ -283,7 +283,7 @@ fn read_show(words: &mut Words<'_>) -> Result<Request, Fault>
     Ok(Request::Show(space))
 }
 
-/// The request of a line `find NS PATH`, behind the first word.
+/// The request of a line `find NS PATH`, after the first word.
 fn read_find(alloc: Global, words: &mut Words<'_>) -> Result<Request, Fault>
     ensures { ReadsAs (find_of words.old) result }
 {
@@ -291,7 +291,7 @@ fn read_find(alloc: Global, words: &mut Words<'_>) -> Result<Request, Fault>
     Ok(Request::Find { space, path })
 }
 
-/// The request of a line of one word, behind it.
+/// The request of a line of one word, after it.
 pub(crate) fn read_one_word(words: &mut Words<'_>, request: Request) -> Result<Request, Fault>
     ensures { result ≡ one_word request words.old }
 {
@@ -301,7 +301,7 @@ pub(crate) fn read_one_word(words: &mut Words<'_>, request: Request) -> Result<R
     }
 }
 
-/// The request of a line with a verb, behind its first word.
+/// The request of a line with a verb, after its first word.
 fn read_by(alloc: Global, verb: Verb, words: &mut Words<'_>) -> Result<Request, Fault>
     ensures { ReadsAs (read_by verb words.old) result }
 {
@@ -345,13 +345,12 @@ fn read_line(alloc: Global, line: &[u8]) -> Result<Request, Fault>
     read_by(alloc, verb, &mut words)
 }
 
-/// The request that a line says. The line is without its end.
+/// The request that a line makes. The line is without its end.
 ///
-/// Refused as `BadLine` where the line is none of the requests, or one of its words cannot stand
-/// there; else as `TooLong` where a label or a component of a path has more than 255 bytes, or a
-/// path more than 4,095; else as `BadPath` where a path does not begin with `/`, or has a component
-/// that is empty, `.` or `..`. Refusals, `quit`, `stop` and the lines of watchers are found without memory; every
-/// other request may be `NoMemory` in its place.
+/// Refused as `BadLine` if the line is not a request, or one of its words is not allowed there; otherwise as `TooLong`
+/// if a label or a component of a path has more than 255 bytes, or a path more than 4,095; otherwise as `BadPath` if a
+/// path does not begin with `/`, or has a component that is empty, `.` or `..`. Refusals, `quit`, `stop` and the lines
+/// of watchers are found without memory; instead of any other request the answer may be `NoMemory`.
 pub fn read_request(alloc: Global, line: &[u8]) -> Result<Request, Fault>
     ensures read { ReadsAs (request_of line.now) result }
     ensures counted { IfOk result HasRightCount }

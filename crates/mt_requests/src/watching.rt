@@ -13,7 +13,7 @@ const MOST_TAKEN: u64 = 1_024;
 /// The most posts of one `follow`.
 const MOST_FOLLOWED: u64 = 1_048_576;
 
-/// The request of a line `watch NS` or `watch all`, behind the first word.
+/// The request of a line `watch NS` or `watch all`, after the first word.
 pub(crate) fn read_watch(words: &mut Words<'_>) -> Result<Request, Fault>
     ensures { result ≡ watch_of words.old }
 {
@@ -27,7 +27,7 @@ pub(crate) fn read_watch(words: &mut Words<'_>) -> Result<Request, Fault>
     Ok(Request::Watch(Scope::One(space)))
 }
 
-/// How many posts a word asks for, of at most so many and at least one.
+/// How many posts a word asks for, at least one and at most this many.
 fn count_of(word: &[u8], most: u64) -> Option<u64>
     ensures { result ≡ count_of most word.now }
 {
@@ -39,7 +39,7 @@ fn count_of(word: &[u8], most: u64) -> Option<u64>
     }
 }
 
-/// The request of a line `take K`, behind the first word.
+/// The request of a line `take K`, after the first word.
 pub(crate) fn read_take(words: &mut Words<'_>) -> Result<Request, Fault>
     ensures { result ≡ take_of words.old }
 {
@@ -50,7 +50,7 @@ pub(crate) fn read_take(words: &mut Words<'_>) -> Result<Request, Fault>
     Ok(Request::Take(count))
 }
 
-/// The request of a line `follow K`, behind the first word.
+/// The request of a line `follow K`, after the first word.
 pub(crate) fn read_follow(words: &mut Words<'_>) -> Result<Request, Fault>
     ensures { result ≡ follow_of words.old }
 {

@@ -7,7 +7,7 @@ use Rattle.mt_client.proofs.CallLaws.{handed_on, fault_as, passes_as, passes_beh
 use Rattle.mt_client.proofs.block.pass_block.Goals as goal
 
 pub returns-in_err-next_text-clause-fault : goal.returns-in_err-next_text-clause-fault
-returns-in_err-next_text-clause-fault g c = handed_on _ _ _ c.from_residual.ensures.1 (pass_unprinted (fault_as (λ t. block_needs_line c.args.block _) (λ b. b) c.in_err-next_text.ensures.fault))
+returns-in_err-next_text-clause-fault g c = handed_on _ _ _ c.from_residual.ensures.1 (pass_unprinted (fault_as (block_needs_line c.args.block _) (λ b. b) c.in_err-next_text.ensures.fault))
 
 pub returns-in-Namespace-clause-passed : goal.returns-in-Namespace-clause-passed
 returns-in-Namespace-clause-passed g c =
@@ -15,7 +15,7 @@ returns-in-Namespace-clause-passed g c =
 
 pub returns-in-Namespace-clause-fault : goal.returns-in-Namespace-clause-fault
 returns-in-Namespace-clause-fault g c =
-    IfErr-weaker c.pass_part.result _ _ (λ f q. pass_fault_inner c.in_ok-next_text.ensures.read (block_read c.args.block Namespace _ _ (sym c.in-Namespace.is) c.in_ok-next_text.ensures.read.came) q) c.pass_part.ensures.fault
+    IfErr-weaker c.pass_part.result _ _ (λ f q. pass_fault_inner c.in_ok-next_text.ensures.read (block_read c.args.block Namespace (sym c.in-Namespace.is) c.in_ok-next_text.ensures.read.came) q) c.pass_part.ensures.fault
 
 pub returns-in-Post-clause-passed : goal.returns-in-Post-clause-passed
 returns-in-Post-clause-passed g c =
@@ -23,4 +23,4 @@ returns-in-Post-clause-passed g c =
 
 pub returns-in-Post-clause-fault : goal.returns-in-Post-clause-fault
 returns-in-Post-clause-fault g c =
-    IfErr-weaker c.pass_post.result _ _ (λ f q. pass_fault_inner c.in_ok-next_text.ensures.read (block_read c.args.block Post _ _ (sym c.in-Post.is) c.in_ok-next_text.ensures.read.came) q) c.pass_post.ensures.fault
+    IfErr-weaker c.pass_post.result _ _ (λ f q. pass_fault_inner c.in_ok-next_text.ensures.read (block_read c.args.block Post (sym c.in-Post.is) c.in_ok-next_text.ensures.read.came) q) c.pass_post.ensures.fault

@@ -1,5 +1,5 @@
-use Rattle.std.proofs.Common.{[], IsTrue}
-use Rattle.mt_client.specs.Reading.{lines_left}
+use Rattle.std.proofs.Common.{[]}
+use Rattle.mt_client.specs.Reading.{known_lines}
 use Rattle.mt_client.specs.Calls.{PassesOn}
 use Rattle.mt_client.proofs.EndingLaws.{AreSoFar, blocks_of}
 use Rattle.mt_client.proofs.SeriesLaws.{CameInLines}
@@ -8,7 +8,7 @@ use Rattle.mt_client.proofs.block.pass_blocks.Given as goal
 -- blocks of all but the lines that are left were passed on
 abbrev pub invariant-passing : goal.invariant-passing
 invariant-passing g l = record {
-  goes : IsTrue g.R.Input.tells → CameInLines (blocks_of l.initial.block) l.initial.count l.left tt tt (lines_left l.initial.lines) (lines_left l.lines);
+  goes : CameInLines (blocks_of l.initial.block) l.initial.count l.left tt tt (known_lines l.initial.lines) (known_lines l.lines);
   passed : PassesOn g.O.Output [] (AreSoFar l.initial.block l.initial.count l.left) l.initial.lines l.lines l.initial.out l.out;
 }
 

@@ -2,23 +2,26 @@ use Rattle.std.proofs.Common.{Err, ◌++◌, ap, refl, ◌∙◌}
 use Rattle.mt_events.specs.Posts.{ended}
 use Rattle.mt_lines.specs.Reading.{last_line}
 use Rattle.mt_client.proofs.EndingLaws.{post_made, post_needs_count, post_needs_lines, post_needs_text}
-use Rattle.mt_client.proofs.CallLaws.{out_as, appended_of, text_whole, handed_on, fault_as, fault_checked, fault_refused, pass_unprinted, pass_fault_printing}
+use Rattle.mt_client.proofs.CallLaws.{out_as, appended_of, text_whole, handed_on, fault_as, fault_checked, fault_refused, fault_no_memory, pass_unprinted, pass_fault_printing}
 use Rattle.mt_client.proofs.block.pass_post.Goals as goal
 
 pub returns-in_default-clause-fault : goal.returns-in_default-clause-fault
-returns-in_default-clause-fault g c = pass_unprinted (fault_refused refl (λ t. post_needs_count _ _ (rw c.line.ensures at c.in_default.ensures)))
+returns-in_default-clause-fault g c = pass_unprinted (fault_refused refl (post_needs_count _ _ (rw c.line.ensures at c.in_default.ensures)))
+
+pub returns-in_err-push_line-clause-fault : goal.returns-in_err-push_line-clause-fault
+returns-in_err-push_line-clause-fault g c = handed_on _ _ _ c.from_residual.ensures.1 (pass_unprinted fault_no_memory)
 
 pub returns-in_err-push_lines-clause-fault : goal.returns-in_err-push_lines-clause-fault
 returns-in_err-push_lines-clause-fault g c =
     handed_on _ _ _ c.from_residual-in_err-push_lines.ensures.1
-    (pass_unprinted (fault_as (λ t. post_needs_lines c.in-Some.count _ _ (rw c.line.ensures at c.in-Some.ensures)) (λ b. b) c.in_err-push_lines.ensures.fault))
+    (pass_unprinted (fault_as (post_needs_lines c.in-Some.count _ _ (rw c.line.ensures at c.in-Some.ensures)) (λ b. b) c.in_err-push_lines.ensures.fault))
 
 pub returns-in_err-read_text-clause-fault : goal.returns-in_err-read_text-clause-fault
 returns-in_err-read_text-clause-fault g c =
     let begun = c.in_ok-push_line.ensures ∙ (λ i. c.new-text.ensures.items i ++ ended (c.line-2.ensures i)) in
     handed_on _ _ _ c.from_residual-in_err-read_text.ensures.1
     (pass_unprinted (fault_checked c.in_ok-push_lines.ensures.text.2.on.limit
-    (λ e t. post_needs_text c.in-Some.count _ _ _ c.push_lines.new.text.items c.push_line.new.text.items (rw c.line.ensures at c.in-Some.ensures) begun (appended_of _ _ _ _ _ c.in_ok-push_lines.ensures.text t)
+    (λ e. post_needs_text c.in-Some.count _ _ _ c.push_lines.new.text.items c.push_line.new.text.items (rw c.line.ensures at c.in-Some.ensures) begun (appended_of _ _ _ _ _ c.in_ok-push_lines.ensures.text)
     (λ post valid is. c.in_err-read_text.ensures.refused (ap Err e) post valid (c.deref.ensures.value ∙ is)))
     (λ e. c.in_err-read_text.ensures.kind (ap Err e))))
 

@@ -13,7 +13,7 @@ rows-preserved g c = record { passed = passes_both (rows_join c.rows._row c.rows
 pub returns-in_err-pass_row-clause-fault : goal.returns-in_err-pass_row-clause-fault
 returns-in_err-pass_row-clause-fault g c =
     let p = c.rows.invariant.passed in
-    handed_on _ _ _ c.from_residual.ensures.1 (pass_fault_behind p.read p.out (λ t. rows_ended c.rows._row c.args.count c.rows.last _ _ (passes_read p t) c.rows-test.true) c.in_err-pass_row.ensures.fault)
+    handed_on _ _ _ c.from_residual.ensures.1 (pass_fault_behind p.read p.out (rows_ended c.rows._row c.args.count c.rows.last _ _ (passes_read p) c.rows-test.true) c.in_err-pass_row.ensures.fault)
 
 pub returns-clause-passed : goal.returns-clause-passed
 returns-clause-passed g c =

@@ -1,6 +1,6 @@
 use Rattle.std.proofs.Common.{◌≡◌, ℕ, ◌+◌, IsTrue}
 use Rattle.mt_skel.specs.Keyed.{rises}
-use Rattle.mt_client.specs.Reading.{lines_left}
+use Rattle.mt_client.specs.Reading.{known_lines}
 use Rattle.mt_client.specs.Calls.{ReadsOn, WritesOn}
 use Rattle.mt_client.specs.Finding.{mirror_space}
 use Rattle.mt_client.specs.Effects.{HasToldLines}
@@ -14,8 +14,8 @@ invariant-telling g l = record {
   on : ReadsOn l.initial.lines l.lines;
   prints : WritesOn g.O.Output l.initial.out l.out;
   rising : IsTrue (rises mirror_space l.mirrors.items);
-  coming : IsTrue g.R.Input.tells → CameInLines posts_due l.initial.count l.left l.initial.mirrors.items l.mirrors.items (lines_left l.initial.lines) (lines_left l.lines);
-  told : IsTrue g.R.Input.tells → IsTrue g.O.Output.tells → (k : ℕ) × (k + l.left ≡ l.initial.count) × HasToldLines l.initial.named k l.initial.mirrors.items l.mirrors.items (lines_left l.initial.lines) (lines_left l.lines) (g.O.Output.written l.initial.out) (g.O.Output.written l.out);
+  coming : CameInLines posts_due l.initial.count l.left l.initial.mirrors.items l.mirrors.items (known_lines l.initial.lines) (known_lines l.lines);
+  told : (k : ℕ) × (k + l.left ≡ l.initial.count) × HasToldLines l.initial.named k l.initial.mirrors.items l.mirrors.items (known_lines l.initial.lines) (known_lines l.lines) (g.O.Output.contents l.initial.out) (g.O.Output.contents l.out);
 }
 
 abbrev pub decreases-telling : goal.decreases-telling

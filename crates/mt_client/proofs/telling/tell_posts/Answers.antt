@@ -1,4 +1,5 @@
-use Rattle.std.proofs.Common.{rules, ◌≡◌, Ok, ap, refl, arith, inl}
+use Rattle.std.proofs.Common.{rules, ◌≡◌, Ok, ap, arith, inl}
+use Rattle.std.proofs.KnownBytes.{Keeps-refl}
 use Rattle.std.proofs.lemmas.Bool.{MatchBool-at_true, MatchBool-at_false}
 use Rattle.std.proofs.lemmas.Result.{IfOk-weaker, IfErr-weaker, on_ok_weaker, MatchResult-at_ok}
 use Rattle.mt_client.proofs.TellingLaws.{unsaid_of, none_yet, some_more, portion_whole, all_few, up_to_some}
@@ -14,41 +15,41 @@ posts-init g c = record {
   on = read_still _ c.requires.fresh;
   prints = writes_still g.O.Output _;
   rising = c.requires.rising;
-  goes = λ t. came_at_first (up_to (due_to c.args.scope) (counted_line c.args.count) c.args.count) c.args.mirrors.now.items _;
-  told = λ t u. none_yet;
+  goes = came_at_first (up_to (due_to c.args.scope) (counted_line c.args.count) c.args.count) c.args.mirrors.now.items _;
+  told = none_yet;
 }
 
 pub returns-in_err-tell_post-clause-broken : goal.returns-in_err-tell_post-clause-broken
-returns-in_err-tell_post-clause-broken g c t u = handed_on _ _ _ c.from_residual.ensures.1 (up_to_some (omega (arith, c.posts-test.true)) (c.posts.invariant.told t u) (c.in_err-tell_post.ensures.broken t u))
+returns-in_err-tell_post-clause-broken g c = handed_on _ _ _ c.from_residual.ensures.1 (up_to_some (omega (arith, c.posts-test.true)) c.posts.invariant.told c.in_err-tell_post.ensures.broken)
 
 pub returns-then-not-branch-clause-told : goal.returns-then-not-branch-clause-told
-returns-then-not-branch-clause-told g c t u =
-    all_few (omega (arith, c.posts-test.true)) (c.posts.invariant.told t u) (MatchBool-at_false _ _ c.if-not-branch.true (c.in_ok-tell_post.ensures.told t u))
+returns-then-not-branch-clause-told g c =
+    all_few (omega (arith, c.posts-test.true)) c.posts.invariant.told (MatchBool-at_false _ _ c.if-not-branch.true c.in_ok-tell_post.ensures.told)
 
 pub posts-preserved : goal.posts-preserved
 posts-preserved g c = record {
-  goes = λ t. posts_more (due_to c.args.scope) (counted_line c.args.count) c.args.count c.posts._post _ _ _ _ _ _ c.posts-test.true (c.posts.invariant.goes t) (c.in_ok-tell_post.ensures.unrefused (ap Ok c.if-not-branch.false) t) (c.in_ok-tell_post.ensures.applied (ap Ok c.if-not-branch.false) t);
+  goes = posts_more (due_to c.args.scope) (counted_line c.args.count) c.args.count c.posts._post _ _ _ _ _ _ c.posts-test.true c.posts.invariant.goes (c.in_ok-tell_post.ensures.unrefused (ap Ok c.if-not-branch.false)) (c.in_ok-tell_post.ensures.applied (ap Ok c.if-not-branch.false));
   on = reads_both c.posts.invariant.on c.in_ok-tell_post.ensures.on;
   prints = writes_both c.posts.invariant.prints c.in_ok-tell_post.ensures.prints;
   rising = c.in_ok-tell_post.ensures.rising;
-  told = λ t u. some_more (c.posts.invariant.told t u) (MatchBool-at_true _ _ c.if-not-branch.false (c.in_ok-tell_post.ensures.told t u));
+  told = some_more c.posts.invariant.told (MatchBool-at_true _ _ c.if-not-branch.false c.in_ok-tell_post.ensures.told);
 }
 
 pub returns-in_err-tell_post-clause-fault : goal.returns-in_err-tell_post-clause-fault
 returns-in_err-tell_post-clause-fault g c =
     handed_on _ _ _ c.from_residual.ensures.1
-    (fault_behind c.posts.invariant.on (λ t. posts_cut (due_to c.args.scope) (counted_line c.args.count) c.args.count c.posts._post _ _ _ _ (due_posts c.args.count c.args.scope _) c.posts-test.true (c.posts.invariant.goes t)) (breaks_later c.posts.invariant.prints) c.in_err-tell_post.ensures.fault)
+    (fault_behind c.posts.invariant.on (posts_cut (due_to c.args.scope) (counted_line c.args.count) c.args.count c.posts._post _ _ _ _ (due_posts c.args.count c.args.scope _) c.posts-test.true c.posts.invariant.goes) (breaks_later c.posts.invariant.prints) c.in_err-tell_post.ensures.fault)
 
 pub returns : goal.returns
 returns g c =
     let h = c.posts.invariant in
     let all : c.posts._post ≡ c.args.count = search rules in
     record {
-      told = IfOk-weaker c.read_end.result _ _ (λ going e t u. match_bool going (portion_whole all (h.told t u)) (λ r. all_few (omega (arith, all)) (h.told t u) (refl, r)) (e t)) c.read_end.ensures.ended;
+      told = IfOk-weaker c.read_end.result _ _ (λ going e. match_bool going (portion_whole all h.told) (λ r. all_few (omega (arith, all)) h.told (Keeps-refl _, r)) e) c.read_end.ensures.ended;
       rising = search rules;
-      broken = λ t u. IfErr-weaker c.read_end.result _ _ (λ f q. up_to_some (omega (arith, all)) (h.told t u) (inl (unsaid_of f _ _ _ (unprinted f _ _ q.cause) (λ other. refl)))) c.read_end.ensures.fault;
-      applied = λ is t. posts_whole c.args.count c.posts._post c.args.scope _ _ _ _ _ c.posts-test.false (h.goes t) (c.read_end.ensures.unrefused is t) (MatchResult-at_ok _ _ _ is c.read_end.ensures.ended t);
+      broken = IfErr-weaker c.read_end.result _ _ (λ f q. up_to_some (omega (arith, all)) h.told (inl (unsaid_of f _ _ _ (unprinted f _ _ _ q.cause (Keeps-refl _)) (λ other. Keeps-refl _)))) c.read_end.ensures.fault;
+      applied = λ is. posts_whole c.args.count c.posts._post c.args.scope _ _ _ _ _ c.posts-test.false h.goes (c.read_end.ensures.unrefused is) (MatchResult-at_ok _ _ _ is c.read_end.ensures.ended);
       on = on_ok_weaker c.read_end.result (λ q. reads_both h.on q) c.read_end.ensures.on;
       prints = search rules;
-      fault = IfErr-weaker c.read_end.result _ _ (λ f q. fault_behind h.on (λ t. posts_to_end (due_to c.args.scope) c.args.count c.posts._post _ _ _ _ (due_posts c.args.count c.args.scope _) c.posts-test.false (h.goes t)) (λ no. absurd no) q) c.read_end.ensures.fault;
+      fault = IfErr-weaker c.read_end.result _ _ (λ f q. fault_behind h.on (posts_to_end (due_to c.args.scope) c.args.count c.posts._post _ _ _ _ (due_posts c.args.count c.args.scope _) c.posts-test.false h.goes) (λ no. absurd no) q) c.read_end.ensures.fault;
     }

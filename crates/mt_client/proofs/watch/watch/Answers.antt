@@ -1,4 +1,5 @@
 use Rattle.std.proofs.Common.{rules, refl, sym, ap, subst, ◌∙◌, inl, inr, [], ◌∷◌}
+use Rattle.std.proofs.KnownBytes.{Keeps-refl}
 use Rattle.std.proofs.lemmas.Option.{MatchOption-at_none, MatchOption-at_some}
 use Rattle.mt_events.specs.Posts.{ended}
 use Rattle.mt_client.specs.Calls.{WritesOn, AreRead}
@@ -23,30 +24,30 @@ returns-then-not-branch-clause-refused g c is = let p = c.send_request.ensures.p
 pub returns-in_err-parts-clause-fault : goal.returns-in_err-parts-clause-fault
 returns-in_err-parts-clause-fault g c =
     rw (c.send_request.ensures.unprinted (search rules))
-    (handed_on _ _ _ c.from_residual-in_err-parts.ensures.1 (ask_fault_passing (λ other u. refl) (pass_unprinted (rw (c.send_request.ensures.unread (search rules)) at c.in_err-parts.ensures.fault))))
+    (handed_on _ _ _ c.from_residual-in_err-parts.ensures.1 (ask_fault_passing (λ other. Keeps-refl _) (pass_unprinted (rw (c.send_request.ensures.unread (search rules)) at c.in_err-parts.ensures.fault))))
 
 pub returns-in_err-print_line-clause-fault : goal.returns-in_err-print_line-clause-fault
 returns-in_err-print_line-clause-fault g c =
     let read : AreRead (last_line c.read_found.new.lines ∷ []) c.args.lines.now c.read_found.new.lines = record {
       on = rw (c.send_request.ensures.unread (search rules)) at c.in_ok-parts.ensures.on;
-      came = λ t. let r = rw (c.send_request.ensures.unread (search rules)) at (MatchOption-at_none {o = c.in_ok-parts.field-0} _ _ (search rules) (c.in_ok-parts.ensures.found t)) in r.read;
+      came = let r = rw (c.send_request.ensures.unread (search rules)) at (MatchOption-at_none {o = c.in_ok-parts.field-0} _ _ (search rules) c.in_ok-parts.ensures.found) in r.read;
     } in
     handed_on _ _ _ c.from_residual-in_err-print_line.ensures.1
-    (ask_fault_passing (λ other u. absurd (other c.in_err-print_line.ensures.part.0))
+    (ask_fault_passing (λ other. absurd (other c.in_err-print_line.ensures.part.0))
     (pass_fault_printing read (line_text _ _ c.line.ensures) (rw (c.send_request.ensures.unprinted (search rules)) at c.in_err-print_line.ensures.part)))
 
 pub returns-in_default-clause-refused : goal.returns-in_default-clause-refused
 returns-in_default-clause-refused g c is = record {
-  refused = λ t. rw (c.send_request.ensures.unread (search rules)) at (MatchOption-at_none {o = c.in_ok-parts.field-0} _ _ (search rules) (c.in_ok-parts.ensures.found t));
+  refused = rw (c.send_request.ensures.unread (search rules)) at (MatchOption-at_none {o = c.in_ok-parts.field-0} _ _ (search rules) c.in_ok-parts.ensures.found);
   out = out_as (ap ended c.line.ensures) (rw (c.send_request.ensures.unprinted (search rules)) at c.in_ok-print_line.ensures.out);
   gone = inl (out_as (c.as_slice.ensures.value ∙ c.in_ok-line.ensures) (c.send_request.ensures.sent (search rules)));
 }
 
 pub returns-clause-found : goal.returns-clause-found
-returns-clause-found g c t = rw (c.send_request.ensures.unread (search rules)) at (MatchOption-at_some {o = c.in_ok-parts.field-0} _ _ c.in-Some.parts (search rules) (c.in_ok-parts.ensures.found t))
+returns-clause-found g c = rw (c.send_request.ensures.unread (search rules)) at (MatchOption-at_some {o = c.in_ok-parts.field-0} _ _ c.in-Some.parts (search rules) c.in_ok-parts.ensures.found)
 
 pub returns-clause-unrefused : goal.returns-clause-unrefused
-returns-clause-unrefused g c t = rw (c.send_request.ensures.unread (search rules)) at (MatchOption-at_some {o = c.in_ok-parts.field-0} _ _ c.in-Some.parts (search rules) (c.in_ok-parts.ensures.unrefused t))
+returns-clause-unrefused g c = rw (c.send_request.ensures.unread (search rules)) at (MatchOption-at_some {o = c.in_ok-parts.field-0} _ _ c.in-Some.parts (search rules) c.in_ok-parts.ensures.unrefused)
 
 pub returns-clause-sent : goal.returns-clause-sent
 returns-clause-sent g c = out_as (c.as_slice.ensures.value ∙ c.in_ok-line.ensures) (c.send_request.ensures.sent (search rules))
