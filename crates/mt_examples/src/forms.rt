@@ -174,7 +174,7 @@ const SLIPS: [(&[u8], &str); 27] = [
     (b"mount --bind=1 /a /b", "--bind=1: mount takes no value"),
     (
         b"mount t /a -o",
-        "mount: a value is missing behind the last option",
+        "mount: a value is missing after the last option",
     ),
     (
         b"umount -a",
@@ -199,7 +199,7 @@ const SLIPS: [(&[u8], &str); 27] = [
     ),
     (
         b"nsenter -t 2 -m",
-        "nsenter takes a command behind its options",
+        "nsenter takes a command after its options",
     ),
 ];
 
@@ -311,7 +311,7 @@ fn slips_are_told(rt: HostRuntime) -> Result<(), Fail> {
     Ok(())
 }
 
-/// Whether a line is asked for with this first option of a filesystem, others behind it, and by force.
+/// Whether a line is asked for with this first option of a filesystem, others after it, and by force.
 fn is_told(
     alloc: Global,
     words: &[&str],

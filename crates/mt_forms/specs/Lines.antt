@@ -45,7 +45,7 @@ is_own_line PivotRoot words = false
 abbrev pub asked_without : Operation → Asked
 asked_without operation = record { space = None; operation = operation; foreign = None; has_more_foreign = false; is_forced = false; has_command = false }
 
--- what the words behind a program ask for: no slip, and no option that waits for its value
+-- what the words after a program ask for: no slip, and no option that waits for its value
 abbrev pub asked_with : Given → Result Operation Slip → Result Asked Slip
 asked_with g (Ok operation) = Ok (record {
   space = g.space;
@@ -73,7 +73,7 @@ by_beginning (Some beginning.Line) first words = Ok (asked_without (operation.Li
 by_beginning (Some beginning.NoChange) first words = Err (slip.NoChange first)
 by_beginning None first words = Err (slip.Unknown first)
 
--- nsenter(1): its options name a namespace, in which the command behind them is; one that the command names counts
+-- nsenter(1): its options name a namespace, in which the command after them is; one that the command names counts
 abbrev pub over_space : List ℕ → Result Asked Slip → Result Asked Slip
 over_space space (Ok asked) = if is_some asked.space then Ok asked else Ok (record asked { space = Some space })
 over_space space (Err slip) = Err slip

@@ -132,7 +132,7 @@ pivot_at places.Many = Err (slip.Many tool.PivotRoot)
 abbrev pub pivot_operation : Given → Result Operation Slip
 pivot_operation g = pivot_at g.places
 
--- a line of a program; nsenter(1) has another one behind it
+-- a line of a program; nsenter(1) has another one after it
 abbrev pub operation_by : Tool → Given → Result Operation Slip
 operation_by tool.Mount g = mount_operation g
 operation_by tool.Umount g = umount_operation g

@@ -20,12 +20,12 @@ use Rattle.mt_forms.specs.declared.setting.Setting.{Setting}
 abbrev pub has_no_name : List ℕ → Bool
 has_no_name path = list_all (λ name. nat_eq (length name) 0) (pieces 47 path)
 
--- a name behind a slash; where slashes stand side by side, there is none between them
+-- a name after a slash; where slashes stand side by side, there is none between them
 abbrev pub behind_slash : List ℕ → List ℕ
 behind_slash [] = []
 behind_slash (b ∷ name) = 47 ∷ escaped (b ∷ name)
 
--- a word behind a space, and a path with one slash in front of each name
+-- a word after a space, and a path with one slash before each name
 abbrev pub behind_word : List ℕ → List ℕ
 behind_word word = 32 ∷ escaped word
 

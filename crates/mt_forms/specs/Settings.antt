@@ -75,14 +75,14 @@ attribute_word Strictatime = codes "strictatime"
 abbrev pub all_attributes : List Attribute
 all_attributes = Ro ∷ Nosuid ∷ Nodev ∷ Noexec ∷ Nosymfollow ∷ Nodiratime ∷ Relatime ∷ Noatime ∷ Strictatime ∷ []
 
--- the words of the attributes that are there, each behind a comma
+-- the words of the attributes that are there, each after a comma
 abbrev pub listed_word : Attributes → Attribute → List ℕ
 listed_word a attribute = if has_attribute attribute a then 44 ∷ attribute_word attribute else []
 
 unfoldable pub attribute_words : Attributes → List ℕ
 attribute_words a = flat_map (listed_word a) all_attributes
 
--- an option with its list, which has a comma in front of each word, if there is one
+-- an option with its list, which has a comma before each word, if there is one
 abbrev pub option_text : List ℕ → List ℕ → List ℕ
 option_text key [] = []
 option_text key (comma ∷ words) = key ++ words

@@ -6,7 +6,7 @@ use Rattle.mt_forms.specs.declared.split.Before.{Before}
 use Rattle.mt_forms.specs.declared.split.Quotes.{Quotes}
 use Rattle.mt_forms.specs.declared.split.Quotes.TheVariants as quotes
 
--- nothing stands in front of a text
+-- nothing stands before a text
 abbrev pub start : Before
 start = record { quotes = quotes.None; is_escaped = false; is_inside = false; has_word = false }
 
@@ -14,7 +14,7 @@ start = record { quotes = quotes.None; is_escaped = false; is_inside = false; ha
 abbrev pub is_blank : ℕ → Bool
 is_blank b = b == 32 || b == 9 || b == 10
 
--- in front of a double quote, a backslash, a dollar and a backquote, a backslash in double quotes stands for nothing
+-- before a double quote, a backslash, a dollar and a backquote, a backslash in double quotes stands for nothing
 abbrev pub is_kept : ℕ → Bool
 is_kept b = b == 34 || b == 92 || b == 36 || b == 96
 
@@ -56,7 +56,7 @@ is_closed s = is_unquoted s.quotes && not s.is_escaped
 abbrev pub unless_left_out : ℕ → Bool → List ℕ
 unless_left_out b is_left_out = if is_left_out then [] else b ∷ []
 
--- outside of quotes a zero byte stands in front of each word but the first
+-- outside of quotes a zero byte stands before each word but the first
 abbrev pub emitted_bare : Before → ℕ → List ℕ
 emitted_bare s b = if is_blank b then [] else unless_left_out 0 (s.is_inside || not s.has_word) ++ unless_left_out b (b == 39 || b == 34 || b == 92)
 

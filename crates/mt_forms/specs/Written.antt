@@ -8,6 +8,6 @@ use Rattle.mt_lines.specs.Words.{pieces}
 abbrev pub is_dots : List ℕ → Bool
 is_dots name = bytes_eq name (codes ".") || bytes_eq name (codes "..")
 
--- the name of a program stands behind the last slash of its path
+-- the name of a program comes after the last slash of its path
 abbrev pub base_name : List ℕ → List ℕ
 base_name path = fold (λ last name. name) [] (pieces 47 path)

@@ -141,7 +141,7 @@ impl Said {
         }
     }
 
-    /// What is said behind this: an attribute is to be, or not.
+    /// What is said after this: an attribute is to be, or not.
     pub fn turned(self, attribute: Attribute, on: bool) -> Said
         ensures { result ≡ turned on self attribute }
     {
@@ -151,7 +151,7 @@ impl Said {
         }
     }
 
-    /// What is said behind this: each of these attributes is to be.
+    /// What is said after this: each of these attributes is to be.
     pub(crate) fn turned_all(self, attributes: &[Attribute]) -> Said
         ensures { result ≡ turned_all attributes.now self }
     {

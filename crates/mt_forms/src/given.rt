@@ -1,4 +1,4 @@
-//! What the words behind a program give.
+//! What the words after a program give.
 ghost use Rattle.std.specs.Prelude.{◌≡◌};
 ghost use Rattle.mt_forms.specs.Given.{nothing_given, is_same_change, one_more_place, slipped, with_said, with_one_change, with_propagation, with_foreign, with_listed, with_list, with_spread, with_option, with_value, runs_command, with_plain};
 
@@ -22,7 +22,7 @@ pub(crate) enum Places<'a> {
 }
 
 impl<'a> Places<'a> {
-    /// These words, and one behind them.
+    /// These words, and one after them.
     pub(crate) fn with(self, word: Word<'a>) -> Places<'a>
         ensures { result ≡ one_more_place self.entry word.entry }
     {
@@ -35,12 +35,12 @@ impl<'a> Places<'a> {
     }
 }
 
-/// What the words behind a program give, as far as they are read.
+/// What the words after a program give, as far as they are read.
 #[derive(Drop)]
 pub(crate) struct Given<'a> {
     /// What the option means whose value is the next word.
     pub(crate) waiting: Option<Means>,
-    /// Whether `--` has come, behind which no word is an option.
+    /// Whether `--` has come, after which no word is an option.
     pub(crate) has_ended: bool,
     /// Bind, rbind or move.
     pub(crate) change: Option<Change>,
@@ -64,7 +64,7 @@ pub(crate) struct Given<'a> {
     pub(crate) target: Option<Word<'a>>,
     /// The words that are no options.
     pub(crate) places: Places<'a>,
-    /// Whether one of them is a command, with words of its own behind it.
+    /// Whether one of them is a command, with words of its own after it.
     pub(crate) has_command: bool,
     /// Whether mount namespaces are meant.
     pub(crate) has_mounts: bool,

@@ -4,7 +4,7 @@
 //! [`script::session_lines`] writes what it asks for as lines of a session. [`split::split_line`] makes words of a text, as a
 //! shell does.
 //!
-//! The words behind a program are read by its table of options ([`table`]), one after another ([`reading`]), into what is
+//! The words after a program are read by its table of options ([`table`]), one after another ([`reading`]), into what is
 //! given ([`given`]); the list of `-o` has a table of its own ([`listed`]), and so have first words ([`command`]).
 //! [`attribute`] has what is said of attributes, and [`setting`] what a line does to those of a mount. [`nearest`] finds the
 //! word that was meant.

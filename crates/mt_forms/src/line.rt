@@ -173,7 +173,7 @@ fn slip_without_command<'a>(given: Given<'a>) -> Slip<'a>
     }
 }
 
-/// What the words behind nsenter(1) ask for, those behind what was read.
+/// What the words after nsenter(1) ask for, those after what was read.
 fn asked_entered<'a>(given: Given<'a>, words: Words<'a>) -> Result<Asked<'a>, Slip<'a>>
     ensures { result ≡ entered_from given.entry words.entry }
 {
@@ -199,7 +199,7 @@ fn asked_by_first<'a>(first: &'a [u8], words: Words<'a>) -> Result<Asked<'a>, Sl
     }
 }
 
-/// What a line behind `sudo` asks for.
+/// What a line after `sudo` asks for.
 fn asked_behind_sudo<'a>(words: Words<'a>) -> Result<Asked<'a>, Slip<'a>>
     ensures { result ≡ behind_sudo words.entry }
 {
@@ -210,9 +210,9 @@ fn asked_behind_sudo<'a>(words: Words<'a>) -> Result<Asked<'a>, Slip<'a>>
     }
 }
 
-/// What a line asks for, or what is wrong with it. `sudo` in front is taken away. Takes no memory.
+/// What a line asks for, or what is wrong with it. `sudo` before the line is taken away. Takes no memory.
 ///
-/// The first word is the name of a program, with or without directories in front, or begins a line of a session, which
+/// The first word is the name of a program, with or without directories before it, or begins a line of a session, which
 /// stays as it is. Of several things that are wrong the first is told. Nothing is looked up: a target may be there or not.
 pub fn read_line<'a>(words: Words<'a>) -> Result<Asked<'a>, Slip<'a>>
     ensures { result ≡ asked_of words.entry }

@@ -119,6 +119,6 @@ pub struct Asked<'a> {
     pub has_more_foreign: bool,
     /// Whether an unmount was to be forced, which has no effect here: `umount -f`.
     pub is_forced: bool,
-    /// Whether a command stands behind unshare(1), which is not read.
+    /// Whether a command comes after unshare(1), which is not read.
     pub has_command: bool,
 }

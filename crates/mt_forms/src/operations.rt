@@ -38,7 +38,7 @@ fn two_slip<'a>(first: &Word<'a>, second: &Word<'a>) -> Option<Slip<'a>>
     }
 }
 
-/// These words, and one in front of them, if there is one.
+/// These words, and one before them, if there is one.
 fn in_front<'a>(word: Option<Word<'a>>, places: Places<'a>) -> Places<'a>
     ensures { result ≡ in_front word.entry places.entry }
 {
@@ -53,7 +53,7 @@ fn in_front<'a>(word: Option<Word<'a>>, places: Places<'a>) -> Places<'a>
     }
 }
 
-/// These words, and one behind them, if there is one.
+/// These words, and one after them, if there is one.
 fn then_place<'a>(places: Places<'a>, word: Option<Word<'a>>) -> Places<'a>
     ensures { result ≡ then_place places.entry word.entry }
 {
@@ -265,7 +265,7 @@ fn spread(is_unchanged: bool, propagation: Option<Propagation>) -> Option<Propag
     }
 }
 
-/// What a line of unshare(1) asks for. A command behind the options has no effect on mounts here.
+/// What a line of unshare(1) asks for. A command after the options has no effect on mounts here.
 fn unshare_operation<'a>(given: Given<'a>) -> Result<Operation<'a>, Slip<'a>>
     ensures { result ≡ unshare_operation given.entry }
 {
@@ -302,7 +302,7 @@ fn pivot_operation<'a>(given: Given<'a>) -> Result<Operation<'a>, Slip<'a>>
     }
 }
 
-/// What a line of a program asks for. One of nsenter(1) is of another program, which stands behind it.
+/// What a line of a program asks for. One of nsenter(1) is of another program, which comes after it.
 pub(crate) fn operation_by<'a>(tool: Tool, given: Given<'a>) -> Result<Operation<'a>, Slip<'a>>
     ensures { result ≡ operation_by tool given.entry }
 {

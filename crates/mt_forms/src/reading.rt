@@ -1,4 +1,4 @@
-//! The words behind a program, read by its table of options, as getopt_long(3) reads them.
+//! The words after a program, read by its table of options, as getopt_long(3) reads them.
 ghost use Rattle.std.specs.Prelude.{◌≡◌, fold};
 ghost use Rattle.std.specs.Option.{option_copied};
 ghost use Rattle.mt_forms.specs.Reading.{is_no_option, option_name, option_value, takes_value, value_behind, by_takes, with_letters, with_named_option, with_dashed, with_free_word, with_word, begins_command, given_of};
@@ -17,7 +17,7 @@ fn is_no_option(word: &[u8]) -> bool
     !word.starts_with(b"-") || word == b"-".as_slice()
 }
 
-/// The name of an option, in front of its value.
+/// The name of an option, before its value.
 fn option_name(option: &[u8]) -> &[u8]
     ensures { result.now ≡ option_name option.now }
 {
@@ -27,7 +27,7 @@ fn option_name(option: &[u8]) -> &[u8]
     }
 }
 
-/// The value behind the name of an option, if there is one.
+/// The value after the name of an option, if there is one.
 fn option_value(option: &[u8]) -> Option<&[u8]>
     ensures { option_copied result ≡ option_value option.now }
 {
@@ -40,7 +40,7 @@ fn option_value(option: &[u8]) -> Option<&[u8]>
     }
 }
 
-/// Whether a value has to stand behind an option.
+/// Whether a value has to come after an option.
 fn takes_value(takes: Takes) -> bool
     ensures { result ≡ takes_value takes }
 {
@@ -51,7 +51,7 @@ fn takes_value(takes: Takes) -> bool
 }
 
 impl<'a> Given<'a> {
-    /// The same, with an option of one letter that takes a value: what stands behind it in its word, or the next word.
+    /// The same, with an option of one letter that takes a value: what comes after it in its word, or the next word.
     fn with_value_behind(self, tool: Tool, means: Means, behind: &'a [u8]) -> Given<'a>
         ensures { result ≡ value_behind tool means behind.entry.now self.entry }
     {
@@ -86,7 +86,7 @@ impl<'a> Given<'a> {
         given
     }
 
-    /// The same, with an option, and a value behind `=` if there is one.
+    /// The same, with an option, and a value after `=` if there is one.
     fn with_taken(
         self,
         tool: Tool,
@@ -139,7 +139,7 @@ impl<'a> Given<'a> {
         }
     }
 
-    /// The same, with a word that is not the value of the option in front of it.
+    /// The same, with a word that is not the value of the option before it.
     fn with_free_word(self, tool: Tool, word: &'a [u8]) -> Given<'a>
         ensures { result ≡ with_free_word tool self.entry word.entry.now }
     {
@@ -181,7 +181,7 @@ impl<'a> Given<'a> {
         given
     }
 
-    /// Whether a word is none of the options in front of a command, nor a value of one.
+    /// Whether a word is none of the options before a command, nor a value of one.
     pub(crate) fn begins_command(&self, word: &[u8]) -> bool
         ensures { result ≡ begins_command self.now word.now }
     {
@@ -189,7 +189,7 @@ impl<'a> Given<'a> {
     }
 }
 
-/// What the words behind a program give.
+/// What the words after a program give.
 #[tactic(auto, unfolding(crate::specs::Reading::given_of))]
 pub(crate) fn given_of<'a>(tool: Tool, words: Words<'a>) -> Given<'a>
     ensures { result ≡ given_of tool words.entry }

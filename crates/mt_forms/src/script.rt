@@ -22,7 +22,7 @@ fn has_no_name(path: &[u8]) -> bool
     Pieces::new(b'/', path).all(|name| name.is_empty())
 }
 
-/// Appends a name of a path behind a slash, if it has a byte.
+/// Appends a name of a path after a slash, if it has a byte.
 fn push_name(text: &mut Vec<u8>, name: &[u8]) -> Done
     ensures { OnOk result (text.new.items ≡ text.old.items ++ behind_slash name.now) }
 {
@@ -34,7 +34,7 @@ fn push_name(text: &mut Vec<u8>, name: &[u8]) -> Done
     Ok(())
 }
 
-/// Appends the names of a path, each behind one slash.
+/// Appends the names of a path, each after one slash.
 fn push_names(text: &mut Vec<u8>, path: &[u8]) -> Done
     ensures { OnOk result (text.new.items ≡ text.old.items ++ flat_map behind_slash (pieces 47 path.now)) }
 {
@@ -45,7 +45,7 @@ fn push_names(text: &mut Vec<u8>, path: &[u8]) -> Done
     Ok(())
 }
 
-/// Appends a word behind a space, with its escapes.
+/// Appends a word after a space, with its escapes.
 pub(crate) fn push_word(text: &mut Vec<u8>, word: &[u8]) -> Done
     ensures { OnOk result (text.new.items ≡ text.old.items ++ behind_word word.now) }
 {
@@ -54,7 +54,7 @@ pub(crate) fn push_word(text: &mut Vec<u8>, word: &[u8]) -> Done
     Ok(())
 }
 
-/// Appends a path behind a space, with one slash in front of each name.
+/// Appends a path after a space, with one slash before each name.
 pub(crate) fn push_path(text: &mut Vec<u8>, path: &[u8]) -> Done
     ensures { OnOk result (text.new.items ≡ text.old.items ++ behind_path path.now) }
 {
@@ -143,7 +143,7 @@ fn push_change(text: &mut Vec<u8>, space: &[u8], to: &[u8], setting: Setting) ->
     Ok(())
 }
 
-/// Appends the lines behind a new mount: its attributes, and its propagation.
+/// Appends the lines after a new mount: its attributes, and its propagation.
 fn push_attributes(
     text: &mut Vec<u8>,
     space: &[u8],
@@ -302,7 +302,7 @@ fn push_operation(
 /// alone.
 ///
 /// `filesystem` is the name of the one that is mounted, and `options` are those of the mount in its table, which a remount
-/// changes; other forms need neither. Paths have one slash in front of each name. A `mount` with attributes is two lines,
+/// changes; other forms need neither. Paths have one slash before each name. A `mount` with attributes is two lines,
 /// since no line sets both at once: its copies do not have them.
 ///
 /// There are no lines for an unmount of more mounts than one, which a table has to tell first, and for `mkdir`. What the

@@ -178,7 +178,7 @@ impl Setting {
     }
 }
 
-/// Appends the word of an attribute behind a comma, if it is among these.
+/// Appends the word of an attribute after a comma, if it is among these.
 fn push_listed(
     text: &mut Vec<u8>,
     attributes: Attributes,
@@ -194,7 +194,7 @@ fn push_listed(
     Ok(())
 }
 
-/// Appends the words of attributes, those that are in a list of them, each behind a comma.
+/// Appends the words of attributes, those that are in a list of them, each after a comma.
 fn push_listed_of(
     text: &mut Vec<u8>,
     attributes: Attributes,
@@ -208,7 +208,7 @@ fn push_listed_of(
     Ok(())
 }
 
-/// Appends an option of a `setattr` line, if its list has a word. The list has a comma in front of each.
+/// Appends an option of a `setattr` line, if its list has a word. The list has a comma before each.
 fn push_option(text: &mut Vec<u8>, key: &[u8], list: &[u8]) -> Result<(), AllocError>
     ensures { OnOk result (text.new.items ≡ text.old.items ++ option_text key.now list.now) }
 {
@@ -220,7 +220,7 @@ fn push_option(text: &mut Vec<u8>, key: &[u8], list: &[u8]) -> Result<(), AllocE
     Ok(())
 }
 
-/// The words of attributes, each behind a comma.
+/// The words of attributes, each after a comma.
 #[tactic(auto, unfolding(crate::specs::Settings::attribute_words))]
 fn attribute_words(alloc: Global, attributes: Attributes) -> Result<Vec<u8>, AllocError>
     ensures { IfOk result (λ words. words.items ≡ attribute_words attributes) }
@@ -230,7 +230,7 @@ fn attribute_words(alloc: Global, attributes: Attributes) -> Result<Vec<u8>, All
     Ok(words)
 }
 
-/// The words of `clr=`, each behind a comma.
+/// The words of `clr=`, each after a comma.
 fn cleared_words(alloc: Global, setting: Setting) -> Result<Vec<u8>, AllocError>
     ensures { IfOk result (λ words. words.items ≡ cleared_words setting) }
 {

@@ -91,7 +91,7 @@ impl<'a> Slip<'a> {
         match self {
             Slip::NoValue { tool } => write!(
                 f,
-                "{}: a value is missing behind the last option",
+                "{}: a value is missing after the last option",
                 tool.name()
             ),
             Slip::NoTarget { tool } => {
@@ -123,7 +123,7 @@ impl<'a> Slip<'a> {
                 f.write_str("a line makes a mount one thing; the next one is a line of its own")
             }
             Slip::NoProcess => f.write_str("nsenter takes -t and a process"),
-            _ => f.write_str("nsenter takes a command behind its options"),
+            _ => f.write_str("nsenter takes a command after its options"),
         }
     }
 }

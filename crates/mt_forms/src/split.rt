@@ -14,7 +14,7 @@ enum Quotes {
     Double,
 }
 
-/// What the bytes in front of one say of it.
+/// What the bytes before one say of it.
 #[derive(Clone, Copy, PartialEq, Eq, Debug)]
 struct Before {
     quotes: Quotes,
@@ -26,7 +26,7 @@ struct Before {
     has_word: bool,
 }
 
-/// What stands in front of a text: nothing.
+/// What stands before a text: nothing.
 fn start() -> Before
     ensures { result ≡ start }
 {
@@ -45,7 +45,7 @@ fn is_blank(byte: u8) -> bool
     byte == b' ' || byte == b'\t' || byte == b'\n'
 }
 
-/// Whether a backslash in double quotes stands for nothing in front of a byte.
+/// Whether a backslash in double quotes stands for nothing before a byte.
 fn is_kept(byte: u8) -> bool
     ensures { result ≡ is_kept byte }
 {
@@ -154,7 +154,7 @@ fn push_bare(text: &mut Vec<u8>, before: Before, byte: u8) -> Result<(), AllocEr
     Ok(())
 }
 
-/// Appends what a byte behind a backslash gives: itself, and the backslash in front where quotes keep it.
+/// Appends what a byte after a backslash gives: itself, and the backslash in front where quotes keep it.
 fn push_escaped_byte(text: &mut Vec<u8>, before: Before, byte: u8) -> Result<(), AllocError>
     ensures { OnOk result (text.new.items ≡ text.old.items ++ emitted_escaped before byte) }
 {
@@ -185,7 +185,7 @@ fn push_byte(text: &mut Vec<u8>, before: Before, byte: u8) -> Result<(), AllocEr
 /// not closed, or a backslash is the last byte. Fails for want of memory alone.
 ///
 /// Words stand between spaces, tabs and line ends. What stands between single quotes is as it is; between double quotes a
-/// backslash stands for nothing in front of `"`, `\`, `$` and a backquote; elsewhere it stands for nothing (sh(1), quoting).
+/// backslash stands for nothing before `"`, `\`, `$` and a backquote; elsewhere it stands for nothing (sh(1), quoting).
 /// Nothing is expanded.
 pub fn split_line(alloc: Global, line: &[u8]) -> Result<Option<Vec<u8>>, AllocError>
     ensures { IfOk result (λ text. option_map (λ words. words.items) text ≡ split_text line.now) }
@@ -210,7 +210,7 @@ fn push_word(text: &mut Vec<u8>, word: &str) -> Result<(), AllocError>
     text.extend_from_slice(word.as_bytes())
 }
 
-/// Appends words, each behind a zero byte.
+/// Appends words, each after a zero byte.
 fn push_words(text: &mut Vec<u8>, words: &[&str]) -> Result<(), AllocError>
     ensures { OnOk result (text.new.items ≡ text.old.items ++ flat_map (λ word. 0 ∷ word.now) words.now) }
 {

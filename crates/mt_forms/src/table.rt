@@ -59,9 +59,9 @@ pub(crate) enum Means {
 pub(crate) enum Takes {
     /// None.
     Nothing,
-    /// One, which stands behind it.
+    /// One, which comes after it.
     Value,
-    /// One, if it stands behind `=`.
+    /// One, if it comes after `=`.
     Maybe,
 }
 

@@ -58,7 +58,7 @@ pub(crate) fn has_dots(path: &[u8]) -> bool
     Pieces::new(b'/', path).any(|name| is_dots(name))
 }
 
-/// The name of a program, without the directories in front of it.
+/// The name of a program, without the directories before it.
 pub(crate) fn base_name(tool: &[u8]) -> &[u8]
     ensures { result.now ≡ base_name tool.now }
 {
