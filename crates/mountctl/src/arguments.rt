@@ -35,7 +35,8 @@ In the place of SOCKET WORD..:
   import                   reads the lines of a mountinfo, and prints a script that makes its namespace
   import FILE..            reads those of several processes, and prints a script that makes all their namespaces
   import --pid PID..       reads those of these processes
-  explain REFUSAL          says what the refusal of this name is, and what Linux says in its place
+  explain REFUSAL|ERRNO    says what the refusal of this name is, and what Linux says in its place;
+                           of an error of Linux, by its name or number, which refusals stand behind it
 
 Environment:
   MOUNTD_SOCKET            the socket of the server, where the first word is none: one that begins a line, or what may

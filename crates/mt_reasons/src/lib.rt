@@ -2,9 +2,13 @@
 //!
 //! [`line`] finds the [`reason`], by the arguments of the line ([`argument`]); [`options`] looks at those of a `setattr` line,
 //! [`nearest`] finds the command that was meant, and [`usage`] is that of the help.
+//!
+//! [`advice`] has what stands behind each refusal, and behind each [`errno`] of Linux.
 #![tactic(auto)]
 
+pub mod advice;
 pub mod argument;
+pub mod errno;
 pub mod line;
 pub mod nearest;
 pub mod options;

@@ -1,19 +1,61 @@
-//! The command that was meant.
+//! The word that was meant: a command, a refusal or an error of Linux.
 
+use crate::errno::ERRNOS;
 use crate::usage::{command_of, usage_in};
 use mt_lines::words::Pieces;
 use mt_requests::help::LINES;
+use mt_skel::fault::Fault;
 use std::alloc::{AllocError, Global};
 use strsim::generic_levenshtein;
 
 /// The most letters that are put in, left out or exchanged.
 const MOST_EDITS: usize = 2;
 
-/// A command, and how many edits lead to it.
+/// The most letters of a word that is asked for.
+const MOST_LETTERS: usize = 16;
+
+/// Every refusal.
+const REFUSALS: [Fault; 24] = [
+    Fault::BadLine,
+    Fault::TooLong,
+    Fault::BadPath,
+    Fault::JournalFull,
+    Fault::NoFilesystem,
+    Fault::FilesystemExists,
+    Fault::NoNamespace,
+    Fault::NoEntry,
+    Fault::EntryExists,
+    Fault::NotMountRoot,
+    Fault::RootPlace,
+    Fault::Unbindable,
+    Fault::SharedParent,
+    Fault::IntoItself,
+    Fault::UnbindableInside,
+    Fault::Busy,
+    Fault::BadAttr,
+    Fault::TooMany,
+    Fault::NoWatcher,
+    Fault::WatcherOpen,
+    Fault::TooManyWatchers,
+    Fault::Lagged,
+    Fault::Stopped,
+    Fault::NoMemory,
+];
+
+/// A word that may be meant, and how many edits lead to it.
 #[derive(Clone, Copy)]
 struct Near {
-    command: &'static [u8],
+    meant: &'static [u8],
     edits: usize,
+}
+
+/// A word that may be meant, if few edits lead to it.
+fn near_to(alloc: Global, meant: &'static [u8], word: &[u8]) -> Result<Option<Near>, AllocError> {
+    let edits = generic_levenshtein(alloc, word, meant)?;
+    if edits > MOST_EDITS || edits >= word.len() {
+        return Ok(None);
+    }
+    Ok(Some(Near { meant, edits }))
 }
 
 /// The command of a row of the help, if few edits lead to it.
@@ -21,14 +63,10 @@ fn near_in(alloc: Global, row: &'static [u8], word: &[u8]) -> Result<Option<Near
     let Some(usage) = usage_in(row) else {
         return Ok(None);
     };
-    let Some(command) = command_of(usage) else {
-        return Ok(None);
-    };
-    let edits = generic_levenshtein(alloc, word, command)?;
-    if edits > MOST_EDITS || edits >= word.len() {
-        return Ok(None);
+    match command_of(usage) {
+        Some(command) => near_to(alloc, command, word),
+        None => Ok(None),
     }
-    Ok(Some(Near { command, edits }))
 }
 
 /// The nearer one of two; the first where both are as near.
@@ -43,12 +81,41 @@ fn nearer(first: Option<Near>, second: Option<Near>) -> Option<Near> {
 /// The command that is nearest to a word, if one is near: at most two letters are put in, left out or exchanged. Fails for
 /// want of memory alone.
 pub(crate) fn nearest_to(alloc: Global, word: &[u8]) -> Result<Option<&'static [u8]>, AllocError> {
-    if word.len() > 16 {
+    if word.len() > MOST_LETTERS {
         return Ok(None);
     }
     let mut nearest = None;
     for row in Pieces::new(b'\n', LINES.as_bytes()) {
         nearest = nearer(nearest, near_in(alloc, row, word)?);
     }
-    Ok(nearest.map(|near| near.command))
+    Ok(nearest.map(|near| near.meant))
+}
+
+/// The refusal whose name is nearest to a word, if one is near.
+fn nearest_refusal(alloc: Global, word: &[u8]) -> Result<Option<Near>, AllocError> {
+    let mut nearest = None;
+    for refusal in REFUSALS {
+        nearest = nearer(nearest, near_to(alloc, refusal.name(), word)?);
+    }
+    Ok(nearest)
+}
+
+/// The error of Linux whose name is nearest to a word, if one is near.
+fn nearest_errno(alloc: Global, word: &[u8]) -> Result<Option<Near>, AllocError> {
+    let mut nearest = None;
+    for errno in ERRNOS {
+        nearest = nearer(nearest, near_to(alloc, errno.name().as_bytes(), word)?);
+    }
+    Ok(nearest)
+}
+
+/// The name of a refusal or of an error of Linux that is nearest to a word, if one is near: at most two letters are put in,
+/// left out or exchanged. Fails for want of memory alone.
+pub fn nearest_explained(alloc: Global, word: &[u8]) -> Result<Option<&'static [u8]>, AllocError> {
+    if word.len() > MOST_LETTERS {
+        return Ok(None);
+    }
+    let refusal = nearest_refusal(alloc, word)?;
+    let nearest = nearer(refusal, nearest_errno(alloc, word)?);
+    Ok(nearest.map(|near| near.meant))
 }
