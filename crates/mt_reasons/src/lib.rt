@@ -1,10 +1,9 @@
 //! Why a line of a session is bad, in words.
 //!
-//! [`line`] finds the [`reason`], by the arguments of the line ([`argument`]); [`options`] looks at those of a `setattr` line,
-//! [`nearest`] finds the command that was meant, and [`usage`] is that of the help.
+//! [`line`] finds the [`reason`], by the table of lines (mt_protocol) and as a line is read (mt_requests); [`options`] looks at
+//! those of a `setattr` line, [`nearest`] finds the verb that was meant, and [`usage`] is that of the help.
 #![tactic(auto)]
 
-pub mod argument;
 pub mod line;
 pub mod nearest;
 pub mod options;
