@@ -5,6 +5,9 @@
 _mountctl_refusals="BadLine TooLong BadPath JournalFull NoFilesystem FilesystemExists NoNamespace NoEntry EntryExists NotMountRoot RootPlace
 Unbindable SharedParent IntoItself UnbindableInside Busy BadAttr TooMany NoWatcher WatcherOpen TooManyWatchers Lagged Stopped NoMemory"
 
+# The errors of Linux that are explained.
+_mountctl_errnos="EPERM ENOENT ENXIO ENOMEM EACCES ENOTBLK EBUSY EEXIST ENODEV ENOTDIR EINVAL ENOSPC EROFS ENAMETOOLONG ELOOP"
+
 # The words that may follow those of a line, where it takes more than names, numbers and paths.
 _mountctl_words()
 {
@@ -95,7 +98,7 @@ _mountctl()
         return
     fi
     if [[ ${words[0]} == explain ]]; then
-        mapfile -t COMPREPLY < <(((${#words[@]} == 1)) && compgen -W "$_mountctl_refusals" -- "$current")
+        mapfile -t COMPREPLY < <(((${#words[@]} == 1)) && compgen -W "$_mountctl_refusals $_mountctl_errnos" -- "$current")
         return
     fi
     # A word that begins a line is no socket: that is the one of the environment.
