@@ -18,6 +18,7 @@ import subprocess
 import sys
 import tempfile
 
+from documents.lines import check_lines
 from documents.steps import STEP, wait_for_socket
 from harness.runs import MOST_SECONDS, TOP, check, difference, failures, is_there, read, run, shown
 from sessions.cases import check_session
@@ -347,6 +348,7 @@ def main():
     programs = dict(zip(("mountd", "mountctl"), map(os.path.abspath, sys.argv[1:])))
     helps = {name: shown(run(path, b"", "--help")[1]) for name, path in programs.items()}
     check_form()
+    check_lines(helps)
     check_help(helps)
     check_refusals()
     check_statuses(programs)

@@ -4,7 +4,7 @@ use crate::messages::NAME;
 use crate::task::begins_words;
 use clap::{Arg, ArgAction, ArgMatches, Command, Error, value_parser};
 use mt_arguments::program::{OUT_OF_MEMORY, VERSION};
-use mt_requests::help::LINES;
+use mt_protocol::help::lines;
 use std::alloc::{AllocError, Global};
 use std::env::VarError;
 use std::io::ErrorKind;
@@ -44,7 +44,7 @@ Environment:
 
 /// The lines of a session, and what may stand in their place.
 pub(crate) fn usage(alloc: Global) -> Result<String, AllocError> {
-    let mut text = String::from_str(alloc, LINES)?;
+    let mut text = lines(alloc)?;
     text.push_str(TASKS)?;
     Ok(text)
 }

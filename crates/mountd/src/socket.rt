@@ -3,7 +3,7 @@ ghost use Rattle.std.specs.Prelude.{◌≡◌, ◌<◌};
 
 use crate::listening::{ListenFault, Listening, Paths};
 use mt_desk::desk::Desk;
-use mt_desk::lines::{Lines, Naming};
+use mt_desk::lines::{Host, Lines, Naming};
 use mt_server::server::{Premises, ServerFault, run_server};
 use mt_session::bell::Bell;
 use mt_session::gate::OpenGate;
@@ -55,14 +55,17 @@ fn with_lines<J, R>(
 where
     J: Naming + Send + Sync,
     R: Threads + Wait + Clock + Net<Listener = TcpListener, Stream = TcpStream> + Sync,
-    requires { lines.lines ≡ J.lines }
+    requires lines { lines.lines ≡ J.lines }
+    requires history { lines.history ≡ J.history }
 {
+    let host: Host<J> = lines.host();
     let desk: Mutex<Desk<J>> = Mutex::new(Desk::new(lines));
     let bell = Bell::new();
     let premises = Premises {
         listener,
         path: path.as_str(),
         desk: &desk,
+        host: &host,
         bell: &bell,
         sessions: limits.sessions,
         idle: limits.idle,

@@ -97,7 +97,7 @@ few_lines : (n : ℕ) → n ≤ most_opening_lines → n < 2 ^ 64
 few_lines n le = omega (arith, le)
 
 -- the text of an opening
-rows_text : (rows : List Row) → printed (map line rows) ≡ flat_map whole_line rows
+pub rows_text : (rows : List Row) → printed (map line rows) ≡ flat_map whole_line rows
 rows_text [] = refl
 rows_text (r ∷ rows) = ap (λ x. ended (line r) ++ x) (rows_text rows)
 
@@ -241,7 +241,7 @@ lines_from n (m ∷ parts) =
     let c = part_count m parts in
     omega (arith, ih, c)
 
-found_is : (scope : Scope) (parts : List MirrorView) → printed (found_lines parts) ≡ opening_text (opening_found scope parts)
+pub found_is : (scope : Scope) (parts : List MirrorView) → printed (found_lines parts) ≡ opening_text (opening_found scope parts)
 found_is scope parts =
     let l = lines_from 0 parts in
     let many : length (parts_lines parts) ≡ lines_of_parts (map part_found parts) = omega (arith, l) in
@@ -276,7 +276,7 @@ opening_needs_finding space before none lines later (inr k) e =
 
 -- the namespaces of a scope rise
 pub rises_of : (scope : Scope) (parts : List MirrorView) → AreOf scope parts → IsTrue (rises mirror_space parts)
-rises_of All parts of = of
+rises_of All parts of = of.0
 rises_of (One space) [] of = let no : [] ≡ space ∷ [] = of in cc
 rises_of (One space) (m ∷ []) of = refl
 rises_of (One space) (m ∷ n ∷ parts) of = let no : m.space ∷ (n.space ∷ map mirror_space parts) ≡ space ∷ [] = of in cc

@@ -3,8 +3,8 @@ ghost use Rattle.std.specs.Prelude.{◌≡◌};
 
 use crate::fixture::{are_done, commands_of};
 use mt_book::command::{Command, Reply};
-use mt_desk::desk::Desk;
-use mt_desk::lines::{Lines, Naming};
+use mt_desk::desk::{Desk, DeskWitness};
+use mt_desk::lines::{Host, Lines, Naming};
 use mt_desk::watcher::Watcher;
 use mt_events::opening::Scope;
 use mt_events::post::Post;
@@ -29,8 +29,13 @@ setattr 1 / clr=ro";
 const ROUNDS: u64 = 500;
 
 /// Whether a command is done.
-fn is_done<J: Naming, R: Wait>(rt: &R, desk: &mut Desk<J>, command: &Command) -> bool {
-    matches!(desk.apply(rt, command), Ok(Reply::Done))
+fn is_done<J: Naming, R: Wait>(
+    rt: &R,
+    desk: &mut Desk<J>,
+    witness: &mut DeskWitness<J>,
+    command: &Command,
+) -> bool {
+    matches!(desk.apply(rt, witness, command), Ok(Reply::Done))
 }
 
 /// The number of a post; 0 if there is none.
@@ -76,19 +81,20 @@ fn left_at_close<J: Naming, R: Wait>(
 fn lags<J: Naming, R: Wait>(
     rt: &R,
     desk: &mut Desk<J>,
+    witness: &mut DeskWitness<J>,
     watcher: &mut Watcher<J>,
     turns: &[Command],
 ) -> bool {
     let [first, second] = turns else {
         return false;
     };
-    if !are_done(rt, desk, turns) || !meets(desk, watcher, 2, 0, Phase::Open) {
+    if !are_done(rt, desk, witness, turns) || !meets(desk, watcher, 2, 0, Phase::Open) {
         return false;
     }
-    if !is_done(rt, desk, first) || !meets(desk, watcher, 2, 0, Phase::Lagged) {
+    if !is_done(rt, desk, witness, first) || !meets(desk, watcher, 2, 0, Phase::Lagged) {
         return false;
     }
-    if !is_done(rt, desk, second) {
+    if !is_done(rt, desk, witness, second) {
         return false;
     }
     let numbers = (
@@ -103,13 +109,14 @@ fn lags<J: Naming, R: Wait>(
 fn takes_each<J: Naming, R: Wait>(
     rt: &R,
     desk: &mut Desk<J>,
+    witness: &mut DeskWitness<J>,
     watcher: &mut Watcher<J>,
     turns: &[Command],
     first: u64,
 ) -> bool {
     let mut number = first;
     'turns: for turn in turns {
-        if desk.apply(rt, turn).is_err() || number_of(watcher.take(rt)) != number {
+        if desk.apply(rt, witness, turn).is_err() || number_of(watcher.take(rt)) != number {
             return false;
         }
         number = number.wrapping_add(1);
@@ -121,11 +128,12 @@ fn takes_each<J: Naming, R: Wait>(
 fn keeps_up<J: Naming, R: Wait>(
     rt: &R,
     desk: &mut Desk<J>,
+    witness: &mut DeskWitness<J>,
     watcher: &mut Watcher<J>,
     turns: &[Command],
 ) -> bool {
     'rounds: for round in 0..ROUNDS {
-        if !takes_each(rt, desk, watcher, turns, 2 * round + 2) {
+        if !takes_each(rt, desk, witness, watcher, turns, 2 * round + 2) {
             return false;
         }
     }
@@ -136,18 +144,19 @@ fn keeps_up<J: Naming, R: Wait>(
 fn stops<J: Naming, R: Wait>(
     rt: &R,
     desk: &mut Desk<J>,
+    witness: &mut DeskWitness<J>,
     watcher: &mut Watcher<J>,
     turns: &[Command],
 ) -> bool {
     let [first, second] = turns else {
         return false;
     };
-    if !is_done(rt, desk, first) {
+    if !is_done(rt, desk, witness, first) {
         return false;
     }
-    desk.stop();
-    desk.stop();
-    let refused = match desk.apply(rt, second) {
+    desk.stop(witness);
+    desk.stop(witness);
+    let refused = match desk.apply(rt, witness, second) {
         Ok(_) => false,
         Err(fault) => fault == Fault::Stopped,
     };
@@ -174,14 +183,15 @@ enum Trial {
 fn goes_well<J: Naming, R: Wait>(
     rt: &R,
     desk: &mut Desk<J>,
+    witness: &mut DeskWitness<J>,
     watcher: &mut Watcher<J>,
     turns: &[Command],
     trial: Trial,
 ) -> bool {
     match trial {
-        Trial::Lags => lags(rt, desk, watcher, turns),
-        Trial::KeepsUp => keeps_up(rt, desk, watcher, turns),
-        Trial::Stops => stops(rt, desk, watcher, turns),
+        Trial::Lags => lags(rt, desk, witness, watcher, turns),
+        Trial::KeepsUp => keeps_up(rt, desk, witness, watcher, turns),
+        Trial::Stops => stops(rt, desk, witness, watcher, turns),
     }
 }
 
@@ -192,16 +202,19 @@ fn left_on<J: Naming, R: Wait>(
     lines: Lines,
     trial: Trial,
 ) -> Result<Option<usize>, Fault>
-    requires { lines.lines ≡ J.lines }
+    requires lines { lines.lines ≡ J.lines }
+    requires history { lines.history ≡ J.history }
 {
+    let host: Host<J> = lines.host();
     let mut desk: Desk<J> = Desk::new(lines);
+    let mut witness = desk.admit(&host);
     let start = commands_of(alloc, START)?;
     let turns = commands_of(alloc, TURNS)?;
-    if !are_done(rt, &mut desk, &start) {
+    if !are_done(rt, &mut desk, &mut witness, &start) {
         return Ok(None);
     }
     let mut watcher = desk.open(Scope::One(1))?;
-    if !goes_well(rt, &mut desk, &mut watcher, &turns, trial) {
+    if !goes_well(rt, &mut desk, &mut witness, &mut watcher, &turns, trial) {
         return Ok(None);
     }
     Ok(left_at_close(rt, &mut desk, watcher))
@@ -259,17 +272,20 @@ fn all_lag<J: Naming>(desk: &mut Desk<J>, watchers: &mut Vec<Watcher<J>>) -> boo
 /// Whether 64 watchers are the most, including those that lag, and one more may begin once one is
 /// closed.
 fn is_full_at_64<J: Naming, R: Wait>(rt: &R, alloc: Global, lines: Lines) -> Result<bool, Fault>
-    requires { lines.lines ≡ J.lines }
+    requires lines { lines.lines ≡ J.lines }
+    requires history { lines.history ≡ J.history }
 {
+    let host: Host<J> = lines.host();
     let mut desk: Desk<J> = Desk::new(lines);
+    let mut witness = desk.admit(&host);
     let start = commands_of(alloc, START)?;
     let turns = commands_of(alloc, TURNS)?;
-    if !are_done(rt, &mut desk, &start) {
+    if !are_done(rt, &mut desk, &mut witness, &start) {
         return Ok(false);
     }
     let mut watchers = all_watchers(alloc, &mut desk)?;
     let open = begins_not(&mut desk, Fault::TooManyWatchers);
-    if !are_done(rt, &mut desk, &turns) {
+    if !are_done(rt, &mut desk, &mut witness, &turns) {
         return Ok(false);
     }
     let lagged = all_lag(&mut desk, &mut watchers) && begins_not(&mut desk, Fault::TooManyWatchers);

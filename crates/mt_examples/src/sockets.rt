@@ -4,7 +4,7 @@ ghost use Rattle.mt_lines.specs.Reading.{fault_of};
 
 use mt_client::ask::ask;
 use mt_desk::desk::Desk;
-use mt_desk::lines::{Lines, Naming};
+use mt_desk::lines::{Host, Lines, Naming};
 use mt_lines::line::LineReader;
 use mt_lines::memory::Sink;
 use mt_lines::stream::{Input, Reading, Writing};
@@ -105,11 +105,14 @@ where
     J: Naming + Send + Sync,
     G: Gate + Sync,
     R: Threads + Wait + Clock + Net<Listener = TcpListener, Stream = TcpStream> + Sync,
-    requires { lines.lines ≡ J.lines }
+    requires lines { lines.lines ≡ J.lines }
+    requires history { lines.history ≡ J.history }
 {
+    let host: Host<J> = lines.host();
     let mut desk = Desk::new(lines);
     if plan.stopped {
-        desk.stop();
+        let mut witness = desk.admit(&host);
+        desk.stop(&mut witness);
     }
     let desk: Mutex<Desk<J>> = Mutex::new(desk);
     let bell = Bell::new();
@@ -117,6 +120,7 @@ where
         listener,
         path: path.as_str(),
         desk: &desk,
+        host: &host,
         bell: &bell,
         sessions: plan.sessions,
         idle: 0,

@@ -1,10 +1,8 @@
-//! The word that was meant: a command, a refusal or an error of Linux.
+//! The word that was meant: a verb, a refusal or an error of Linux.
 
 use crate::errno::ERRNOS;
-use crate::usage::{command_of, usage_in};
-use mt_lines::words::Pieces;
-use mt_requests::help::LINES;
-use mt_skel::fault::Fault;
+use mt_protocol::refusal::REFUSALS;
+use mt_protocol::verb::VERBS;
 use std::alloc::{AllocError, Global};
 use strsim::generic_levenshtein;
 
@@ -13,34 +11,6 @@ const MOST_EDITS: usize = 2;
 
 /// The most letters of a word that is asked for.
 const MOST_LETTERS: usize = 16;
-
-/// Every refusal.
-const REFUSALS: [Fault; 24] = [
-    Fault::BadLine,
-    Fault::TooLong,
-    Fault::BadPath,
-    Fault::JournalFull,
-    Fault::NoFilesystem,
-    Fault::FilesystemExists,
-    Fault::NoNamespace,
-    Fault::NoEntry,
-    Fault::EntryExists,
-    Fault::NotMountRoot,
-    Fault::RootPlace,
-    Fault::Unbindable,
-    Fault::SharedParent,
-    Fault::IntoItself,
-    Fault::UnbindableInside,
-    Fault::Busy,
-    Fault::BadAttr,
-    Fault::TooMany,
-    Fault::NoWatcher,
-    Fault::WatcherOpen,
-    Fault::TooManyWatchers,
-    Fault::Lagged,
-    Fault::Stopped,
-    Fault::NoMemory,
-];
 
 /// A word that may be meant, and how many edits lead to it.
 #[derive(Clone, Copy)]
@@ -58,17 +28,6 @@ fn near_to(alloc: Global, meant: &'static [u8], word: &[u8]) -> Result<Option<Ne
     Ok(Some(Near { meant, edits }))
 }
 
-/// The command of a row of the help, if few edits lead to it.
-fn near_in(alloc: Global, row: &'static [u8], word: &[u8]) -> Result<Option<Near>, AllocError> {
-    let Some(usage) = usage_in(row) else {
-        return Ok(None);
-    };
-    match command_of(usage) {
-        Some(command) => near_to(alloc, command, word),
-        None => Ok(None),
-    }
-}
-
 /// The nearer one of two; the first where both are as near.
 fn nearer(first: Option<Near>, second: Option<Near>) -> Option<Near> {
     match (first, second) {
@@ -78,15 +37,14 @@ fn nearer(first: Option<Near>, second: Option<Near>) -> Option<Near> {
     }
 }
 
-/// The command that is nearest to a word, if one is near: at most two letters are put in, left out or exchanged. Fails for
-/// want of memory alone.
+/// The verb that is nearest to a word, if one is near: at most two letters are put in, left out or exchanged.
 pub(crate) fn nearest_to(alloc: Global, word: &[u8]) -> Result<Option<&'static [u8]>, AllocError> {
     if word.len() > MOST_LETTERS {
         return Ok(None);
     }
     let mut nearest = None;
-    for row in Pieces::new(b'\n', LINES.as_bytes()) {
-        nearest = nearer(nearest, near_in(alloc, row, word)?);
+    for verb in &VERBS {
+        nearest = nearer(nearest, near_to(alloc, verb.word(), word)?);
     }
     Ok(nearest.map(|near| near.meant))
 }
@@ -110,7 +68,7 @@ fn nearest_errno(alloc: Global, word: &[u8]) -> Result<Option<Near>, AllocError>
 }
 
 /// The name of a refusal or of an error of Linux that is nearest to a word, if one is near: at most two letters are put in,
-/// left out or exchanged. Fails for want of memory alone.
+/// left out or exchanged.
 pub fn nearest_explained(alloc: Global, word: &[u8]) -> Result<Option<&'static [u8]>, AllocError> {
     if word.len() > MOST_LETTERS {
         return Ok(None);

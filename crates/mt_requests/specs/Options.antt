@@ -19,7 +19,7 @@ option_keys = codes "rec" ∷ codes "set=" ∷ codes "clr=" ∷ codes "prop=" �
 abbrev pub has_key : List ℕ → List ℕ → Bool
 has_key key option = starts_with nat_eq option key
 
--- `rec`, or a key with what stands after it
+-- `rec`, or a key with what stands behind it
 abbrev pub is_option : List ℕ → Bool
 is_option option =
     bytes_eq option (codes "rec") || has_key (codes "set=") option || has_key (codes "clr=") option || has_key (codes "prop=") option
@@ -56,7 +56,11 @@ nothing_set = record { ro = false; nosuid = false; nodev = false; noexec = false
 abbrev pub nothing_cleared : ClrWords
 nothing_cleared = record { ro = false; nosuid = false; nodev = false; noexec = false; nosymfollow = false; nodiratime = false; atime = false }
 
--- the attributes that are set (mount_setattr(2), attr_set); none if another word is in the list
+-- nothing is changed
+abbrev pub no_change : Change
+no_change = record { set = nothing_set; clr = nothing_cleared; prop = None; recursive = false }
+
+-- the attributes that are set (mount_setattr(2), attr_set); none where another word is in the list
 abbrev pub set_words : List ℕ → Option SetWords
 set_words list =
     if list_all is_set_word (pieces 44 list)
@@ -73,7 +77,7 @@ set_words list =
     })
     else None
 
--- the attributes that are cleared (mount_setattr(2), attr_clr); none if another word is in the list
+-- the attributes that are cleared (mount_setattr(2), attr_clr); none where another word is in the list
 abbrev pub clr_words : List ℕ → Option ClrWords
 clr_words list =
     if list_all is_clr_word (pieces 44 list)
@@ -96,18 +100,18 @@ kind_of word =
     else (if bytes_eq word (codes "slave") then Some Slave
     else (if bytes_eq word (codes "unbindable") then Some Unbindable else None)))
 
--- what is read after the key of an option, or what stands for it if no option has the key
+-- what is read behind the key of an option, or what stands where no option has the key
 abbrev pub said : {A : Type 0} → List ℕ → A → (List ℕ → A) → List (List ℕ) → A
 said key absent read options = option_map_or (λ option. read (drop (length key) option)) (find (has_key key) options) absent
 
--- `set=W,..` and `clr=W,..`; none if a word does not belong to its list
+-- `set=W,..` and `clr=W,..`; none where a word of the list is no word of its own
 abbrev pub set_of : List (List ℕ) → Option SetWords
 set_of options = said (codes "set=") (Some nothing_set) set_words options
 
 abbrev pub clr_of : List (List ℕ) → Option ClrWords
 clr_of options = said (codes "clr=") (Some nothing_cleared) clr_words options
 
--- `prop=K`; if it is not there, mounts keep their propagation, and none if K is not such a word
+-- `prop=K`; mounts keep their propagation where it is not there, and none where K is no such word
 abbrev pub prop_of : List (List ℕ) → Option (Option Kind)
 prop_of options = said (codes "prop=") (Some None) (λ word. option_map (λ kind. Some kind) (kind_of word)) options
 
@@ -115,7 +119,7 @@ prop_of options = said (codes "prop=") (Some None) (λ word. option_map (λ kind
 abbrev pub is_recursive : List (List ℕ) → Bool
 is_recursive options = said (codes "rec") false (λ rest. true) options
 
--- a change of these parts, if each of them is right
+-- a change of these parts, if each was said rightly
 abbrev pub change_with : Option SetWords → Option ClrWords → Option (Option Kind) → Bool → Option Change
 change_with (Some set) (Some clr) (Some prop) recursive = Some (record { set = set; clr = clr; prop = prop; recursive = recursive })
 change_with set clr prop recursive = None

@@ -2,14 +2,14 @@
 ghost use Rattle.std.specs.Prelude.{◌≡◌, Some, None};
 ghost use Rattle.std.specs.Option.{option_copied, option_map, option_map_or};
 ghost use Rattle.mt_requests.specs.Gathered.{nothing_gathered, gathered_with, options_of, set_with, cleared_with};
-ghost use Rattle.mt_requests.specs.Options.{nothing_set, nothing_cleared, set_words, clr_words, kind_of, change_of};
+ghost use Rattle.mt_requests.specs.Options.{nothing_set, nothing_cleared, no_change, set_words, clr_words, kind_of, change_of};
 
 use mt_lines::words::{Pieces, Words};
 use mt_peers::state::Kind;
 use mt_setattr::change::{Change, ClrWords, SetWords};
 use std::marker::Model;
 
-/// The options that were there, with what each says after its key.
+/// The options that were there, with what each says behind its key.
 #[derive(Drop)]
 struct Options<'a> {
     /// Whether `rec` was there.
@@ -49,8 +49,7 @@ impl<'a> Options<'a> {
         }
     }
 
-    /// These options with one more word, or `None` if it is not an option or its key was there
-    /// already.
+    /// These options with one more word, or `None` where it is no option or its key was there.
     fn with(self, word: &'a [u8]) -> Option<Options<'a>>
         ensures { result ≡ gathered_with self.entry word.now }
     {
@@ -82,7 +81,7 @@ impl<'a> Options<'a> {
     }
 }
 
-/// The options of these words, or `None` if a word is not an option or a key is there twice.
+/// The options of these words, or `None` where a word is none or a key is there twice.
 #[tactic(auto, using(crate::proofs::OptionLaws::gathered_all))]
 fn options_of(words: Words<'_>) -> Option<Options<'_>>
     ensures { result ≡ options_of words.entry }
@@ -127,7 +126,19 @@ fn nothing_cleared() -> ClrWords
     }
 }
 
-/// What is set with one more word, or `None` if it is not an attribute that can be set.
+/// A change of nothing.
+pub(crate) fn no_change() -> Change
+    ensures { result ≡ no_change }
+{
+    Change {
+        set: nothing_set(),
+        clr: nothing_cleared(),
+        prop: None,
+        recursive: false,
+    }
+}
+
+/// What is set with one more word, or `None` where it is no attribute that can be set.
 fn set_with(set: SetWords, word: &[u8]) -> Option<SetWords>
     ensures { result ≡ set_with set word.now }
 {
@@ -156,7 +167,7 @@ fn set_with(set: SetWords, word: &[u8]) -> Option<SetWords>
     Some(set)
 }
 
-/// What is cleared with one more word, or `None` if it is not an attribute that can be cleared.
+/// What is cleared with one more word, or `None` where it is no attribute that can be cleared.
 fn cleared_with(clr: ClrWords, word: &[u8]) -> Option<ClrWords>
     ensures { result ≡ cleared_with clr word.now }
 {
@@ -181,8 +192,7 @@ fn cleared_with(clr: ClrWords, word: &[u8]) -> Option<ClrWords>
     Some(clr)
 }
 
-/// The attributes that a list of words sets, words joined by commas, or `None` if one of them is not an attribute that
-/// can be set.
+/// The attributes that a list of words sets, words joined by commas, or `None` where one of them is none that can be set.
 #[tactic(auto, using(crate::proofs::SetLaws::set_folded))]
 pub fn set_words(list: &[u8]) -> Option<SetWords>
     ensures { result ≡ set_words list.now }
@@ -195,8 +205,8 @@ pub fn set_words(list: &[u8]) -> Option<SetWords>
     Some(set)
 }
 
-/// The attributes that a list of words clears, words joined by commas, or `None` if one of them is not an attribute
-/// that can be cleared.
+/// The attributes that a list of words clears, words joined by commas, or `None` where one of them is none that can be
+/// cleared.
 #[tactic(auto, using(crate::proofs::SetLaws::cleared_folded))]
 pub fn clr_words(list: &[u8]) -> Option<ClrWords>
     ensures { result ≡ clr_words list.now }
@@ -209,7 +219,7 @@ pub fn clr_words(list: &[u8]) -> Option<ClrWords>
     Some(clr)
 }
 
-/// What a word makes mounts, or `None` if it is not a kind of propagation.
+/// What mounts are made by a word, or `None` where it is no kind of propagation.
 pub fn kind_of(word: &[u8]) -> Option<Kind>
     ensures { result ≡ kind_of word.now }
 {
@@ -226,7 +236,7 @@ pub fn kind_of(word: &[u8]) -> Option<Kind>
     }
 }
 
-/// What the list of `set=` sets, if it is right.
+/// What the list of `set=` sets, if it does so rightly.
 fn set_of(list: Option<&[u8]>) -> Option<SetWords>
     ensures { result ≡ option_map_or set_words (option_copied list.entry) (Some nothing_set) }
 {
@@ -236,7 +246,7 @@ fn set_of(list: Option<&[u8]>) -> Option<SetWords>
     }
 }
 
-/// What the list of `clr=` clears, if it is right.
+/// What the list of `clr=` clears, if it does so rightly.
 fn clr_of(list: Option<&[u8]>) -> Option<ClrWords>
     ensures { result ≡ option_map_or clr_words (option_copied list.entry) (Some nothing_cleared) }
 {
@@ -246,7 +256,7 @@ fn clr_of(list: Option<&[u8]>) -> Option<ClrWords>
     }
 }
 
-/// What the word of `prop=` makes mounts, if it is right.
+/// What the word of `prop=` makes mounts, if it does so rightly.
 fn prop_of(word: Option<&[u8]>) -> Option<Option<Kind>>
     ensures { result
         ≡ option_map_or
@@ -260,8 +270,8 @@ fn prop_of(word: Option<&[u8]>) -> Option<Option<Kind>>
     }
 }
 
-/// The change that the options of a `setattr` line ask for, or `None` if a word is not one of them,
-/// one is there twice, or a list is empty or has a word that does not belong to it.
+/// The change that the options of a `setattr` line say, or `None` where a word is none of them, one
+/// is there twice, or a list is empty or has a word that is not its own.
 #[tactic(auto, using(crate::proofs::OptionLaws::change_by_options))]
 pub(crate) fn change_of(words: &Words<'_>) -> Option<Change>
     ensures { result ≡ change_of words.now }

@@ -7,6 +7,7 @@ use Rattle.mt_events.specs.Following.{IsRun}
 use Rattle.mt_floor.specs.declared.watch.Meeting.{Meeting}
 use Rattle.mt_desk.specs.Desk.{DeskView, IsDesk}
 use Rattle.mt_desk.specs.Calls.{WatcherView, IsMet}
+use Rattle.mt_desk.specs.Held.{HeldView}
 use Rattle.mt_desk.specs.Headline.{Meet as Meets, IsScheduledBy, HasClosed}
 use Rattle.mt_events.specs.declared.texts.PrintedPosts.{PrintedPosts}
 use Rattle.mt_session.specs.declared.shared_answer.Portion.TheVariants.{Posts}
@@ -53,10 +54,11 @@ takes_more w mid after a b h k =
     (k.0, omega (arith, h.1, k.1, held), k.2 ∙ twice ∙ once, subst (λ (posts : List PostView). IsRun w.half.opening posts) (append_assoc w.half.taken a b) run)
 
 -- a meeting while the desk is held
-pub has_met : (d now : DeskView) (w : Option WatcherView) (m : Option Meeting) (w' : Option WatcherView) → (w ≡ None → (m ≡ None) × (w' ≡ None) × (now ≡ d))
-    → ForSome w (λ (v : WatcherView). (k : Meeting) × (v' : WatcherView) × IsMet d v k now v' × (m ≡ Some k) × (w' ≡ Some v') × IsScheduledBy (Meets v k v') now) → IsDesk d → HasMet w m w'
+pub has_met : (d now : HeldView) (w : Option WatcherView) (m : Option Meeting) (w' : Option WatcherView) → (w ≡ None → (m ≡ None) × (w' ≡ None) × (now ≡ d))
+    → ForSome w (λ (v : WatcherView). (k : Meeting) × (v' : WatcherView) × IsMet d.desk v k now.desk v' × (m ≡ Some k) × (w' ≡ Some v') × IsScheduledBy (Meets v k v') now.desk) → IsDesk d.desk
+    → HasMet w m w'
 has_met d now None m w' none met kept = let n = none refl in (n.0, n.1)
-has_met d now (Some w) m w' none met kept = let h = met w refl in (d, now, h.0, h.1, kept, h.2, h.3, h.4, h.5)
+has_met d now (Some w) m w' none met kept = let h = met w refl in (d.desk, now.desk, h.0, h.1, kept, h.2, h.3, h.4, h.5)
 
 -- a meeting takes nothing
 pub met_moved : (d : DeskView) (w : WatcherView) (m : Meeting) (now : DeskView) (after : WatcherView) → IsMet d w m now after → HasMoved w [] after

@@ -219,6 +219,7 @@ pub fn serve_shared<J, I, O, G, R>(
     desk: &Mutex<Desk<J>>,
     bell: &Bell,
     gate: &G,
+    session: &mut SharedSession<J>,
 ) -> End
 where
     J: Naming,
@@ -226,6 +227,7 @@ where
     O: Output,
     G: Gate,
     R: Wait + Clock,
+    requires none { session.old ≡ None }
     requires fresh { fault_of lines.old ≡ None }
     requires limit { limit_of lines.old ≡ line_limit }
     ensures served { ServedShared (known_left lines.old) (known_left lines.new) (O.contents writer.old) (O.contents writer.new) result }
@@ -247,8 +249,7 @@ where
         number,
         alloc,
     };
-    let mut session = SharedSession::new(alloc);
-    let end = serve_all(rt, &shared, &mut session, lines, writer);
-    leave(rt, &shared, &mut session);
+    let end = serve_all(rt, &shared, session, lines, writer);
+    leave(rt, &shared, session);
     end
 }

@@ -14,7 +14,7 @@ ghost use Rattle.mt_session.specs.SharedTurns.{floor_seen, found_state, is_under
 use crate::queries::{find, show, told_refusal};
 use crate::text::Text;
 use mt_book::command::{Command, Reply};
-use mt_desk::desk::Desk;
+use mt_desk::desk::{Desk, DeskWitness};
 use mt_desk::lines::Naming;
 use mt_desk::watcher::Watcher;
 use mt_events::opening::Scope;
@@ -28,10 +28,11 @@ use std::alloc::Global;
 use std::marker::Model;
 use std::sync::{Arc, Wait};
 
-/// A session at the desk of a name: its watcher, if it has one.
+/// A session at the desk of a name: its watcher, if it has one, and what it knows of the history of the desk.
 #[derive(Drop)]
 pub struct SharedSession<J: Naming> {
     watcher: Option<Watcher<J>>,
+    witness: DeskWitness<J>,
     alloc: Global,
 }
 
@@ -48,13 +49,18 @@ impl<J: Naming> Model for SharedSession<J> {
 }
 
 /// Applies a command, and answers its reply or refusal. Refused as `NoMemory` alone, with nothing changed.
-fn run<J: Naming, R: Wait>(rt: &R, desk: &mut Desk<J>, command: &Command) -> Result<Text, Fault>
-    ensures text { IfOk result (λ text. text ≡ replied_text (floor_of_desk desk.old) command.now) }
-    ensures done { OnOk result (IsCommanded desk.old command.now desk.new) }
+fn run<J: Naming, R: Wait>(
+    rt: &R,
+    desk: &mut Desk<J>,
+    witness: &mut DeskWitness<J>,
+    command: &Command,
+) -> Result<Text, Fault>
+    ensures text { IfOk result (λ text. text ≡ replied_text (floor_of_desk desk.old.desk) command.now) }
+    ensures done { OnOk result (IsCommanded desk.old.desk command.now desk.new.desk) }
     ensures memory { IsOkUnless result Fault.NoMemory }
     ensures unchanged { OnErr result (desk.new ≡ desk.old) }
 {
-    match desk.apply(rt, command) {
+    match desk.apply(rt, witness, command) {
         Ok(reply) => Ok(Text::reply(reply)),
         Err(fault) => told_refusal(fault),
     }
@@ -62,8 +68,8 @@ fn run<J: Naming, R: Wait>(rt: &R, desk: &mut Desk<J>, command: &Command) -> Res
 
 /// How far a watcher of the desk is.
 fn met<J: Naming>(desk: &mut Desk<J>, watcher: &mut Watcher<J>) -> Meeting
-    ensures met { IsMet desk.old watcher.old result desk.new watcher.new }
-    ensures headline { IsScheduledBy (Meet watcher.old result watcher.new) desk.new }
+    ensures met { IsMet desk.old.desk watcher.old result desk.new.desk watcher.new }
+    ensures headline { IsScheduledBy (Meet watcher.old result watcher.new) desk.new.desk }
 {
     match desk.meet(watcher) {
         Ok(meeting) => meeting,
@@ -73,8 +79,8 @@ fn met<J: Naming>(desk: &mut Desk<J>, watcher: &mut Watcher<J>) -> Meeting
 
 /// Ends a watcher of the desk, and answers what was sent to it and not taken.
 fn closed<J: Naming, R: Wait>(rt: &R, desk: &mut Desk<J>, watcher: Watcher<J>) -> SharedPosts
-    ensures closed { IsClosed desk.old watcher result desk.new }
-    ensures headline { IsScheduledBy (Close watcher result) desk.new }
+    ensures closed { IsClosed desk.old.desk watcher result desk.new.desk }
+    ensures headline { IsScheduledBy (Close watcher result) desk.new.desk }
 {
     match desk.close(rt, watcher) {
         Ok(posts) => posts,
@@ -102,8 +108,8 @@ fn told_end<J: Naming, R: Wait>(
     desk: &mut Desk<J>,
     watcher: Watcher<J>,
 ) -> Result<Text, Fault>
-    ensures text { IfOk result (λ text. text ≡ closed_text (floor_seen desk.old (Some watcher)) watcher.key) }
-    ensures closed { (posts : List PostView) × IsClosed desk.old watcher posts desk.new × IsScheduledBy (Close watcher posts) desk.new }
+    ensures text { IfOk result (λ text. text ≡ closed_text (floor_seen desk.old.desk (Some watcher)) watcher.key) }
+    ensures closed { (posts : List PostView) × IsClosed desk.old.desk watcher posts desk.new.desk × IsScheduledBy (Close watcher posts) desk.new.desk }
     ensures memory { IsOkUnless result Fault.NoMemory }
 {
     let posts = closed(rt, desk, watcher);
@@ -136,11 +142,12 @@ fn taken<J: Naming, R: Wait>(
 
 impl<J: Naming> SharedSession<J> {
     /// A session with no watcher. Memory for its answers will come from `alloc`.
-    pub fn new(alloc: Global) -> SharedSession<J>
+    pub fn new(alloc: Global, witness: DeskWitness<J>) -> SharedSession<J>
         ensures { result ≡ None }
     {
         SharedSession {
             watcher: None,
+            witness,
             alloc,
         }
     }
@@ -148,11 +155,11 @@ impl<J: Naming> SharedSession<J> {
     /// Begins a watcher, and tells what it finds. Where there is no memory to tell it, the watcher is closed again.
     fn begin<R: Wait>(&mut self, rt: &R, desk: &mut Desk<J>, scope: Scope) -> Result<Text, Fault>
         requires none { self.old ≡ None }
-        requires desk { IsDesk desk.old }
-        ensures text { IfOk result (λ text. text ≡ opened_text (floor_of_desk desk.old) scope) }
-        ensures begun { OnOk result (IsBegun desk.old scope desk.new self.new) }
+        requires desk { IsDesk desk.old.desk }
+        ensures text { IfOk result (λ text. text ≡ opened_text (floor_of_desk desk.old.desk) scope) }
+        ensures begun { OnOk result (IsBegun desk.old.desk scope desk.new.desk self.new) }
         ensures memory { IsOkUnless result Fault.NoMemory }
-        ensures undone { OnErr result (IsUndoneBy desk.old None (Request.Watch scope) desk.new self.new) }
+        ensures undone { OnErr result (IsUndoneBy desk.old.desk None (Request.Watch scope) desk.new.desk self.new) }
     {
         let watcher = match desk.open(scope) {
             Ok(watcher) => watcher,
@@ -173,11 +180,11 @@ impl<J: Naming> SharedSession<J> {
     /// Begins a watcher where the session has none.
     #[tactic(auto, unfolding(crate::specs::Requests::answer_to))]
     fn watch<R: Wait>(&mut self, rt: &R, desk: &mut Desk<J>, scope: Scope) -> Result<Text, Fault>
-        requires { IsDesk desk.old }
-        ensures text { IfOk result (λ text. text ≡ answer_to (found_state desk.old self.old) (Request.Watch scope)) }
-        ensures done { OnOk result (IsDoneBy desk.old self.old (Request.Watch scope) desk.new self.new) }
+        requires { IsDesk desk.old.desk }
+        ensures text { IfOk result (λ text. text ≡ answer_to (found_state desk.old.desk self.old) (Request.Watch scope)) }
+        ensures done { OnOk result (IsDoneBy desk.old.desk self.old (Request.Watch scope) desk.new.desk self.new) }
         ensures memory { IsOkUnless result Fault.NoMemory }
-        ensures undone { OnErr result (IsUndoneBy desk.old self.old (Request.Watch scope) desk.new self.new) }
+        ensures undone { OnErr result (IsUndoneBy desk.old.desk self.old (Request.Watch scope) desk.new.desk self.new) }
     {
         if self.watcher.is_some() {
             return Ok(Text::refusal(Fault::WatcherOpen));
@@ -188,10 +195,10 @@ impl<J: Naming> SharedSession<J> {
     /// Closes the session's watcher, if it has one, and tells what it has not taken.
     #[tactic(auto, unfolding(crate::specs::Requests::answer_to))]
     fn close<R: Wait>(&mut self, rt: &R, desk: &mut Desk<J>) -> Result<Text, Fault>
-        ensures text { IfOk result (λ text. text ≡ answer_to (found_state desk.old self.old) Request.Close) }
-        ensures done { OnOk result (IsDoneBy desk.old self.old Request.Close desk.new self.new) }
+        ensures text { IfOk result (λ text. text ≡ answer_to (found_state desk.old.desk self.old) Request.Close) }
+        ensures done { OnOk result (IsDoneBy desk.old.desk self.old Request.Close desk.new.desk self.new) }
         ensures memory { IsOkUnless result Fault.NoMemory }
-        ensures undone { OnErr result (IsUndoneBy desk.old self.old Request.Close desk.new self.new) }
+        ensures undone { OnErr result (IsUndoneBy desk.old.desk self.old Request.Close desk.new.desk self.new) }
     {
         match self.watcher.take() {
             Some(watcher) => told_end(rt, self.alloc, desk, watcher),
@@ -216,24 +223,24 @@ impl<J: Naming> SharedSession<J> {
         request: &Request,
     ) -> Result<Text, Fault>
         requires { is_under_lock request.now ≡ true }
-        ensures text { IfOk result (λ text. text ≡ answer_to (found_state desk.old self.old) request.now) }
-        ensures done { OnOk result (IsDoneBy desk.old self.old request.now desk.new self.new) }
+        ensures text { IfOk result (λ text. text ≡ answer_to (found_state desk.old.desk self.old) request.now) }
+        ensures done { OnOk result (IsDoneBy desk.old.desk self.old request.now desk.new.desk self.new) }
         ensures memory { IsOkUnless result Fault.NoMemory }
-        ensures undone { OnErr result (IsUndoneBy desk.old self.old request.now desk.new self.new) }
+        ensures undone { OnErr result (IsUndoneBy desk.old.desk self.old request.now desk.new.desk self.new) }
 
         // What is always true of a desk.
-        ensures kept { IsDesk desk.old }
+        ensures kept { IsDesk desk.old.desk }
     {
         let book = desk.book();
         match request {
-            Request::Run(command) => run(rt, desk, command),
+            Request::Run(command) => run(rt, desk, &mut self.witness, command),
             Request::Show(space) => show(self.alloc, book, *space),
             Request::Find { space, path } => find(self.alloc, book, *space, path),
             Request::Watch(scope) => self.watch(rt, desk, *scope),
             Request::Close => self.close(rt, desk),
             Request::Quit => Ok(Text::reply(Reply::Done)),
             Request::Stop => {
-                desk.stop();
+                desk.stop(&mut self.witness);
                 Ok(Text::reply(Reply::Done))
             }
             Request::Take(_) | Request::Follow(_) => unreachable!(),
@@ -265,10 +272,10 @@ impl<J: Naming> SharedSession<J> {
     /// to; none where the session has no watcher. Takes no memory, and waits for nothing.
     pub fn meet(&mut self, desk: &mut Desk<J>) -> Option<Meeting>
         ensures none { self.old ≡ None → (result ≡ None) × (self.new ≡ None) × (desk.new ≡ desk.old) }
-        ensures met { ForSome self.old (λ (w : WatcherView). (m : Meeting) × (w' : WatcherView) × IsMet desk.old w m desk.new w' × (result ≡ Some m) × (self.new ≡ Some w') × IsScheduledBy (Meet w m w') desk.new) }
+        ensures met { ForSome self.old (λ (w : WatcherView). (m : Meeting) × (w' : WatcherView) × IsMet desk.old.desk w m desk.new.desk w' × (result ≡ Some m) × (self.new ≡ Some w') × IsScheduledBy (Meet w m w') desk.new.desk) }
 
         // What is always true of a desk.
-        ensures kept { IsDesk desk.old }
+        ensures kept { IsDesk desk.old.desk }
     {
         let _book = desk.book();
         match &mut self.watcher {
@@ -281,10 +288,10 @@ impl<J: Naming> SharedSession<J> {
     /// wait, as each call on a queue may.
     pub fn end<R: Wait>(&mut self, rt: &R, desk: &mut Desk<J>) -> Option<SharedPosts>
         ensures none { self.new ≡ None }
-        ensures ended { HasEnded desk.old self.old result desk.new }
+        ensures ended { HasEnded desk.old.desk self.old result desk.new.desk }
 
         // What is always true of a desk.
-        ensures kept { IsDesk desk.old }
+        ensures kept { IsDesk desk.old.desk }
     {
         let _book = desk.book();
         match self.watcher.take() {

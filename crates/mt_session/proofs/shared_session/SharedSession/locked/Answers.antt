@@ -9,14 +9,14 @@ use Rattle.mt_session.proofs.shared_session.SharedSession.locked.Goals as goal
 
 pub returns-in-Run-clause-text : goal.returns-in-Run-clause-text
 unfolding answer_to
-returns-in-Run-clause-text g c = told_as (found_state c.args.desk.now c.args.self.now) c.args.request.now _ _ _ c.in-Run.is (sym (seen_replied c.args.desk.now c.args.self.now c.in-Run.command)) c.run.ensures.text
+returns-in-Run-clause-text g c = told_as (found_state c.args.desk.now.desk c.args.self.now) c.args.request.now _ _ _ c.in-Run.is (sym (seen_replied c.args.desk.now.desk c.args.self.now c.in-Run.command)) c.run.ensures.text
 
 pub returns-in-Show-clause-text : goal.returns-in-Show-clause-text
 unfolding answer_to
 returns-in-Show-clause-text g c =
-    told_as (found_state c.args.desk.now c.args.self.now) c.args.request.now _ _ _ c.in-Show.is (ap (λ js. shown_text js c.in-Show.space) (c.book-book.ensures.journal ∙ sym (seen_journal c.args.desk.now c.args.self.now))) c.show.ensures.ok
+    told_as (found_state c.args.desk.now.desk c.args.self.now) c.args.request.now _ _ _ c.in-Show.is (ap (λ js. shown_text js c.in-Show.space) (c.book-book.ensures.journal ∙ sym (seen_journal c.args.desk.now.desk c.args.self.now))) c.show.ensures.ok
 
 pub returns-in-Find-clause-text : goal.returns-in-Find-clause-text
 unfolding answer_to
 returns-in-Find-clause-text g c =
-    told_as (found_state c.args.desk.now c.args.self.now) c.args.request.now _ _ _ c.in-Find.is (ap (λ js. found_text (found_at (after js) c.in-Find.space c.in-Find.path)) (c.book-book.ensures.journal ∙ sym (seen_journal c.args.desk.now c.args.self.now))) c.find.ensures.ok
+    told_as (found_state c.args.desk.now.desk c.args.self.now) c.args.request.now _ _ _ c.in-Find.is (ap (λ js. found_text (found_at (after js) c.in-Find.space c.in-Find.path)) (c.book-book.ensures.journal ∙ sym (seen_journal c.args.desk.now.desk c.args.self.now))) c.find.ensures.ok

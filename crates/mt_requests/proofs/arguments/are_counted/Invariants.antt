@@ -1,6 +1,6 @@
 use Rattle.std.proofs.Common.{◌≡◌, length}
-use Rattle.mt_reasons.specs.Arguments.{are_counted}
-use Rattle.mt_reasons.proofs.argument.are_counted.Given as goal
+use Rattle.mt_requests.specs.Requests.{are_counted}
+use Rattle.mt_requests.proofs.arguments.are_counted.Given as goal
 
 abbrev pub invariant-words : goal.invariant-words
 invariant-words l = are_counted l.arguments l.words ≡ are_counted l.initial.arguments l.initial.words

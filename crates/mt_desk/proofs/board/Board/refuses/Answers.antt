@@ -2,7 +2,7 @@ use Rattle.std.proofs.Common.{◌≡◌, ◌∙◌, length, ap, sym, arith}
 use Rattle.std.proofs.lemmas.List.{length-map}
 use Rattle.mt_desk.specs.Desk.{DeskView, floor_of_desk, late_watcher}
 use Rattle.mt_desk.specs.Places.{row_in}
-use Rattle.mt_desk.proofs.desk.Desk.refuses.Goals as goal
+use Rattle.mt_desk.proofs.board.Board.refuses.Goals as goal
 
 -- there are as many watchers as places in use
 pub returns : goal.returns

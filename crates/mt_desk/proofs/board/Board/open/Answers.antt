@@ -7,7 +7,7 @@ use Rattle.mt_desk.specs.declared.places.Slot.{Slot}
 use Rattle.mt_desk.specs.Desk.{DeskView, floor_of_desk}
 use Rattle.mt_desk.specs.Places.{IsParked, row_in}
 use Rattle.mt_desk.proofs.DeskLaws.{opening_refused, room_for_one, not_all_used, parked_at, begun_kept}
-use Rattle.mt_desk.proofs.desk.Desk.open.Goals as goal
+use Rattle.mt_desk.proofs.board.Board.open.Goals as goal
 
 pub returns-in-Some-clause-refused : goal.returns-in-Some-clause-refused
 returns-in-Some-clause-refused g c = λ ne. opening_refused c.args.self.now c.args.scope (sym c.refuses.ensures ∙ c.in-Some.is)

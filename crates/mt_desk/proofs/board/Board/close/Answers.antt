@@ -2,7 +2,7 @@ use Rattle.std.proofs.Common.{ap}
 use Rattle.mt_desk.specs.Desk.{DeskView}
 use Rattle.mt_desk.proofs.DeskLaws.{place_is, closed_kept}
 use Rattle.mt_desk.proofs.FollowLaws.{scheduled_by}
-use Rattle.mt_desk.proofs.desk.Desk.close.Goals as goal
+use Rattle.mt_desk.proofs.board.Board.close.Goals as goal
 
 pub close_at-posts-requires : goal.close_at-posts-requires
 close_at-posts-requires g c = place_is c.self.invariant.places c.watcher.invariant

@@ -2,7 +2,7 @@ use Rattle.std.proofs.Common.{ap}
 use Rattle.mt_desk.specs.Desk.{DeskView}
 use Rattle.mt_desk.proofs.DeskLaws.{place_is, met_kept}
 use Rattle.mt_desk.proofs.FollowLaws.{scheduled_by}
-use Rattle.mt_desk.proofs.desk.Desk.meet.Goals as goal
+use Rattle.mt_desk.proofs.board.Board.meet.Goals as goal
 
 pub meet_at-meeting-requires : goal.meet_at-meeting-requires
 meet_at-meeting-requires g c = place_is c.self.invariant.places c.watcher.invariant
