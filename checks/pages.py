@@ -172,7 +172,8 @@ PUT_TOGETHER = {
         "FILE: line N is no row of a mountinfo",
         "FILE: REASON",
         "SOCKET: not a new server",
-        "SOCKET: changes were lost, or others made some",
+        "SOCKET: changes were lost",
+        "SOCKET: others made changes",
         "table N: mount ID is left out: REASON",
     ],
 }
