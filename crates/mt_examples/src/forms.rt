@@ -11,7 +11,7 @@ use std::alloc::Global;
 use std::test::Fail;
 
 /// Lines, and what they ask for in namespace 1, in which a filesystem has its source for a name. A copied namespace is 3.
-const FORMS: [(&[u8], &[u8]); 50] = [
+const FORMS: [(&[u8], &[u8]); 52] = [
     (b"mount --bind /a /b", b"bind 1 /a /b\n"),
     (b"mount -B /a /b", b"bind 1 /a /b\n"),
     (b"mount -o bind /a /b", b"bind 1 /a /b\n"),
@@ -75,6 +75,8 @@ const FORMS: [(&[u8], &[u8]); 50] = [
     (b"umount -R /home", b""),
     (b"umount -Rl /home", b""),
     (b"umount -A /home", b""),
+    (b"umount usb", b""),
+    (b"umount /dev/sda3", b"umount 1 /dev/sda3\n"),
     (b"umount -vf /home", b"umount 1 /home\n"),
     (b"umount -N 2 /home", b"umount 2 /home\n"),
     (b"pivot_root /a /a/old", b"pivot 1 /a /a/old\n"),

@@ -1,7 +1,7 @@
 -- Forms as lines of a session (the lines are this project's rule).
 -- A word with no source is this project's rule.
 use Rattle.std.specs.Prelude.{ℕ, Bool, true, false, nat_eq, if◌then◌else◌, List, [], ◌∷◌, ◌++◌, length, Option, None, Some, codes}
-use Rattle.std.specs.List.{flat_map, list_all}
+use Rattle.std.specs.List.{flat_map, list_all, starts_with}
 use Rattle.mt_skel.specs.Escapes.{escaped}
 use Rattle.mt_lines.specs.Words.{pieces}
 use Rattle.mt_forms.specs.Given.{nothing_given, with_list}
@@ -73,11 +73,14 @@ new_mount_line space filesystem to = codes "mount" ++ behind_word space ++ behin
 abbrev pub told_attributes : List ℕ → Attributes
 told_attributes options = (with_list options nothing_given).said.set
 
--- more mounts than one are for a table to tell
+-- more mounts than one are for a table to tell, and so are those of a source
+abbrev pub umount_at_path : List ℕ → List ℕ → Bool → Reach → List ℕ
+umount_at_path space path lazy One = one_path_line (if lazy then codes "detach" else codes "umount") space path
+umount_at_path space path lazy Below = []
+umount_at_path space path lazy Filesystem = []
+
 abbrev pub umount_line : List ℕ → List ℕ → Bool → Reach → List ℕ
-umount_line space target lazy One = one_path_line (if lazy then codes "detach" else codes "umount") space target
-umount_line space target lazy Below = []
-umount_line space target lazy Filesystem = []
+umount_line space target lazy reach = if starts_with nat_eq target (codes "/") then umount_at_path space target lazy reach else []
 
 abbrev pub copy_line : List ℕ → Bool → List ℕ
 copy_line space less = codes "copyns" ++ behind_word space ++ (if less then codes " less\n" else codes "\n")

@@ -2,12 +2,13 @@
 ghost use Rattle.std.specs.Prelude.{◌≡◌, ◌++◌, IfOk, OnOk};
 ghost use Rattle.std.specs.List.{flat_map};
 ghost use Rattle.mt_lines.specs.Words.{pieces};
-ghost use Rattle.mt_forms.specs.Scripts.{has_no_name, behind_slash, behind_word, behind_path, one_path_line, two_paths_line, propagation_text, then_made, changed_lines, change_line, bind_line, new_mount_line, told_attributes, umount_line, copy_line, own_line, script_text, later_text};
+ghost use Rattle.mt_forms.specs.Scripts.{has_no_name, behind_slash, behind_word, behind_path, one_path_line, two_paths_line, propagation_text, then_made, changed_lines, change_line, bind_line, new_mount_line, told_attributes, umount_at_path, umount_line, copy_line, own_line, script_text, later_text};
 
 use crate::attribute::Attributes;
 use crate::given::nothing_given;
 use crate::operation::{Operation, Propagation, PropagationKind, Reach};
 use crate::setting::{Setting, for_bind, for_new, for_remount, push_setting};
+use crate::word::is_rooted;
 use mt_lines::words::{Pieces, Words};
 use mt_skel::escape::push_escaped;
 use std::alloc::{AllocError, Global};
@@ -189,16 +190,26 @@ fn attributes_in(options: &[u8]) -> Attributes
     nothing_given().with_list(options).said.set
 }
 
-/// Appends the line of an unmount, if it is of one mount alone.
-fn push_umount(text: &mut Vec<u8>, space: &[u8], target: &[u8], lazy: bool, reach: Reach) -> Done
-    ensures { OnOk result (text.new.items ≡ text.old.items ++ umount_line space.now target.now lazy reach) }
+/// Appends the line of an unmount at a path, if it is of one mount alone.
+fn push_umount_at(text: &mut Vec<u8>, space: &[u8], path: &[u8], lazy: bool, reach: Reach) -> Done
+    ensures { OnOk result (text.new.items ≡ text.old.items ++ umount_at_path space.now path.now lazy reach) }
 {
     match (reach, lazy) {
-        (Reach::One, false) => push_one_path(text, b"umount", space, target),
-        (Reach::One, true) => push_one_path(text, b"detach", space, target),
+        (Reach::One, false) => push_one_path(text, b"umount", space, path),
+        (Reach::One, true) => push_one_path(text, b"detach", space, path),
         (Reach::Below, _) => Ok(()),
         (Reach::Filesystem, _) => Ok(()),
     }
+}
+
+/// Appends the line of an unmount, if it is of one mount alone, at a path.
+fn push_umount(text: &mut Vec<u8>, space: &[u8], target: &[u8], lazy: bool, reach: Reach) -> Done
+    ensures { OnOk result (text.new.items ≡ text.old.items ++ umount_line space.now target.now lazy reach) }
+{
+    if is_rooted(target) {
+        push_umount_at(text, space, target, lazy, reach)?;
+    }
+    Ok(())
 }
 
 /// Appends the line that copies a namespace.
@@ -305,7 +316,7 @@ fn push_operation(
 /// changes; other forms need neither. Paths have one slash before each name. A `mount` with attributes is two lines,
 /// since no line sets both at once: its copies do not have them.
 ///
-/// There are no lines for an unmount of more mounts than one, which a table has to tell first, and for `mkdir`. What the
+/// There are no lines for an unmount of more mounts than one, or of a source, which a table has to tell first, and for `mkdir`. What the
 /// mounts of a copied namespace are made is told by [`later_session_lines`].
 pub fn session_lines(
     alloc: Global,
