@@ -1,6 +1,5 @@
 pub mod Commands
 pub mod Floors
-pub mod Histories
 pub mod Computing
 pub mod Starts
 pub mod Prelude

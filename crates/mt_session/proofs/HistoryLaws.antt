@@ -64,7 +64,7 @@ acted_same s s' same = subst (λ (x : SharedView). HasActed s.sight [] x.sight) 
 
 -- ---- What a line came to
 
-abbrev Acted : SharedView → Result Request Fault → List ℕ → SharedView → Type 0
+abbrev pub Acted : SharedView → Result Request Fault → List ℕ → SharedView → Type 0
 Acted s asked text s' = (acts : List Act) × IsAct asked text acts × HasActed s.sight acts s'.sight
 
 -- a request was done at the desk
@@ -117,7 +117,7 @@ turn_acts s (Ok r) text s' (inr (is, inr n)) =
     ([], wants_acts (Ok r) text is (λ (stop : Ok r ≡ Ok AsksStop). let at : r ≡ AsksStop = cc in unstopped n.1.desk n.1.now s.own s'.own (subst (λ (q : Request). IsUndoneBy n.1.desk s.own q n.1.now s'.own) at n.1.undone)), undone_acts s s' r n.1)
 turn_acts s (Err f) text s' (inr (is, inr n)) = absurd n
 
-turns_act : (turns : List SharedTurn) (s s' : SharedView) → AreTurns s turns s' → (acts : List Act) × AreActs turns acts × HasActed s.sight acts s'.sight
+pub turns_act : (turns : List SharedTurn) (s s' : SharedView) → AreTurns s turns s' → (acts : List Act) × AreActs turns acts × HasActed s.sight acts s'.sight
 turns_act [] s s' t = ([], refl, acted_same s s' t)
 turns_act (x ∷ turns) s s' t =
     let here = turn_acts s (request_of_line x.line) x.text t.0 t.1 in
@@ -149,10 +149,10 @@ end_acts (EndsCut cut) s asked out s' (inr c) = (out, so_far_acts s asked out s'
 end_acts Memory s asked out s' e = (out, so_far_acts s asked out s' (inr (inl e.0, e.1)))
 end_acts by s asked out s' e = absurd e
 
-abbrev ActedLast : List Item → SharedView → SharedView → Type 0
+abbrev pub ActedLast : List Item → SharedView → SharedView → Type 0
 ActedLast last s s' = (acts : List Act) × IsLastAct last acts × HasActed s.sight acts s'.sight
 
-ends_act : (by : End) (turns : List SharedTurn) (s : SharedView) (last : List Item) (rest left : Option (List ℕ)) (out : List ℕ) (s' : SharedView) → EndsSo by turns s last rest left out s' → ActedLast last s s'
+pub ends_act : (by : End) (turns : List SharedTurn) (s : SharedView) (last : List Item) (rest left : Option (List ℕ)) (out : List ℕ) (s' : SharedView) → EndsSo by turns s last rest left out s' → ActedLast last s s'
 ends_act by turns s last rest left out s' (inl (count, inl e)) = ([], inl refl, acted_same s s' e.1)
 ends_act by turns s last rest left out s' (inl (count, inr e)) =
     let a = end_acts by s (request_of_line e.0) out s' e.3 in

@@ -5,6 +5,7 @@ pub mod SightLaws
 pub mod SharedLaws
 pub mod WatcherLaws
 pub mod HistoryLaws
+pub mod LeftLaws
 pub mod SharedLineLaws
 pub mod GivingLaws
 pub mod FollowLaws

@@ -34,7 +34,7 @@ use Rattle.mt_history.specs.Entries.{WitnessView, entries}
 use Rattle.mt_desk.specs.Held.{HeldView, IsLogged}
 use Rattle.mt_session.specs.SharedTurns.{SharedView, IsAtDesk, SeesOn, accepted_act, acts_at, floor_seen, found_state, with_taken_posts, IsBegun, IsDoneBy, IsUndoneBy, HasTaken, HasEnded}
 use Rattle.mt_session.specs.SharedSession.{IsAnsweredAt, IsNotDoneAt, HasLeft}
-use Rattle.mt_session.specs.SharedServing.{HasEndedAt, IsKeptOrLeft, EndsWith, IsPiece}
+use Rattle.mt_session.specs.SharedServing.{HasEndedAt, EndsWith, IsPiece}
 use Rattle.mt_session.proofs.SightLaws.{sees_at}
 use Rattle.mt_session.proofs.TurnLaws.{apply_told, apply_refused, open_told, open_found, open_refused, close_posts}
 
@@ -224,7 +224,7 @@ close_told None v s' (Some posts) p n h gone none some = let is = h.ended.0 in c
 close_told (Some w) v s' None p n h gone none some = absurd h.ended
 close_told (Some w) v s' (Some posts) p n h gone none some =
     let s : SharedView = record { own = Some w; sight = v } in
-    let left : IsKeptOrLeft (Some w) None = (h.log, (h.desk, posts, h.now, h.kept.0, h.kept.1, h.ended.0, h.ended.1)) in
+    let left : HasLeft (Some w) s'.sight.seen = (h.desk, posts, h.now, h.kept.0, ended_seen s (Some posts) s'.sight h, h.ended.0, h.ended.1) in
     elim (some posts refl) [
       | inl last ↦ rw (last.0, last.1) (inl (inl record { desk = h.desk; log = h.log; now = h.now; kept = h.kept; done = (posts, h.ended.0, gone, h.ended.1); sight = close_sight s (Some posts) s'.sight h; answer = sym (end_told h.desk h.now w posts h.ended.0) }, refl))
       | inr last ↦ rw (last.0, last.1) (inr ((h.desk, h.now, posts, h.kept.0, ended_seen s (Some posts) s'.sight h, h.ended.0, h.ended.1, refl), rw gone left, end_sees s (Some posts) s'.sight h, refl))

@@ -211,7 +211,7 @@ outcome_of w w' asked out t = (t, refl)
 -- how the session goes on with it, or ends, but by no cut
 record IsOut (w : SharedView) (asked : Result Request Fault) (out : List ℕ) (end : Option End) (w' : SharedView) : Type 0 where
   outcome : IsOutcome end w asked out w'
-  watcher : IsKeptOrLeft w.own w'.own
+  watcher : IsKeptOrLeft w.own w'.own w'.sight.seen
   so_far : IsAnswerSoFar w asked out w'
   uncut : is_uncut end ≡ true
 
@@ -226,7 +226,7 @@ serves_whole w w' asked sent written out end is whole =
 
 -- an answer that was cut within a piece
 serves_cut : (w w' : SharedView) (asked : Result Request Fault) (sent written : Option (List ℕ)) (front piece : List ℕ) (cut : Cut)
-    → Appends sent written (front ++ take cut.sent piece) → IsInFront w.own asked front → IsAnswerSoFar w asked (front ++ piece) w' → cut.sent < length piece → IsKeptOrLeft w.own w'.own
+    → Appends sent written (front ++ take cut.sent piece) → IsInFront w.own asked front → IsAnswerSoFar w asked (front ++ piece) w' → cut.sent < length piece → IsKeptOrLeft w.own w'.own w'.sight.seen
     → ServesAsked w asked sent written (Some (CutOff cut)) w'
 serves_cut w w' asked sent written front piece cut is before answer fewer keeps = record {
   out = front ++ take cut.sent piece;
@@ -251,8 +251,8 @@ piece_over w w' r sent so_far written out None n end piece is e more = absurd (r
 piece_over w w' r sent so_far written out (Some text) n end piece is e more =
     serves_whole w w' (Ok r) sent written (out ++ text) end (Appends-trans sent so_far written out text e more) (rw is at piece)
 
-following_keeps : (w w' : Option WatcherView) (r : Request) (out : List ℕ) (told : ℕ) → Follows w r out told w' → IsKeptOrLeft w w'
-following_keeps w w' r out told f = rw (f.had, f.has) (f.posts, f.taken.0, f.taken.2)
+following_keeps : (w w' : Option WatcherView) (r : Request) (out : List ℕ) (told : ℕ) (seen : List LogEntry) → Follows w r out told w' → IsKeptOrLeft w w' seen
+following_keeps w w' r out told seen f = rw (f.had, f.has) (f.posts, f.taken.0, f.taken.2)
 
 -- a piece was cut
 pub piece_cut : (w mid w' : SharedView) (r : Request) (sent so_far written : Option (List ℕ)) (out : List ℕ) (told : ℕ) (p : Option (List ℕ)) (n : Then) (cut : Cut)
@@ -260,7 +260,7 @@ pub piece_cut : (w mid w' : SharedView) (r : Request) (sent so_far written : Opt
     → ServesAsked w (Ok r) sent written (Some (CutOff cut)) w'
 piece_cut w mid w' r sent so_far written out told (Some text) (More next) cut s piece fewer e more =
     serves_cut w w' (Ok r) sent written out text cut (Appends-trans sent so_far written out (take cut.sent text) e more) (so_far_front w mid r out told s)
-    (inr (inr (following_so_far w.own w'.own r (out ++ text) next piece.0), piece.1)) fewer (following_keeps w.own w'.own r (out ++ text) next piece.0)
+    (inr (inr (following_so_far w.own w'.own r (out ++ text) next piece.0), piece.1)) fewer (following_keeps w.own w'.own r (out ++ text) next w'.sight.seen piece.0)
 piece_cut w mid w' r sent so_far written out told (Some text) (Over end) cut s piece fewer e more =
     let o = whole_out w w' (Ok r) (out ++ text) end piece in
     serves_cut w w' (Ok r) sent written out text cut (Appends-trans sent so_far written out (take cut.sent text) e more) (so_far_front w mid r out told s) o.so_far fewer o.watcher
@@ -268,7 +268,7 @@ piece_cut w mid w' r sent so_far written out told None (More next) cut s piece n
   out = out ++ [];
   written_is = Appends-trans sent so_far written out [] e (subst (λ (k : ℕ). Appends so_far written (take k [])) none more);
   outcome = inr (none, following_so_far w.own w'.own r (out ++ []) next piece.0, piece.1);
-  watcher = following_keeps w.own w'.own r (out ++ []) next piece.0;
+  watcher = following_keeps w.own w'.own r (out ++ []) next w'.sight.seen piece.0;
 }
 piece_cut w mid w' r sent so_far written out told None (Over end) cut s piece none e more = absurd piece
 
@@ -324,17 +324,17 @@ line_served before later line w w' sent written (Some by) lines ends s = record 
   out = s.out;
   written_is = s.written_is;
   ends = inr (line, refl, refl, s.outcome);
-  left = was_left w.own w'.own s.watcher;
+  left = λ v left sees. was_left w.own w'.own w'.sight.seen s.watcher v.seen left sees.1.0;
 }
 
 -- the last line has no line end, or there is none
-left_so : (w : Option WatcherView) (seen : List LogEntry) → HasLeft w seen → WasLeft w
-left_so w seen left = was_left w w (kept_same w) seen left
+left_so : (w : SharedView) (v : WitnessView) → HasLeft w.own v.seen → SeesOn w.sight v → WasLeft w.own v.seen
+left_so w v left sees = was_left w.own w.own w.sight.seen (kept_same w.own w.sight.seen) v.seen left sees.1.0
 
 unended_served : (before later : Option (List ℕ)) (w : SharedView) (sent written : Option (List ℕ)) (result : Option End)
     → PassLines line_limit before (Unended ∷ []) later → EndsInput Input before (Unended ∷ []) → IsSent sent written (refusal BadLine) (Some Input) result → ServedSharedLine before later w w sent written result
 unended_served before later w sent written result lines input (inl s) =
-    rw s.0 record { last = Unended ∷ []; rest = later; lines = lines; input = input; out = refusal BadLine; written_is = s.1; ends = inl ((refl, inr (refl, refl)), refl); left = left_so w.own }
+    rw s.0 record { last = Unended ∷ []; rest = later; lines = lines; input = input; out = refusal BadLine; written_is = s.1; ends = inl ((refl, inr (refl, refl)), refl); left = left_so w }
 unended_served before later w sent written result lines input (inr s) =
     rw s.1 record {
       last = Unended ∷ [];
@@ -344,14 +344,14 @@ unended_served before later w sent written result lines input (inr s) =
       out = take s.0.sent (refusal BadLine);
       written_is = s.2;
       ends = inr (Broken, refl, refl, inl record { front = []; piece = refusal BadLine; front_is = inl refl; answer = inl (inl (refl, refl)); fewer = s.3; out_is = refl });
-      left = left_so w.own;
+      left = left_so w;
     }
 
 -- the input brings the end, for which nothing is written
 input_ends : (before rest later : Option (List ℕ)) (w : SharedView) (sent written : Option (List ℕ)) (by : End) → PassLines line_limit before [] rest → EndsInput by before [] → Keeps sent written → EndsOfInput by [] rest later []
     → SharedEnding before later w w sent written by
 input_ends before rest later w sent written by lines input keeps ends =
-    record { last = []; rest = rest; lines = lines; input = input; out = []; written_is = kept_nothing sent written keeps; ends = inl (ends, refl); left = left_so w.own }
+    record { last = []; rest = rest; lines = lines; input = input; out = []; written_is = kept_nothing sent written keeps; ends = inl (ends, refl); left = left_so w }
 
 -- the reader failed: with the limit of sessions it never wants memory
 pub fault_served : (limit : ℕ) (before later : Option (List ℕ)) (kept : List ℕ) (f : ReadFault) (w : SharedView) (sent written : Option (List ℕ))
@@ -420,7 +420,7 @@ served_ending turns before mid later w now then sent so_far written by v none a 
       written_is = Appends-trans sent so_far written (flat_map text turns) b.out a.written_is b.written_is;
       ends = inl (count, b.ends);
       count = omega (arith, count);
-      left = b.left v.seen left;
+      left = b.left v left sees;
       gone = left;
       sight = sees;
     }
@@ -445,7 +445,7 @@ served_spent turns before later w now sent written v none a count left sees =
       written_is = subst (λ (x : List ℕ). Appends sent written x) (sym (append-nil (flat_map text turns))) a.written_is;
       ends = inr ((count, refl, refl, refl), refl);
       count = omega (arith, count);
-      left = left_so now.own v.seen left;
+      left = left_so now v left sees;
       gone = left;
       sight = sees;
     }

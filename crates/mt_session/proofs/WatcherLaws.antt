@@ -7,12 +7,15 @@ use Rattle.mt_events.specs.Following.{IsRun}
 use Rattle.mt_floor.specs.declared.watch.Meeting.{Meeting}
 use Rattle.mt_desk.specs.Desk.{DeskView, IsDesk}
 use Rattle.mt_desk.specs.Calls.{WatcherView, IsMet}
-use Rattle.mt_desk.specs.Headline.{Meet as Meets, IsScheduledBy, HasClosed}
+use Rattle.mt_desk.specs.Headline.{Meet as Meets, IsScheduledBy}
 use Rattle.mt_events.specs.declared.texts.PrintedPosts.{PrintedPosts}
 use Rattle.mt_session.specs.declared.shared_answer.Portion.TheVariants.{Posts, Empty}
-use Rattle.mt_session.specs.SharedTurns.{SharedView, HasTaken, HasPopped, with_taken_posts, GoesOn, IsDoneBy, IsUndoneBy}
+use Rattle.mt_session.specs.SharedTurns.{SharedView, acts_at, HasTaken, HasPopped, with_taken_posts, GoesOn, IsDoneBy, IsUndoneBy}
 use Rattle.mt_history.specs.declared.act.LogEntry.{LogEntry}
-use Rattle.mt_history.specs.Entries.{WitnessView}
+use Rattle.mt_history.specs.declared.act.Act.{Act}
+use Rattle.mt_history.specs.Entries.{WitnessView, entries}
+use Rattle.mt_history.proofs.EntryLaws.{prefix_self}
+use mathlib.Core.List.{IsPrefix}
 use Rattle.mt_desk.specs.Held.{HeldView, IsLogged}
 use Rattle.mt_session.specs.SharedServing.{HasMet, HasPortion, IsPortion, IsKeptOrLeft}
 use Rattle.mt_requests.specs.declared.request.Request.{Request}
@@ -20,10 +23,7 @@ use Rattle.mt_requests.specs.declared.request.Request.TheVariants.{Run, Show, Fi
 use Rattle.mt_session.specs.SharedSession.{new_session, IsAnsweredAt, IsNotDoneAt, HasLeft, WasLeft, IsSpent, IsTaken, IsFollowed, IsAnswered, IsTurn, SharedTurn, AreTurns}
 use Rattle.mt_skel.specs.declared.fault.Fault.{Fault}
 use Rattle.mt_floor.specs.declared.watch.Phase.{Phase}
-use Rattle.mt_floor.specs.Headline.{posted_since}
-use Rattle.mt_floor.proofs.FollowLaws.{told_in_order, told_tables}
 use Rattle.mt_session.specs.Session.{request_of_line}
-use Rattle.mt_session.specs.SharedHeadline.{FollowsInOrder, SharedSessionsFollow}
 
 -- ---- What it has taken
 
@@ -175,107 +175,88 @@ goes_then w mid w' a b = (
       ∙ ap (λ (posts : List PostView). record w { half = record w.half { taken = posts; told = b.1 } }) (append_assoc w.half.taken a.0 b.0),
 )
 
-pub kept_same : (w : Option WatcherView) → IsKeptOrLeft w w
-kept_same None = tt
-kept_same (Some w) = goes_none w
+pub kept_same : (w : Option WatcherView) (seen : List LogEntry) → IsKeptOrLeft w w seen
+kept_same None seen = tt
+kept_same (Some w) seen = goes_none w
 
 -- a request that is done while the desk is held
-done_keeps : (d now : DeskView) (log : List LogEntry) (w w' : Option WatcherView) (r : Request) → IsDesk d → IsLogged d log → IsDoneBy d w r now w' → IsKeptOrLeft w w'
+done_keeps : (d now : DeskView) (log : List LogEntry) (w w' : Option WatcherView) (r : Request) → IsDesk d → IsLogged d log → IsDoneBy d w r now w' → IsKeptOrLeft w w' log
 done_keeps d now log None w' r kept logged h = tt
-done_keeps d now log (Some w) w' Close kept logged h = rw h.2 (log, (d, h.0, now, kept, logged, h.1, h.3))
+done_keeps d now log (Some w) w' Close kept logged h = rw h.2 (d, h.0, now, kept, logged, h.1, h.3)
 done_keeps d now log (Some w) w' r kept logged h = rw h.1 (goes_none w)
 
-pub answered_keeps : (s s' : SharedView) (r : Request) (text : List ℕ) → IsAnsweredAt s r text s' → IsKeptOrLeft s.own s'.own
-answered_keeps s s' r text a = done_keeps a.desk a.now a.log s.own s'.own r a.kept.0 a.kept.1 a.done
+-- where the watcher goes on, it is not said how much of the history there is
+goes_anyhow : (w w' : Option WatcherView) (a b : List LogEntry) → ((v : WatcherView) → w ≡ Some v → w' ≡ None → b ≡ a) → IsKeptOrLeft w w' a → IsKeptOrLeft w w' b
+goes_anyhow None w' a b same k = tt
+goes_anyhow (Some w) None a b same k = subst (λ (l : List LogEntry). HasLeft (Some w) l) (sym (same w refl refl)) k
+goes_anyhow (Some w) (Some v) a b same k = k
 
-undone_left : (d now : DeskView) (log : List LogEntry) (w w' : Option WatcherView) (r : Request) → IsDesk d → IsLogged d log → IsUndoneBy d w r now w' → IsKeptOrLeft w w'
+-- a watcher that is gone was closed, which comes to nothing in the history
+gone_acts : (d now : DeskView) (w : WatcherView) (w' : Option WatcherView) (r : Request) → IsDoneBy d (Some w) r now w' → w' ≡ None → acts_at d r ≡ []
+gone_acts d now w w' Close h none = refl
+gone_acts d now w w' r h none = let is = h.1 in cc
+
+pub answered_keeps : (s s' : SharedView) (r : Request) (text : List ℕ) → IsAnsweredAt s r text s' → IsKeptOrLeft s.own s'.own s'.sight.seen
+answered_keeps s s' r text a =
+    let seen : s'.sight.seen ≡ a.log ++ entries s.sight.by (acts_at a.desk r) = ap (λ (v : WitnessView). v.seen) a.sight in
+    goes_anyhow s.own s'.own a.log s'.sight.seen
+    (λ (v : WatcherView) (own : s.own ≡ Some v) (none : s'.own ≡ None). seen
+    ∙ ap (λ (acts : List Act). a.log ++ entries s.sight.by acts) (gone_acts a.desk a.now v s'.own r (subst (λ (o : Option WatcherView). IsDoneBy a.desk o r a.now s'.own) own a.done) none)
+    ∙ append-nil a.log)
+    (done_keeps a.desk a.now a.log s.own s'.own r a.kept.0 a.kept.1 a.done)
+
+undone_left : (d now : DeskView) (log : List LogEntry) (w w' : Option WatcherView) (r : Request) → IsDesk d → IsLogged d log → IsUndoneBy d w r now w' → IsKeptOrLeft w w' log
 undone_left d now log None w' r kept logged u = tt
-undone_left d now log (Some w) w' Close kept logged u = rw u.2 (log, (d, u.0, now, kept, logged, u.1, u.3))
+undone_left d now log (Some w) w' Close kept logged u = rw u.2 (d, u.0, now, kept, logged, u.1, u.3)
 undone_left d now log (Some w) w' (Run c) kept logged u = rw u.1 (goes_none w)
 undone_left d now log (Some w) w' (Show n) kept logged u = rw u.1 (goes_none w)
 undone_left d now log (Some w) w' (Find n path) kept logged u = rw u.1 (goes_none w)
 undone_left d now log (Some w) w' r kept logged u = absurd u
 
-pub undone_keeps : (s s' : SharedView) (r : Request) → IsNotDoneAt s r s' → IsKeptOrLeft s.own s'.own
-undone_keeps s s' r u = undone_left u.desk u.now u.log s.own s'.own r u.kept.0 u.kept.1 u.undone
+pub undone_keeps : (s s' : SharedView) (r : Request) → IsNotDoneAt s r s' → IsKeptOrLeft s.own s'.own s'.sight.seen
+undone_keeps s s' r u =
+    goes_anyhow s.own s'.own u.log s'.sight.seen (λ v own none. ap (λ (x : WitnessView). x.seen) u.sight) (undone_left u.desk u.now u.log s.own s'.own r u.kept.0 u.kept.1 u.undone)
 
 -- nothing has become of the session
-same_keeps : (s s' : SharedView) → s' ≡ s → IsKeptOrLeft s.own s'.own
-same_keeps s s' same = subst (λ (x : SharedView). IsKeptOrLeft s.own x.own) (sym same) (kept_same s.own)
+same_keeps : (s s' : SharedView) → s' ≡ s → IsKeptOrLeft s.own s'.own s'.sight.seen
+same_keeps s s' same = subst (λ (x : SharedView). IsKeptOrLeft s.own x.own x.sight.seen) (sym same) (kept_same s.own s.sight.seen)
 
--- the session has left it
-pub was_left : (w last : Option WatcherView) → IsKeptOrLeft w last → (seen : List LogEntry) → HasLeft last seen → WasLeft w
-was_left None last k seen left = tt
-was_left (Some w) None k seen left = (w, k.0, goes_none w, k.1)
-was_left (Some w) (Some last) k seen left = (last, seen, k, left)
+-- the session has left it, after a beginning of what it has seen in the end
+pub was_left : (w last : Option WatcherView) (seen : List LogEntry) → IsKeptOrLeft w last seen → (v : List LogEntry) → HasLeft last v → IsPrefix seen v → WasLeft w v
+was_left None last seen k v left begins = tt
+was_left (Some w) None seen k v left begins = (w, seen, goes_none w, k, begins)
+was_left (Some w) (Some last) seen k v left begins = (last, v, k, left, prefix_self v)
 
 -- ---- A line keeps the session's watcher, or leaves it
 
 spent_goes : (w after : WatcherView) (phase : Phase) (seen : List LogEntry) → IsSpent w phase after seen → GoesOn w after
 spent_goes w after phase seen s = let moved = met_moved s.desk w s.meeting s.now after s.met in ([], moved.0, moved.2)
 
-take_keeps : (w : Option WatcherView) (most : ℕ) (text : List ℕ) (w' : Option WatcherView) (seen : List LogEntry) → IsTaken w most text w' seen → IsKeptOrLeft w w'
+take_keeps : (w : Option WatcherView) (most : ℕ) (text : List ℕ) (w' : Option WatcherView) (seen : List LogEntry) → IsTaken w most text w' seen → IsKeptOrLeft w w' seen
 take_keeps None most text w' seen t = tt
 take_keeps (Some w) most text w' seen (inl t) = rw t.watcher (t.posts, t.taken.0, t.taken.2)
 take_keeps (Some w) most text w' seen (inr t) = rw t.watcher (spent_goes w t.after t.phase seen t.spent)
 
-follow_keeps : (w : Option WatcherView) (most : ℕ) (text : List ℕ) (w' : Option WatcherView) (seen : List LogEntry) → IsFollowed w most text w' seen → IsKeptOrLeft w w'
+follow_keeps : (w : Option WatcherView) (most : ℕ) (text : List ℕ) (w' : Option WatcherView) (seen : List LogEntry) → IsFollowed w most text w' seen → IsKeptOrLeft w w' seen
 follow_keeps None most text w' seen f = tt
 follow_keeps (Some w) most text w' seen (inl f) = rw f.watcher (f.posts, f.taken.0, f.taken.2)
 follow_keeps (Some w) most text w' seen (inr f) = rw f.watcher (goes_then w f.before f.after (f.posts, f.taken.0, f.taken.2) (spent_goes f.before f.after f.phase seen f.spent))
 
-told_keeps : (s : SharedView) (asked : Result Request Fault) (text : List ℕ) (s' : SharedView) → IsAnswered s asked text s' → IsKeptOrLeft s.own s'.own
+told_keeps : (s : SharedView) (asked : Result Request Fault) (text : List ℕ) (s' : SharedView) → IsAnswered s asked text s' → IsKeptOrLeft s.own s'.own s'.sight.seen
 told_keeps s (Err f) text s' t = same_keeps s s' t.1
 told_keeps s (Ok (Take k)) text s' t = take_keeps s.own k text s'.own s'.sight.seen t.0
 told_keeps s (Ok (Follow k)) text s' t = follow_keeps s.own k text s'.own s'.sight.seen t.0
 told_keeps s (Ok r) text s' t = answered_keeps s s' r text t
 
 -- whatever a line is answered, the session's watcher goes on or is left
-pub turn_keeps : (s : SharedView) (asked : Result Request Fault) (text : List ℕ) (s' : SharedView) → IsTurn s asked text s' → IsKeptOrLeft s.own s'.own
+pub turn_keeps : (s : SharedView) (asked : Result Request Fault) (text : List ℕ) (s' : SharedView) → IsTurn s asked text s' → IsKeptOrLeft s.own s'.own s'.sight.seen
 turn_keeps s asked text s' (inl t) = told_keeps s asked text s' t
 turn_keeps s asked text s' (inr (is, inl same)) = same_keeps s s' same.1
 turn_keeps s (Ok r) text s' (inr (is, inr n)) = undone_keeps s s' r n.1
 turn_keeps s (Err f) text s' (inr (is, inr n)) = absurd n
 
--- ---- So each watcher is left in the end
-
-left_then : (w mid : Option WatcherView) → IsKeptOrLeft w mid → WasLeft mid → WasLeft w
-left_then None mid k l = tt
-left_then (Some w) None k l = (w, k.0, goes_none w, k.1)
-left_then (Some w) (Some v) k l = (l.0, l.1, goes_then w v l.0 k l.2, l.3)
-
-turns_left : (turns : List SharedTurn) (s s' : SharedView) → AreTurns s turns s' → WasLeft s'.own → WasLeft s.own
-turns_left [] s s' t l = subst (λ (x : SharedView). WasLeft x.own) t l
-turns_left (x ∷ turns) s s' t l = left_then s.own t.0.own (turn_keeps s (request_of_line x.line) x.text t.0 t.1) (turns_left turns t.0 s' t.2 l)
+-- ---- Lines one after another
 
 pub turns_split : (xs ys : List SharedTurn) (s s' : SharedView) → AreTurns s (xs ++ ys) s' → (mid : SharedView) × AreTurns s xs mid × AreTurns mid ys s'
 turns_split [] ys s s' t = (s, refl, t)
 turns_split (x ∷ xs) ys s s' t = let more = turns_split xs ys t.0 s' t.2 in (more.0, (t.0, t.1, more.1), more.2)
-
-follows_in_order : (w : WatcherView) → WasLeft (Some w) → FollowsInOrder w
-follows_in_order w l =
-    let g = l.2 in
-    let left = l.3 in
-    let posts : List PostView = left.1 in
-    let now = left.2 in
-    let s = left.6 in
-    let es = s.history.events in
-    let c : HasClosed now.capacity es (record w { half = record w.half { taken = w.half.taken ++ g.0; told = g.1 } }) posts = subst (λ (v : WatcherView). HasClosed now.capacity es v posts) g.2 s.follows in
-    let first : posted_since now.capacity es c.followed.at w.key ≡ w.half.taken ++ (g.0 ++ posts) = c.rest ∙ append_assoc w.half.taken g.0 posts in record {
-      desk = now;
-      history = s.history;
-      at = c.followed.at;
-      began = c.followed.began;
-      later = g.0 ++ posts;
-      posted = first;
-      in_order = c.followed.in_order;
-      run = told_in_order now.capacity es c.followed.at w.key w.half.opening c.followed.began w.half.taken (g.0 ++ posts) first;
-      tables = told_tables now.capacity es c.followed.at w.key w.half.opening c.followed.began w.half.taken (g.0 ++ posts) first;
-    }
-
--- what a session's watcher has taken behind each of its lines is in order, and gives the tables
-pub shared_sessions_follow : SharedSessionsFollow
-shared_sessions_follow before later sent written by v v' s front back is =
-    let t = turns_split front back (new_session v) s.state (subst (λ (l : List SharedTurn). AreTurns (new_session v) l s.state) is s.told) in
-    let left = turns_left back t.0 s.state t.2 s.left in
-    (t.0, t.1, t.2, λ w own. follows_in_order w (subst WasLeft own left))

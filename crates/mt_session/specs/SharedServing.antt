@@ -48,11 +48,11 @@ pub record HasEndedAt (s : SharedView) (posts : Option (List PostView)) (v' : Wi
   pub ended : HasEnded desk s.own posts now
   pub sight : v' ≡ record s.sight { seen = log }
 
--- what becomes of a session's watcher, if it has one: it goes on, or the session leaves it
-abbrev pub IsKeptOrLeft : Option WatcherView → Option WatcherView → Type 0
-IsKeptOrLeft None w' = ⊤
-IsKeptOrLeft (Some w) None = (seen : List LogEntry) × HasLeft (Some w) seen
-IsKeptOrLeft (Some w) (Some w') = GoesOn w w'
+-- what becomes of a session's watcher, if it has one: it goes on, or the session leaves it, after so much of the history
+abbrev pub IsKeptOrLeft : Option WatcherView → Option WatcherView → List LogEntry → Type 0
+IsKeptOrLeft None w' seen = ⊤
+IsKeptOrLeft (Some w) None seen = HasLeft (Some w) seen
+IsKeptOrLeft (Some w) (Some w') seen = GoesOn w w'
 
 -- ---- posts that are taken
 
@@ -105,7 +105,7 @@ IsWithin r told = (most : ℕ) → r ≡ Follow most → told ≤ most
 abbrev pub AnswersWhole : SharedView → Result Request Fault → List ℕ → Option End → SharedView → Type 0
 AnswersWhole s asked text end s' =
     (IsTurn s asked text s' × (end ≡ ends_by asked))
-    ⊎ (IsLost s.own asked text s'.sight.seen × IsKeptOrLeft s.own s'.own × SeesOn s.sight s'.sight × (end ≡ Some Memory))
+    ⊎ (IsLost s.own asked text s'.sight.seen × IsKeptOrLeft s.own s'.own s'.sight.seen × SeesOn s.sight s'.sight × (end ≡ Some Memory))
 
 -- a piece is the last one, of this text, and so the session ends with it, if it does
 abbrev pub EndsWith : List ℕ → Option End → Option (List ℕ) → Then → Type 0
@@ -134,7 +134,7 @@ pub record ServesAsked (s : SharedView) (asked : Result Request Fault) (sent wri
   pub out : List ℕ
   pub written_is : Appends sent written out
   pub outcome : IsOutcome result s asked out s'
-  pub watcher : IsKeptOrLeft s.own s'.own
+  pub watcher : IsKeptOrLeft s.own s'.own s'.sight.seen
 
 -- what a reader said of a line is answered, or the session ends by it
 abbrev pub ServesLine : Line → List ℕ → SharedView → Option (List ℕ) → Option (List ℕ) → Option End → SharedView → Type 0

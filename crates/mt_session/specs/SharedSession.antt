@@ -26,6 +26,7 @@ use Rattle.mt_session.specs.Requests.{answer_to, by_phase}
 use Rattle.mt_session.specs.Session.{Asking, item_of, has_end, request_of_line, ends_by, most_lines, line_limit, EndsInput, IsPartRead}
 use Rattle.std.specs.Io.KnownBytes.{Appends}
 use Rattle.mt_lines.specs.Reading.{PassLines}
+use mathlib.Core.List.{IsPrefix}
 use Rattle.mt_history.specs.declared.act.LogEntry.{LogEntry}
 use Rattle.mt_history.specs.Entries.{WitnessView, entries}
 use Rattle.mt_desk.specs.Held.{IsLogged}
@@ -229,10 +230,10 @@ HasLeft None seen = (desk : DeskView) × IsDesk desk × IsLogged desk seen
 HasLeft (Some w) seen =
     (desk : DeskView) × (posts : List PostView) × (now : DeskView) × IsDesk desk × IsLogged desk seen × IsClosed desk w posts now × IsScheduledBy (Closes w posts) now
 
--- a session that had this watcher when the line came that ended it, or none came, has left it, once it went on
-abbrev pub WasLeft : Option WatcherView → Type 0
-WasLeft None = ⊤
-WasLeft (Some w) = (last : WatcherView) × (seen : List LogEntry) × GoesOn w last × HasLeft (Some last) seen
+-- a session that had this watcher when the line came that ended it, or none came, has left it, once it went on, after a beginning of what it has seen in the end
+abbrev pub WasLeft : Option WatcherView → List LogEntry → Type 0
+WasLeft None seen = ⊤
+WasLeft (Some w) seen = (last : WatcherView) × (log : List LogEntry) × GoesOn w last × HasLeft (Some last) log × IsPrefix log seen
 
 -- a session that has seen nothing but what it was let in with
 abbrev pub new_session : WitnessView → SharedView
@@ -255,7 +256,7 @@ pub record ServedShared (before later sent written : Option (List ℕ)) (by : En
   pub written_is : Appends sent written (flat_map (λ (t : SharedTurn). t.text) turns ++ out)
   pub ends : EndsSo by turns state last rest later out final
   pub count : length turns ≤ most_lines
-  pub left : WasLeft state.own
+  pub left : WasLeft state.own v'.seen
   pub gone : HasLeft final.own v'.seen
   pub sight : SeesOn final.sight v'
 
@@ -275,7 +276,7 @@ pub record SharedEnding (before later : Option (List ℕ)) (s s' : SharedView) (
   pub input : EndsInput by before last
   pub written_is : Appends sent written out
   pub ends : EndsByNext by s last rest later out s'
-  pub left : (seen : List LogEntry) → HasLeft s'.own seen → WasLeft s.own
+  pub left : (v : WitnessView) → HasLeft s'.own v.seen → SeesOn s'.sight v → WasLeft s.own v.seen
 
 -- one line left the reader, and its whole answer was sent: the session goes on, or has ended with it
 abbrev pub ServedSharedLine : Option (List ℕ) → Option (List ℕ) → SharedView → SharedView → Option (List ℕ) → Option (List ℕ) → Option End → Type 0

@@ -18,7 +18,8 @@ pub fn sessions_follow()
 /// Behind each line of a session in a thread of its own, and whatever the other sessions do: what its watcher has taken,
 /// and so all that `take` and `follow` have told of it or lost, is a prefix of what was posted for the namespaces it
 /// follows since its opening, each once and in order; and applied to the opening that `watch` told, it gives each
-/// namespace's table as of its last taken number. That is so by the history of the desk at which the watcher was closed.
+/// namespace's table as of its last taken number. That is so by the events that led to the desk at which the watcher was
+/// closed, whose commands are those of a beginning of what the session has seen of the one history in the end.
 pub fn shared_sessions_follow()
     ensures { SharedSessionsFollow }
 {}
