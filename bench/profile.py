@@ -134,7 +134,7 @@ WORLDS = {
 
 
 def counted(program, lines, commands, times):
-    """Instructions of each part while these commands are done so often, behind these lines and twice uncounted:
+    """Instructions of each part while these commands are done so often, after these lines and twice uncounted:
     the first ones on each of the two worlds may make room for as many mounts as there are."""
     with tempfile.TemporaryDirectory() as folder:
         out = os.path.join(folder, "profile")

@@ -63,7 +63,7 @@ def number_fault(word, least=0, most=NUMBER):
 
 
 def options_fault(words):
-    """The fault of the words behind the path of a `setattr`."""
+    """The fault of the words after the path of a `setattr`."""
     seen = []
     for word in words:
         name, _, value = word.partition(b"=")

@@ -47,7 +47,7 @@ SHORTENING = 10
 
 
 class Played(NamedTuple):
-    """The lines that were played, the play, and what was unknown behind the last line."""
+    """The lines that were played, the play, and what was unknown after the last line."""
 
     lines: list
     play: Play

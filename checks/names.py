@@ -15,7 +15,7 @@ It reads README.md, docs/*.md and checks/README.md, without their fenced blocks,
     cell of a table below such a heading, each word is a name.
 
 Names that are not ours are known by their form: capitals alone are constants of the kernel or stand for something
-(`MNT_DETACH`, `NAME`); an option of systemd ends in `=` (`PrivateMounts=`); a word of the toolchain stands behind `Rattle.`, `rattle ` or `rt ` in its code marks, or in a line
+(`MNT_DETACH`, `NAME`); an option of systemd ends in `=` (`PrivateMounts=`); a word of the toolchain stands after `Rattle.`, `rattle ` or `rt ` in its code marks, or in a line
 that says `toolchain` or `kit`. The status is 0 where nothing is printed. --self-test shows that each is found in texts
 made for it.
 """

@@ -10,6 +10,7 @@ docs/RULES.md have, and no others; and that their examples are answered so. The 
 Where mandoc is not there, it is installed if the environment says CI, and else man(1) takes its place. Without both
 the form of the pages is not checked, which is a failure only where the environment says CI.
 """
+import errno as errnos
 import os
 import re
 import shutil
@@ -17,6 +18,7 @@ import subprocess
 import sys
 import tempfile
 
+from documents.lines import check_lines
 from documents.steps import STEP, wait_for_socket
 from harness.runs import MOST_SECONDS, TOP, check, difference, failures, is_there, read, run, shown
 from sessions.cases import check_session
@@ -32,7 +34,7 @@ ENTRY = re.compile(r"(?m)^\.It (?:Xo\n\.)?Ic (\w+)(.*\n(?:(?!\.It |\.El).*\n)*)"
 BLOCK = re.compile(r"(?m)^\.Bd -literal.*\n((?:(?!\.Ed).*\n)*)\.Ed$")
 MESSAGE = re.compile(r"(?m)^\.(?:It )?Li (\w+: .*?)(?: \.)?$")
 
-# How long a server may go on behind a stop, in seconds.
+# How long a server may go on after a stop, in seconds.
 MOST_SECONDS_OF_AN_END = 15
 
 # What completes a line of these words in bash, one offer in a line.
@@ -89,7 +91,7 @@ def options(text):
 
 
 def words_in_place(text, of="WORD.."):
-    """What a help says may stand in the place of a line, or of all arguments, each by its first word: what may stand behind it."""
+    """What a help says may stand in the place of a line, or of all arguments, each by its first word: what may stand after it."""
     lines = re.findall(r"(?m)^  \S.*", text.split(f"In the place of {of}:\n")[1].split("\n\n")[0])
     return {line.split()[0]: line.strip().split("  ")[0] for line in lines}
 
@@ -110,6 +112,11 @@ def check_help(helps):
 def refusals_of_page():
     """The refusals of mountd-lines.7."""
     return re.findall(r"(?m)^\.It Er (\w+)", section("mountd-lines.7", "REFUSALS"))
+
+
+def errnos_of_sources():
+    """The errors of Linux that mountctl knows."""
+    return re.findall(r'(?m)^            Errno::\w+ => "(E[A-Z]+)",$', shown(read("crates", "mt_reasons", "src", "errno.rt")))
 
 
 def refusals_by_line():
@@ -145,17 +152,36 @@ def check_refusals():
 
 
 def check_explained(mountctl):
-    """What `explain` says of each refusal is its sentence in mountd-lines.7, and a sentence on Linux."""
+    """What `explain` says of each refusal is its sentence in mountd-lines.7, a sentence on Linux, and what to do; of an errno it
+    names just the refusals that name it."""
+    behind = {}
     for name, text in re.findall(r"(?m)^\.It Er (\w+)\n((?:(?!\.It |\.El).*\n)*)", section("mountd-lines.7", "REFUSALS")):
-        # A literal has its text behind its name, and a point that stands alone behind a space.
+        # A literal has its text after its name, and a point that stands alone after a space.
         sentence = re.sub(r"(?m)^\.Ql ", "", text).replace("\\&", "").replace("\n", " ").replace("/ ,", "/,").strip()
         found = run(mountctl, b"", "explain", name)
         first, _, second = shown(found[1]).partition("\n")
         check(f"explain {name}", (found[0], found[2], first) == (0, b"", f"{name}: {sentence}"), f"{found}, {sentence}")
-        check(f"explain {name}: Linux", re.fullmatch(r"(In Linux it is E|Linux has none such: ).*\.\n", second) is not None, second)
-    for words in [], ["Such"], ["busy"], ["Busy", "Busy"]:
+        told = re.fullmatch(r"((?:In Linux it is E|Linux has none such: ).*)\.\nLook at .*\.\nTo change that: .*\.\n", second)
+        check(f"explain {name}: Linux, and what to do", told is not None, second)
+        for errno in re.findall(r"\bE[A-Z]+\b", told[1] if told else ""):
+            behind.setdefault(errno, []).append(name)
+    check("some errnos stand behind refusals", {"EINVAL", "EBUSY", "ENOENT", "ENOMEM"} <= {*behind}, " ".join(behind))
+    for errno, names in behind.items():
+        number = getattr(errnos, errno)
+        for word in errno, errno.lower(), str(number):
+            found = run(mountctl, b"", "explain", word)
+            first, _, rest = shown(found[1]).partition("\n")
+            check(f"explain {word}", (found[0], found[2], first) == (0, b"", f"{errno} ({number}): {os.strerror(number)}."), repr(found))
+            check_same(f"the refusals behind {word}", names, re.findall(r"(?m)^  ([A-Z][a-z]\w*): ", rest))
+    alone = run(mountctl, b"", "explain", "eperm")
+    check("explain eperm", alone[0] == 0 and b"\n  in Linux alone: " in alone[1], repr(alone))
+    takes = b"mountctl: explain takes the name of a refusal, or an errno\n"
+    for words in [], ["Busy", "Busy"]:
         found = run(mountctl, b"", "explain", *words)
-        check(f"explain {words}", found == (2, b"", b"mountctl: explain takes the name of a refusal\n"), repr(found))
+        check(f"explain {words}", found == (2, b"", takes), repr(found))
+    for word, nearest in ("Wholly", ""), ("busy", "; the nearest is Busy"), ("EINVALL", "; the nearest is EINVAL"), ("022", ""):
+        found = run(mountctl, b"", "explain", word)
+        check(f"explain {word}", found == (2, b"", f"mountctl: {word}: neither a refusal nor an errno{nearest}\n".encode()), repr(found))
 
 
 # The messages that a program puts together, with a word of capital letters for each part that a run finds.
@@ -172,8 +198,11 @@ PUT_TOGETHER = {
         "FILE: line N is no row of a mountinfo",
         "FILE: REASON",
         "SOCKET: not a new server",
-        "SOCKET: changes were lost, or others made some",
+        "SOCKET: changes were lost",
+        "SOCKET: others made changes",
         "table N: mount ID is left out: REASON",
+        "WORD: neither a refusal nor an errno",
+        "WORD: neither a refusal nor an errno; the nearest is NAME",
     ],
 }
 
@@ -235,7 +264,7 @@ def check_commands(name, text, folder, environment):
 
 
 def check_examples(programs):
-    """The examples of the pages are answered so: sessions behind `>`, and commands behind `$`, at the top of the sources."""
+    """The examples of the pages are answered so: sessions after `>`, and commands after `$`, at the top of the sources."""
     for name in PAGES:
         blocks = [plain(block) for block in BLOCK.findall(section(name, "EXAMPLES"))]
         check(f"{name} has examples", blocks != [])
@@ -259,10 +288,10 @@ def offered(*words):
 
 
 def check_offers(helps):
-    """The completion offers the options and words of mountctl --help, and behind each word what may stand there."""
+    """The completion offers the options and words of mountctl --help, and after each word what may stand there."""
     check_same("the options that the completion offers", options(helps["mountctl"]), offered("-"))
     check_same("the words that the completion offers alone", words_in_place(helps["mountctl"], "SOCKET WORD.."), [*offered("imp"), *offered("exp")])
-    check_same("the refusals that the completion offers", refusals_of_page(), offered("explain", ""))
+    check_same("what the completion offers to be explained", [*refusals_of_page(), *errnos_of_sources()], offered("explain", ""))
     there = usages(helps["mountctl"])
     words = {*there, *words_in_place(helps["mountctl"])}
     check_same("the words that the completion offers", words, offered("socket", ""))
@@ -279,7 +308,7 @@ def check_offers(helps):
 
 
 def words_of_options():
-    """The words behind each option of `setattr` in docs/RULES.md."""
+    """The words after each option of `setattr` in docs/RULES.md."""
     rules = shown(read("docs", "RULES.md"))
     told = re.search(r"Words of `set`: (.*?); of `clr`: the first six and `atime`; K: (.*?)\.", rules)
     attributes, kinds = (re.findall(r"`(\w+)`", words) for words in told.groups())
@@ -287,7 +316,7 @@ def words_of_options():
 
 
 def check_completed(key, words):
-    """The completion offers these words behind an option, which comes whole, or cut at `=` as readline cuts it."""
+    """The completion offers these words after an option, which comes whole, or cut at `=` as readline cuts it."""
     begun = words[0][:2]
     for typed, wanted in (
         ([f"{key}="], [f"{key}={word}" for word in words]),
@@ -300,7 +329,7 @@ def check_completed(key, words):
 def check_options(program):
     """The words of the options of `setattr` stand in the page, are offered and are understood."""
     entry = dict(ENTRY.findall(section("mountd-lines.7", "LINES"))).get("setattr", "")
-    # The last word of some lists stands behind an `or`.
+    # The last word of some lists stands after an `or`.
     entry = re.sub(r" *\nor\n\.Cm ", " , ", entry)
     for key, words in words_of_options().items():
         text = " , ".join(words)
@@ -320,6 +349,7 @@ def main():
     programs = dict(zip(("mountd", "mountctl"), map(os.path.abspath, sys.argv[1:])))
     helps = {name: shown(run(path, b"", "--help")[1]) for name, path in programs.items()}
     check_form()
+    check_lines(helps)
     check_help(helps)
     check_refusals()
     check_statuses(programs)

@@ -14,7 +14,7 @@ With --built the program that is built already, crates/NAME/out/NAME, takes the 
 `rt try --` in crates/NAME: one would prove everything to build it, the other build it once more. This is for
 .ci/run, where `rt ci` has just proved and built it from nothing.
 
-The block behind `<!-- what-if -->` is what a terminal shows: commands behind `$ `, and what each prints. The first one
+The block after `<!-- what-if -->` is what a terminal shows: commands after `$ `, and what each prints. The first one
 starts the server and the last one stops it. With --built it is run too.
 """
 import os

@@ -40,7 +40,7 @@ USE = re.compile(r"^((?:unfoldable )?pub )?use (\S+?)\.\{([^}]*)\}", re.M)
 GHOST_USE = re.compile(r"\bghost use (\S+?)\.\{([^}]*)\}")
 BY_PATH = re.compile(r"\bcrate::((?:specs|proofs)(?:::\w+)*)::(\w+)")
 ALIAS = re.compile(r"^use (\S+) as (\S+)", re.M)
-# A declaration has a word in front of its name, or its type behind it; an equation has neither.
+# A declaration has a word in front of its name, or its type after it; an equation has neither.
 DECLARED = re.compile(r"^ *(?:(?:pub|abbrev|unfoldable|record|data) )+(?:record |data )?([^\s(){},;.:]+)|^ *([^\s(){},;.:]+) :(?=\s|$)")
 MODULE = re.compile(r"^ *module _ .*?\bwhere$", re.M | re.S)
 TOKEN = re.compile(r"[^\s(){}\[\],;\"]+")
@@ -87,7 +87,7 @@ def constructors(declared):
 
 
 def said(text):
-    """The words that a text says: a name behind a module's alias with it, and no field of a value."""
+    """The words that a text says: a name after a module's alias with it, and no field of a value."""
     for token in TOKEN.findall(re.sub(r"\.(?=\s|$)", " ", text)):
         head, *rest = token.split(".")
         yield from ((head,) if not rest else (head, f"{head}.{rest[0]}"))

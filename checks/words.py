@@ -38,7 +38,6 @@ Item mt_lines mt_queue
 left mt_peers mt_session
 Line mt_lines mt_queue
 may_go mt_peers mt_unmount
-mount_of mt_peers mt_requests
 names mt_lists mt_peers
 Watcher mt_desk mt_floor
 """

@@ -14,7 +14,7 @@ from harness.servers import Door
 
 class Exchange(NamedTuple):
     """Words as a shell reads them, what they send, what is answered, what is printed, and the status. With 3 a
-    connection fault is told, behind what is said of the line."""
+    connection fault is told, after what is said of the line."""
 
     words: str
     sent: bytes
@@ -27,7 +27,7 @@ class Exchange(NamedTuple):
 ROWS = b"2 2 0:1 / / rw,relatime master:1 - tmpfs none rw\n5 2 0:2 / /m rw,relatime master:2 - ext4 /dev/x rw\n"
 POST = b"event 1 2 1\n- 3\n"
 
-# Requests of one line. What is behind an answer is not read, and of one that is none whole lines are printed.
+# Requests of one line. What is after an answer is not read, and of one that is none whole lines are printed.
 REQUESTS = (
     Exchange("mkdir a '/p q'", b"mkdir a /p\\040q\n", b"ok\nok\n", b"ok\n", 0),
     Exchange("show 9", b"show 9\n", b"no NoNamespace\nok\n", b"no NoNamespace\n", 1),

@@ -1,6 +1,6 @@
 """Large tables that are imported: each in a second, and as many of the mounts as a server has room for. A module, a part of server.py.
 
-Those behind are told in comments, each with its row, and each command of the script is accepted.
+Those after are told in comments, each with its row, and each command of the script is accepted.
 """
 import time
 

@@ -2,7 +2,7 @@
 
 They are those of sessions/containers/, and those of this machine and of copies of its namespace, made as `unshare -m` makes them.
 Then a namespace is made in which all mounts are in peer groups of its own, so that nothing of what is mounted there comes
-to the machine, and copies of it; behind the import of their tables each command that is carried out there is
+to the machine, and copies of it; after the import of their tables each command that is carried out there is
 carried out by a session too, and leads to the same tables.
 
 Where the machine allows no namespaces, this is said, and its own table is imported alone.

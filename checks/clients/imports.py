@@ -77,7 +77,7 @@ def check_table(program, mountctl, name, lines):
 
 
 def tables(program, lines):
-    """The tables of the namespaces that are there behind these lines."""
+    """The tables of the namespaces that are there after these lines."""
     asked = lines + [b"show %d" % number for number in range(1, 65)]
     for group in answer_groups(session(program, asked)[1], asked)[len(lines) :]:
         if 1 < len(group) <= MOST_ROWS:
@@ -179,13 +179,13 @@ def check_any(program, mountctl):
     print(f"{ANY_TABLES} tables of any rows imported, {ANY_TABLES - count} with mounts left out; {left} rows tried alone")
 
 
-# Words behind `import` that name no tables: none of a process, and options.
+# Words after `import` that name no tables: none of a process, and options.
 NO_WORDS = ("-",), ("--pid",), ("--pid", "x"), ("--pid", "1", "01"), ("--ascii",), ("-h", "1"), ("tree", "-e")
 NO_WORDS_SAID = b"mountctl: import takes files, or --pid and processes, or no words\n"
 
 
 def check_words(mountctl, text):
-    """Words behind `import` that name no tables are refused; but for its help, which is the program's."""
+    """Words after `import` that name no tables are refused; but for its help, which is the program's."""
     for words in NO_WORDS:
         found = run(mountctl, text, "import", *words)
         check(f"import {' '.join(words)}", found == (2, b"", NO_WORDS_SAID), repr(found))

@@ -1,7 +1,7 @@
 """Which lines of an answer mountctl takes for rows, posts and tables: a module, a part of server.py.
 
 As in clients/answers.py a door answers in the place of a server. A row or a post is printed as it came, and a line that is
-none is a connection fault behind the lines before it. A mirror follows posts, and refuses one that its table has no place
+none is a connection fault after the lines before it. A mirror follows posts, and refuses one that its table has no place
 for. Here too are the bytes that have an escape, and the words that are none, as the server takes them.
 """
 from clients.answers import FOLLOWED, MIRRORED, Exchange, check_exchange
@@ -121,7 +121,7 @@ def refused_post(post):
     return Exchange("take 1", b"take 1\n", first + post, first, 3)
 
 
-# A line behind a post that begins none, and a post of which the last line has no end.
+# A line after a post that begins none, and a post of which the last line has no end.
 BEHIND = Exchange("take 1", b"take 1\n", b"ok 3\n" + POSTS[0] + b"\n", b"ok 3\n" + POSTS[0], 3)
 ENDLESS = Exchange("take 1", b"take 1\n", b"ok 2\n" + POSTS[0][:-1], b"ok 2\n", 3)
 

@@ -250,7 +250,7 @@ def check_comments(program, mountctl):
 
 
 def words_of(program, title):
-    """The first words of the lines behind a title of a program's help, up to an empty one."""
+    """The first words of the lines after a title of a program's help, up to an empty one."""
     lines = run(program, b"", "--help")[1].split(title + b"\n")[1].split(b"\n\n")[0].splitlines()
     return {word.split()[0] for line in lines if line.startswith(b"  ") and line[2:3] != b" " for word in line[2:25].split(b", ")}
 
@@ -331,7 +331,7 @@ def check_statuses(program, mountctl):
 
 
 class Asked(Words):
-    """A run of the other program, which says behind a part of what it prints that memory is missing."""
+    """A run of the other program, which says after a part of what it prints that memory is missing."""
 
     def allows(self, status, text, complaint):
         said = complaint.removesuffix(OUT_OF_MEMORY[2])

@@ -126,7 +126,7 @@ PARTLY = [
 ]
 
 # Tables of slaves, each alone in a peer group, at the directories that they show: what is mounted for one of them comes to it too,
-# and is taken away there. Groups that are made behind that show how many groups this took.
+# and is taken away there. Groups that are made after that show how many groups this took.
 HOOKED = [
     [
         b"1 1 0:1 / / rw shared:1 - tmpfs none rw",

@@ -136,7 +136,7 @@ def made_lines(lines, script, table=None):
 
 
 def kept_rows(name, lines, script, table=None):
-    """The rows of the mounts that the script makes, each behind the one that it stands on. All others are told."""
+    """The rows of the mounts that the script makes, each after the one that it stands on. All others are told."""
     made = made_lines(lines, script, table)
     others = collections.Counter(line[:MOST_TOLD] for line in lines)
     others.subtract(line[:MOST_TOLD] for line in made)
@@ -216,7 +216,7 @@ def import_tables(mountctl, tables):
 
 
 class Imported:
-    """The script of an import of tables, and what a plain session builds of it, with commands behind it."""
+    """The script of an import of tables, and what a plain session builds of it, with commands after it."""
 
     def __init__(self, program, name, tables, script, behind=()):
         self.name, self.tables, self.script, self.numbers = name, tables, script, Numbers()

@@ -11,6 +11,7 @@ import time
 from typing import NamedTuple
 
 from clients.graphs import cells_of, check_graph
+from clients.growth import check_growth
 from documents import tour
 from harness import commands
 from harness.protocol import row_of, word_of
@@ -21,7 +22,7 @@ from sessions import cases
 # Worlds of more mounts are left out.
 MOST_MOUNTS = 200
 
-# How many characters wide a column is at most: what is wider pushes the cells behind it to the right.
+# How many characters wide a column is at most: what is wider pushes the cells after it to the right.
 MOST_WIDTH = 60
 
 # How long the largest world may take, in seconds.
@@ -224,6 +225,7 @@ def check_pictures(program, mountctl):
     check("dot is there, as CI needs it", is_there("dot", "graphviz") or "CI" not in os.environ)
     check_cases(program, mountctl)
     check_large(program, mountctl)
+    check_growth(mountctl)
     check_refusals(program, mountctl)
     if shutil.which("dot"):
         check_stored_pictures(program, mountctl)

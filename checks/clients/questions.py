@@ -82,7 +82,7 @@ def told_of(lines, names, rows):
 
 
 def check_told(program, mountctl, name, tables, line):
-    """A line is answered as a session answers it behind the script, and what it changes is told, with the names of the files."""
+    """A line is answered as a session answers it after the script, and what it changes is told, with the names of the files."""
     with files_of(tables) as files:
         script = run(mountctl, b"", "import", *files)[1].splitlines()
         found = asked(program, mountctl, files, shown(line).split(" "))
@@ -178,7 +178,7 @@ def check_lost(program, mountctl):
         for queue, count in (1, 1), (2, 2):
             with Server(program, "--queue", str(queue)) as server:
                 found = run(mountctl, b"", server.path, "what-if", *names, "--", "mkfs", "usb", "vfat", "none", "--", "mount", "1", "usb", "/b")
-                said = f"mountctl: {server.path}: changes were lost, or others made some\n".encode()
+                said = f"mountctl: {server.path}: changes were lost\n".encode()
                 good = (found[0], found[2]) == ((0, b"") if queue > 1 else (3, said)) and found[1].count(b"\n+ ") == count
                 check(f"a question over a queue of {queue}", good, repr(found))
                 server.stop()
@@ -214,7 +214,7 @@ def check_cut(program, mountctl):
     with files_of([TABLE[:2]]) as names:
         commands = [row for row in run(mountctl, b"", "import", *names)[1].splitlines() if not row.startswith(b"#")]
         asked_first = [b"watch all", b"close"]
-        lines_sent = [*asked_first, *commands, b"watch all", " ".join(line).encode(), b"take 1024", b"take 1"]
+        lines_sent = [*asked_first, *commands, b"watch all", " ".join(line).encode(), b"take 1024", b"take 1024"]
         whole = session(program, lines_sent)[1]
         begun = whole.count(b"\n", 0, whole.index(b"\nspace ")) - 1
         lines, plain = whole.splitlines(keepends=True), asked(program, mountctl, names, line)
@@ -227,6 +227,36 @@ def check_cut(program, mountctl):
         fault, sent, found = answered(mountctl, names, line, re.sub(rb"\nok (\d+)\nevent", rb"\nx \1\nevent", whole))
         check("a question whose posts are counted behind another word", found == (3, b"ok\n", fault), repr(found))
     print(f"{len(cuts)} cuts of the answers to a question", flush=True)
+
+
+# What a watcher answers behind the changes of a line, how often it is asked for more, and what is said then.
+MORE_POSTS = b"ok 2\nevent 1 3 1\n- 2\n"
+BEHINDS = (
+    (b"ok 0\n", 1, b""),
+    (MORE_POSTS + b"ok 0\n", 2, b"others made changes"),
+    (MORE_POSTS * 3 + b"ok 0\n", 4, b"others made changes"),
+    (b"no Lagged\n", 1, b"changes were lost"),
+    (MORE_POSTS * 2 + b"no Lagged\n", 3, b"changes were lost"),
+    (MORE_POSTS + b"no Stopped\n", 2, b"others made changes"),
+    (b"no Stopped\n", 1, b""),
+)
+
+
+def check_behind(program, mountctl):
+    """Posts are taken until none is left; that some were lost, or are of others, is said with its own status."""
+    line = ["setattr", "1", "/", "rec", "set=ro"]
+    with files_of([TABLE[:2]]) as names:
+        commands = [row for row in run(mountctl, b"", "import", *names)[1].splitlines() if not row.startswith(b"#")]
+        sent_first = [b"watch all", b"close", *commands, b"watch all", " ".join(line).encode(), b"take 1024"]
+        whole, plain = session(program, sent_first)[1], asked(program, mountctl, names, line)
+        for behind, takes, said in BEHINDS:
+            with Door() as door, concurrent.futures.ThreadPoolExecutor(1) as pool:
+                running = pool.submit(run, mountctl, b"", door.path, "what-if", *names, "--", *line)
+                sent, found = door.answers(whole + behind), running.result()
+                complaint = b"mountctl: %b: %b\n" % (door.path.encode(), said) if said else b""
+            wanted = (3 if said else 0, plain[1], plain[2] + complaint)
+            check(f"a question, and behind it {behind}", found == wanted, repr((found, wanted)))
+            check(f"what is asked where {behind} comes", sent.splitlines() == sent_first + [b"take 1024"] * takes, shown(sent))
 
 
 def check_words(mountctl):
@@ -246,4 +276,5 @@ def check_questions(program, mountctl):
     check_lost(program, mountctl)
     check_refused(program, mountctl)
     check_cut(program, mountctl)
+    check_behind(program, mountctl)
     check_random(program, mountctl)

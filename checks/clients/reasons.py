@@ -14,7 +14,7 @@ from harness.servers import START, Server
 # How many random lines are sent, in one script.
 LINES = 4_000
 
-# What is said of a line of a script behind its refusal: its number, and the name of the refusal.
+# What is said of a line of a script after its refusal: its number, and the name of the refusal.
 SAID = re.compile(rb"mountctl: line (\d+): (BadLine|NoEntry|NotMountRoot|RootPlace): ")
 
 USAGE = b"too few words, or too many: "
@@ -59,7 +59,7 @@ BAD = (
     (b"setattr 1 / rec set=ro rec", TWICE),
 )
 
-# Lines with two paths behind START and a mount at /m, the refusal of each, and the path that it is of.
+# Lines with two paths after START and a mount at /m, the refusal of each, and the path that it is of.
 TWO_PATHS = (
     (b"bind 1 /none /m", b"NoEntry", b"SRC, /none"),
     (b"rbind 1 /m /none", b"NoEntry", b"DST, /none"),
@@ -85,7 +85,7 @@ WORDS = (
 
 
 def without_reasons(complaint):
-    """A complaint without what is said of its lines behind their refusals, and that: the lines' numbers and refusals."""
+    """A complaint without what is said of its lines after their refusals, and that: the lines' numbers and refusals."""
     lines = complaint.splitlines(keepends=True)
     said = [(int(found[1]), found[2]) for found in map(SAID.match, lines) if found]
     return b"".join(line for line in lines if not SAID.match(line)), said

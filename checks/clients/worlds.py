@@ -80,7 +80,7 @@ def drawn(program, source):
 
 
 def shown_tables(program, lines, spaces):
-    """The tables of those of these namespaces that are there behind these lines."""
+    """The tables of those of these namespaces that are there after these lines."""
     asked = lines + [b"show %d" % space for space in spaces]
     groups = answer_groups(session(program, asked)[1], asked)[len(lines) :]
     return [rows for first, *rows in groups if first.startswith(b"ok")]

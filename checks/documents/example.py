@@ -1,6 +1,6 @@
 """README.md's blocks of cases, and the input and the answers of the program's own example, are cases. A module, a part of program.py.
 
-A fenced block directly behind a line `<!-- case: NAME -->` is the case NAME without its comments.
+A fenced block directly after a line `<!-- case: NAME -->` is the case NAME without its comments.
 """
 from harness.runs import check, difference, read, shown, write
 from sessions import cases

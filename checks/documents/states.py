@@ -14,7 +14,7 @@ WORLD = [
     *[b"mount 1 a /n", b"setattr 1 /n prop=shared", b"bind 1 /n /m"],
 ]
 
-# The lines behind that make the mount at /m one in each state.
+# The lines after that make the mount at /m one in each state.
 MADE = {
     "shared, with a peer": [],
     "shared, alone in its group": [b"umount 1 /n"],
@@ -40,7 +40,7 @@ def table(first):
 
 
 def state_at(path, program, lines):
-    """The state of the mount at a path behind these lines, or that the last of them was refused."""
+    """The state of the mount at a path after these lines, or that the last of them was refused."""
     answers = session(program, [*WORLD, *lines, b"find 1 " + path, b"show 1"])[1].decode().splitlines()
     if answers[len(WORLD) + len(lines) - 1].startswith("no"):
         return "refused"

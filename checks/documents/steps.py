@@ -3,7 +3,7 @@ import os
 import re
 import time
 
-# A command behind `$ `, and what it prints.
+# A command after `$ `, and what it prints.
 STEP = re.compile(rb"(?m)^\$ (.*)\n((?:(?!\$ ).*\n)*)")
 
 # How long the server may take to listen, and a command of a terminal to end, in seconds.

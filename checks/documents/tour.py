@@ -1,7 +1,7 @@
 """docs/TOUR.md says what is so: the program answers each of its sessions byte for byte as the page shows.
 
 The page is the source of these sessions, which are no files of cases/. Each stands in a fenced block directly
-behind a line `<!-- session: NAME -->`, in the format of sessions/cases.py, with comments or without. One behind a line
+after a line `<!-- session: NAME -->`, in the format of sessions/cases.py, with comments or without. One after a line
 `<!-- session: NAME after OTHER -->` goes on where the session OTHER ends; that has its name in its first line, unless it
 stands directly before. A fence or an input line anywhere else in the page is a failure.
 """
@@ -33,7 +33,7 @@ def sessions():
 
 
 def check_visible(blocks):
-    """Each session from which one goes on that does not stand directly behind it has its name in its first line."""
+    """Each session from which one goes on that does not stand directly after it has its name in its first line."""
     first = {name_of(mark)[0]: text.split(b"\n")[0] for _, mark, text, _ in blocks}
     for (_, before, _, _), (_, mark, _, _) in zip(blocks, blocks[1:]):
         _, other = name_of(mark)

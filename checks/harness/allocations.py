@@ -27,7 +27,7 @@ class Refusing:
             return int(file.read())
 
     def each(self, asked, name, count):
-        """Refuses each allocation of a run in turn; behind the last one there is none to refuse."""
+        """Refuses each allocation of a run in turn; after the last one there is none to refuse."""
 
         def refuse(nth):
             told = self.run(asked, REFUSE_NTH=str(nth))

@@ -1,47 +1,47 @@
-"""The words that begin the lines of a session, by what the lines do, and what stands behind each word."""
+"""The lines of a session, as the table of lines in the sources has them, and the commands among them that are alike."""
+import collections
+import re
 
-# The words behind each first word: a label, a path, a number, what is watched, counts, and the rest of the line.
-FORMS = {
-    b"mkfs": "LLL",
-    b"mkdir": "LP",
-    b"newns": "L",
-    b"copyns": "N?",
-    b"dropns": "N",
-    b"mount": "NLP",
-    b"bind": "NPP",
-    b"rbind": "NPP",
-    b"move": "NPP",
-    b"pivot": "NPP",
-    b"umount": "NP",
-    b"detach": "NP",
-    b"setattr": "NP*",
-    b"show": "N",
-    b"find": "NP",
-    b"watch": "W",
-    b"take": "T",
-    b"follow": "F",
-    b"close": "",
-    b"quit": "",
-    b"stop": "",
-}
+from harness.runs import read, shown
 
-# All of them, in the order of a help.
-LINES = tuple(FORMS)
+# A row of the table: the word of a line, its arguments, the form of its answer, whether it changes tables, how a help
+# writes it, and what it does.
+Row = collections.namedtuple("Row", "word arguments form changes usage help")
+ROW = re.compile(r'Verb::\w+ => (\w+)\(\s*b"(\w+)",\s*&\[(.*?)\],\s*(\w+),?\s*\)\s*\.says\(\s*"(.*?)",\s*"(.*?)",?\s*\)', re.S)
+VERBS = re.compile(r"VERBS: \[Verb; (\d+)\]")
 
-# Those that ask, those of a session's watcher, and those that end a session or all.
-ASKING = b"show", b"find"
-WATCHING = b"watch", b"take", b"follow", b"close"
-ENDING = b"quit", b"stop"
 
-# Those that make a world: the commands.
-CHANGING = tuple(word for word in LINES if word not in (*ASKING, *WATCHING, *ENDING))
+def read_table():
+    """The rows of the table, each by its word, in the order of the help."""
+    text = shown(read("crates", "mt_protocol", "src", "verb.rt"))
+    rows = [
+        Row(word.encode(), arguments.split(", ") if arguments else [], form, kind == "command", usage, does)
+        for kind, word, arguments, form, usage, does in ROW.findall(text)
+    ]
+    if len(rows) != int(VERBS.search(text)[1]):
+        raise SystemExit(f"{len(rows)} rows are read of the table of lines, which has others")
+    return {row.word: row for row in rows}
+
+
+TABLE = read_table()
+
+# All words that begin a line.
+LINES = tuple(TABLE)
+
+# What stands behind each: labels, paths, numbers, what is watched, counts, `less`, and the rest of the line.
+LETTERS = {"Label": "L", "Path": "P", "Space": "N", "Scope": "W", "Count(1_024)": "T", "Count(1_048_576)": "F", "Less": "?", "Setting": "*"}
+FORMS = {word: re.sub(r"\*+", "*", "".join(LETTERS[name] for name in row.arguments)) for word, row in TABLE.items()}
+
+# Those that make a world: the commands. Those that end a session or all.
+CHANGING = tuple(word for word in LINES if TABLE[word].changes)
+ENDING = tuple(word for word in LINES if TABLE[word].form == "Done" and word not in CHANGING)
 
 # Commands that make a namespace, and those that are answered by the number of what they make.
 MAKING_NAMESPACES = b"newns", b"copyns"
-NUMBERED = b"mkfs", *MAKING_NAMESPACES, b"mount", b"bind", b"rbind"
+NUMBERED = tuple(word for word in CHANGING if TABLE[word].form == "Number")
 
 # Commands that bring a mount to a place.
 PLACING = b"mount", b"bind", b"rbind", b"move"
 
 # Those that take posts away from a watcher, so that these would be lost where the answer is.
-TAKING = b"take", b"close"
+TAKING = tuple(word for word in LINES if TABLE[word].form == "Posts")

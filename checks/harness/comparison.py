@@ -73,7 +73,7 @@ class Bijection:
         self.before, self.before_back = {}, {}
 
     def begin(self):
-        """Begins anew behind a command."""
+        """Begins again after a command."""
         self.before, self.before_back = self.there, self.back
         self.there, self.back = {}, {}
 
@@ -96,7 +96,7 @@ class Comparison:
         self.texts, self.pairs = {}, {}
 
     def compare(self, ours, theirs):
-        """How the tables of all namespaces differ behind a command: a list of mismatches."""
+        """How the tables of all namespaces differ after a command: a list of mismatches."""
         for space in [space for space in self.pairs if space not in ours]:
             del self.pairs[space], self.texts[space]
         found = [Mismatch(space, "table", None, None) for space in sorted(ours.keys() ^ theirs.keys())]

@@ -6,7 +6,7 @@
  *
  * A call moves at most MOST bytes, or as many as it may where that is 0. Once BEHIND bytes were moved, TIMES calls
  * in succession fail with ERRNO, or move nothing where that is 0; where TIMES is -1, all calls do. Where EACH
- * is 1, so many fail anew behind each call that has moved some. An accept moves one. Where the program ends, how many
+ * is 1, as many fail again after each call that has moved some. An accept moves one. Where the program ends, how many
  * reads, writes and accepts there were is written to the file CALLS_TO.
  */
 #define _GNU_SOURCE

@@ -12,7 +12,7 @@ LINE = 8_192
 ONE_NUMBER = re.compile(rb"ok (\d+)")
 COUNT_AND_NUMBER = re.compile(rb"ok (\d+) (\d+)")
 
-# Those that count the lines behind them, by the first word of the request.
+# Those that count the lines after them, by the first word of the request.
 COUNTED = {b"show": COUNT_AND_NUMBER, b"watch": ONE_NUMBER, b"take": ONE_NUMBER, b"close": ONE_NUMBER}
 
 # What a line may be refused for whose words have not the form that they should have.
@@ -44,7 +44,7 @@ class Ended(Broken):
 
 
 class Head(NamedTuple):
-    """What begins a table, or a post: its namespace and number, and how many rows, or changes, stand behind it."""
+    """What begins a table, or a post: its namespace and number, and how many rows, or changes, stand after it."""
 
     space: int
     number: int
@@ -85,14 +85,14 @@ def word_of(request):
 
 
 def lines_behind(request, first):
-    """How many lines stand behind the first one of an answer."""
+    """How many lines stand after the first one of an answer."""
     form = COUNTED.get(word_of(request))
     counted = form.fullmatch(first) if form and first is not None else None
     return int(counted[1]) if counted else 0
 
 
 def answer_to(request, take):
-    """The lines of the answer to a request as `take` gives them, one by one. Nothing is taken behind the end, which it gives as None."""
+    """The lines of the answer to a request as `take` gives them, one by one. Nothing is taken after the end, which it gives as None."""
     lines = [take()]
     if word_of(request) == b"follow":
         while lines[-1] is not None and not FOLLOWED.fullmatch(lines[-1]):
@@ -129,7 +129,7 @@ def head_of(word, line):
 
 
 def parts(word, lines):
-    """The parts that these lines are, each begun by this word: its head, and the lines behind it."""
+    """The parts that these lines are, each begun by this word: its head, and the lines after it."""
     rest = iter(lines)
     for first in rest:
         head = head_of(word, first)
@@ -140,12 +140,12 @@ def parts(word, lines):
 
 
 def tables_in(lines):
-    """The tables behind the first line of an answer to `watch`: the head of each, and its rows."""
+    """The tables after the first line of an answer to `watch`: the head of each, and its rows."""
     return parts(b"space", lines)
 
 
 def posts_in(lines):
-    """The posts behind the first line of an answer to `take` or `close`, or before the last of one to `follow`: the head of each, and its changes."""
+    """The posts after the first line of an answer to `take` or `close`, or before the last of one to `follow`: the head of each, and its changes."""
     return parts(b"event", lines)
 
 

@@ -105,7 +105,7 @@ def library(folder, name):
 def answer_groups(answers, requests):
     """The answer to each request as its list of lines: a table, and posts, go with the line that counts them.
 
-    Requests behind the last answer have empty lists, and what is left over goes to the last request.
+    Requests after the last answer have empty lists, and what is left over goes to the last request.
     """
     lines = answers.split(b"\n")
     if lines[-1] == b"":

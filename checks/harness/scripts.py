@@ -141,7 +141,7 @@ class Author:
         below = [path.removeprefix(root) for path in self.directories[name] if path.startswith(root + b"/")]
         return joined(row.point, self.chance.choice(below) if below else b"")
 
-    # The words of each command behind its namespace.
+    # The words of each command after its namespace.
 
     def mount(self, rows):
         return [self.chance.choice(self.filesystems), self.path(rows)]

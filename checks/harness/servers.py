@@ -16,7 +16,7 @@ from harness.runs import MOST_SECONDS, shown
 # The most sessions at once.
 SESSIONS = 32
 
-# How long a session may be idle behind a stop, and how long it may go on, in seconds.
+# How long a session may be idle after a stop, and how long it may go on, in seconds.
 IDLE = 1
 LATEST = 10
 

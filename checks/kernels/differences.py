@@ -8,7 +8,7 @@ from typing import Callable, NamedTuple
 
 
 class Step(NamedTuple):
-    """A command, what each side said, and how the tables differ behind it."""
+    """A command, what each side said, and how the tables differ after it."""
 
     words: list
     # The name of our refusal, or nothing.

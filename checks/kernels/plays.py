@@ -1,4 +1,4 @@
-"""A script on both sides at once, compared behind every command. A module, a part of kernel.py."""
+"""A script on both sides at once, compared after every command. A module, a part of kernel.py."""
 import collections
 
 from harness import commands, protocol
@@ -29,7 +29,7 @@ class Unknown(Exception):
 class Play:
     """Both sides of a script, and what was seen of them.
 
-    A refusal for which the kernel would change what ours does not is left out, so that a script goes on behind it; a
+    A refusal for which the kernel would change what ours does not is left out, so that a script goes on after it; a
     thorough play carries it out.
     """
 

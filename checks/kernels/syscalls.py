@@ -59,7 +59,7 @@ def checked(result):
 
 
 def call(number, *words):
-    """A call by its number: the words are numbers, bytes with a zero behind them, None, or references."""
+    """A call by its number: the words are numbers, bytes with a zero after them, None, or references."""
     plain = [ctypes.c_long(word) if isinstance(word, int) else word for word in words]
     return checked(LIBC.syscall(ctypes.c_long(number), *plain))
 

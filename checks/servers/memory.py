@@ -59,7 +59,7 @@ PEERS = [
     Step("asking", b"find 2 /n", b"ok 5 /m"),
 ]
 
-# A watcher that lags, for a queue of two; one that takes behind each command and does not; and a stop beside it.
+# A watcher that lags, for a queue of two; one that takes after each command and does not; and a stop beside it.
 LAGGING = [
     *LONE,
     Step("watching", b"watch 1", b"ok 2"),
@@ -106,7 +106,7 @@ WORLDS = {
 NO_MEMORY = [b"no NoMemory"]
 OUT_OF_MEMORY = 1, b"mountd: out of memory\n"
 
-# How many runs at most look for one that meets none, behind the allocations that were counted.
+# How many runs at most look for one that meets none, after the allocations that were counted.
 MORE = 50
 
 # How often a server is asked to stop: one of the requests may want memory.
@@ -257,7 +257,7 @@ class Refusing:
 
 
 def refuse_each(refuse, count):
-    """Refuses each of so many allocations, and those behind them until a run meets none: how many there were."""
+    """Refuses each of so many allocations, and those after them until a run meets none: how many there were."""
     with concurrent.futures.ThreadPoolExecutor(os.cpu_count()) as pool:
         met = sum(pool.map(refuse, range(1, count + 1)))
     behind = range(count + 1, count + 1 + MORE)

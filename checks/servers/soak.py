@@ -41,7 +41,7 @@ QUEUE = 64
 MORE = 32 * 1024
 JOURNAL_BYTES = 3 * 128
 
-# What watchers ask behind the stop, one these requests and another those: each gets all that waits for it.
+# What watchers ask after the stop, one these requests and another those: each gets all that waits for it.
 LAST = [
     [b"close"],
     [b"take 1", b"take 2", b"close"],
@@ -138,7 +138,7 @@ class Stop:
                 raise Broken(f"beside a stop {line} is answered {shown(first)}")
 
     def end(self, number):
-        """Takes and closes behind the stop: then each table is the one that is shown."""
+        """Takes and closes after the stop: then each table is the one that is shown."""
         client, mirror = self.watchers[number], self.mirrors[number]
         self.stopped.wait(MOST_SECONDS)
         for request in LAST[number % len(LAST)]:
@@ -179,7 +179,7 @@ class Soak:
 
     def __init__(self, server, seconds, mountctl):
         self.server, self.end, self.mountctl = server, time.monotonic() + seconds, mountctl
-        # How long a client rests behind each turn, in seconds: not at all in a short soak.
+        # How long a client rests after each turn, in seconds: not at all in a short soak.
         self.rest = COMMANDS * TURN * seconds / MOST_SENT if seconds > 60 else 0
         self.counts = {"commands": 0, "posts": 0, "lags": 0, "mirrors": 0, "mirrors compared": 0}
         self.lock = threading.Lock()
@@ -278,7 +278,7 @@ class Soak:
         return lines
 
     def mirror(self, seed):
-        """Mirrors one after another, each in a session of its own, and a last one behind all commands."""
+        """Mirrors one after another, each in a session of its own, and a last one after all commands."""
         chance = random.Random(seed)
         space = chance.choice("12")
         while not self.is_over():

@@ -12,7 +12,7 @@ from harness.protocol import Broken
 from harness.runs import check, shown
 from harness.servers import IDLE, LATEST, SESSIONS, START, STOP, Server, send_input
 
-# What is asked behind a stop: a watcher with two posts that wait for it, and a session that has none.
+# What is asked after a stop: a watcher with two posts that wait for it, and a session that has none.
 WATCHED = [
     (b"take 1", [b"ok 2", b"event 1 3 1", b"= 1 1 0:1 / / ro,relatime shared:1 - tmpfs none rw"]),
     (b"close", [b"ok 2", b"event 1 4 1", b"= 1 1 0:1 / / rw,relatime shared:1 - tmpfs none rw"]),
@@ -33,7 +33,7 @@ QUESTION, ANSWER = b"show 64", b"no NoNamespace\n"
 # How long an answer may take until it counts as one for which there is no room, in seconds.
 WAIT = 0.5
 
-# The latest end of a server behind a stop, in seconds.
+# The latest end of a server after a stop, in seconds.
 MOST = 12
 
 FOLLOWED = [(b"take 1", [b"no Stopped"]), (b"close", [b"ok 0"])]
@@ -100,7 +100,7 @@ def asks_on(client):
 
 
 def check_cut_off(program):
-    """Sessions that are not idle behind a stop, and those that do not read, are cut off after ten seconds."""
+    """Sessions that are not idle after a stop, and those that do not read, are cut off after ten seconds."""
     with Server(program) as server, server.free() as first, server.free() as busy, server.free() as other:
         for line in START:
             first.ask(line)

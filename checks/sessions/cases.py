@@ -12,7 +12,7 @@ An input line begins with `>`:
 
     > TEXT       TEXT with a line end
     >            the empty line
-    >. TEXT      TEXT without a line end: the input ends behind it
+    >. TEXT      TEXT without a line end: the input ends after it
     >* TEXT      TEXT with a line end, in which {N WORD} stands for WORD written N times
     >*. TEXT     both
 
@@ -37,7 +37,7 @@ REPEATED = re.compile(rb"\{([1-9][0-9]*) ([^{}]+)\}")
 
 
 def marked(word):
-    """What finds the fenced blocks of a page behind `<!-- word: NAME -->`: what opens one, its name, its lines, its end."""
+    """What finds the fenced blocks of a page after `<!-- word: NAME -->`: what opens one, its name, its lines, its end."""
     return re.compile(rb"(?m)^(<!-- %b: (.*) -->\n```.*\n)((?:(?!```).*\n)*?)(```)$" % word)
 
 

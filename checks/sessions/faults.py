@@ -4,7 +4,7 @@ A module, a part of program.py.
 The proofs say what a session does where a read or a write fails, over streams that say so; of the real
 ones nothing is proved. This says of them: 999 interrupted calls in succession change nothing, and the
 1,000th ends the session; a write that takes nothing, and one that fails, ends it too, and exactly the
-bytes before it went out; behind a read that fails, what was answered before stands, and nothing else does;
+bytes before it went out; after a read that fails, what was answered before stands, and nothing else does;
 and a writer that takes one byte a call changes no output.
 
 It needs a C compiler, `cc`.
@@ -75,12 +75,12 @@ def at_once(call, items):
 
 
 def places(text, part):
-    """The places of the first byte of a text, the first behind a line, one within this part of it, and its last."""
+    """The places of the first byte of a text, the first after a line, one within this part of it, and its last."""
     return 0, text.index(b"\n") + 1, text.index(part) + 3, len(text) - 1
 
 
 def check_interrupted(faulty, stream, text, part, left, fault):
-    """999 interruptions in succession change nothing, and one more ends the session behind what `left` says."""
+    """999 interruptions in succession change nothing, and one more ends the session after what `left` says."""
     for behind in places(text, part):
         name = f"interruptions of {stream} behind {behind} bytes"
         found = faulty.run(stream, errno.EINTR, behind=behind, times=MOST_INTERRUPTIONS - 1)

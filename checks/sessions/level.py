@@ -16,7 +16,7 @@ MOUNTS = 63
 
 ROUNDS = 100
 
-# The rounds behind which a session has had all that it will ever need at once.
+# The rounds after which a session has had all that it will ever need at once.
 FIRST_ROUNDS = 10
 
 # How much more a session may have needed after the last round: the journal of 12,600 commands, and pages.

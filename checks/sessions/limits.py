@@ -260,7 +260,7 @@ def commands(program):
 
 
 def lines(program):
-    """A session ends behind as many lines as it may have, and each of them is answered."""
+    """A session ends after as many lines as it may have, and each of them is answered."""
     block = b"no BadLine\n" * BLOCK
     with tempfile.TemporaryFile() as text, tempfile.TemporaryFile() as output:
         text.write(b"\n" * LINES + b"show 1\nquit\n")

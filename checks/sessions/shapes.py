@@ -158,7 +158,7 @@ COMMANDS = [
 
 
 def turns(name):
-    """The lines that make a world, and those that ask and change it, with a `take` behind each."""
+    """The lines that make a world, and those that ask and change it, with a `take` after each."""
     make, here, there, free = SHAPES[name]
     lines = FIRST.get(name, []) + [line % {b"here": here, b"there": there, b"free": free} for line in COMMANDS]
     return START + make(), [each for line in lines for each in (line, b"take 1024")]

@@ -127,7 +127,7 @@ def check_copies(program):
 
 
 def namespaces(program, lines):
-    """The numbers of the namespaces that are there behind these lines."""
+    """The numbers of the namespaces that are there after these lines."""
     asked = lines + [b"show %d" % number for number in NUMBERS]
     groups = answer_groups(session(program, asked)[1], asked)[len(lines) :]
     return [number for number, group in zip(NUMBERS, groups) if group != [b"no NoNamespace"]]

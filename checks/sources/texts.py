@@ -31,7 +31,7 @@ def crate_of(path):
 
 
 def without_comments(text, mark):
-    """A text without what stands behind this mark in its lines."""
+    """A text without what stands after this mark in its lines."""
     return re.sub(rf"{re.escape(mark)}.*", "", text)
 
 
@@ -88,7 +88,7 @@ def unnamed(body, signature):
 def functions(text):
     """The name of each function of a text without comments, where its name ends, and where its body opens and closes."""
     for found in re.finditer(r"^( *)(?:pub(?:\([a-z]+\))? )?(?:const )?fn (\w+)", text, re.M):
-        # A body opens at the function's own indentation, or behind the signature where there is no contract.
+        # A body opens at the function's own indentation, or after the signature where there is no contract.
         start = re.compile(rf"^{found[1]}\{{$|^(?!.*\b(?:requires|ensures)\b).*[\w)>\]] \{{$", re.M).search(text, found.start())
         if start:
             yield found[2], found.end(), start.end() - 1, closing(text, start.end() - 1)

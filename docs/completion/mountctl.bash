@@ -5,6 +5,9 @@
 _mountctl_refusals="BadLine TooLong BadPath JournalFull NoFilesystem FilesystemExists NoNamespace NoEntry EntryExists NotMountRoot RootPlace
 Unbindable SharedParent IntoItself UnbindableInside Busy BadAttr TooMany NoWatcher WatcherOpen TooManyWatchers Lagged Stopped NoMemory"
 
+# The errors of Linux that are explained.
+_mountctl_errnos="EPERM ENOENT ENXIO ENOMEM EACCES ENOTBLK EBUSY EEXIST ENODEV ENOTDIR EINVAL ENOSPC EROFS ENAMETOOLONG ELOOP"
+
 # The words that may follow those of a line, where it takes more than names, numbers and paths.
 _mountctl_words()
 {
@@ -44,8 +47,8 @@ _mountctl_sockets()
     done
 }
 
-# Which of these words the first one may become. Of a list behind `set=` or `clr=` the last part is completed, and `set=`
-# itself comes before what may stand behind it.
+# Which of these words the first one may become. Of a list after `set=` or `clr=` the last part is completed, and `set=`
+# itself comes before what may stand after it.
 _mountctl_offers()
 {
     local current=$1 word begun=
@@ -80,7 +83,7 @@ _mountctl()
     done
     current=${words[-1]}
     unset "words[-1]"
-    # Options come first; `--wait` has a number behind it, for which nothing is offered.
+    # Options come first; `--wait` has a number after it, for which nothing is offered.
     while ((${#words[@]})) && [[ ${words[0]} == -?* ]]; do
         [[ ${words[*]} == --wait ]] && return
         [[ ${words[0]} == --wait ]] && words=("${words[@]:1}")
@@ -95,7 +98,7 @@ _mountctl()
         return
     fi
     if [[ ${words[0]} == explain ]]; then
-        mapfile -t COMPREPLY < <(((${#words[@]} == 1)) && compgen -W "$_mountctl_refusals" -- "$current")
+        mapfile -t COMPREPLY < <(((${#words[@]} == 1)) && compgen -W "$_mountctl_refusals $_mountctl_errnos" -- "$current")
         return
     fi
     # A word that begins a line is no socket: that is the one of the environment.
@@ -109,7 +112,7 @@ _mountctl()
         return
     fi
     mapfile -t COMPREPLY < <(_mountctl_offers "$current" $(_mountctl_words "${words[@]:1}"))
-    # What readline holds for the word begins behind the `=` then.
+    # What readline holds for the word begins after the `=` then.
     if [[ $current == *=* && ${COMP_WORDS[COMP_CWORD]} != *[!=]*=* && $COMP_WORDBREAKS == *=* ]]; then
         cut=${current%%=*}=
     fi

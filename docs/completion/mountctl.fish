@@ -14,5 +14,5 @@ end
 
 set -g __mountctl_folder (status dirname)
 complete -c mountctl -f -a '(__mountctl_offers)'
-# Files stand behind the words of an import.
+# Files stand after the words of an import.
 complete -c mountctl -F -n 'string match -qr "^(import|what-if)\$" -- (commandline -opc)'

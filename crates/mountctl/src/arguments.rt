@@ -4,7 +4,7 @@ use crate::messages::NAME;
 use crate::task::begins_words;
 use clap::{Arg, ArgAction, ArgMatches, Command, Error, value_parser};
 use mt_arguments::program::{OUT_OF_MEMORY, VERSION};
-use mt_requests::help::LINES;
+use mt_protocol::help::lines;
 use std::alloc::{AllocError, Global};
 use std::env::VarError;
 use std::io::ErrorKind;
@@ -35,7 +35,8 @@ In the place of SOCKET WORD..:
   import                   reads the lines of a mountinfo, and prints a script that makes its namespace
   import FILE..            reads those of several processes, and prints a script that makes all their namespaces
   import --pid PID..       reads those of these processes
-  explain REFUSAL          says what the refusal of this name is, and what Linux says in its place
+  explain REFUSAL|ERRNO    says what the refusal of this name is, and what Linux says in its place;
+                           of an error of Linux, by its name or number, which refusals stand behind it
 
 Environment:
   MOUNTD_SOCKET            the socket of the server, where the first word is none: one that begins a line, or what may
@@ -43,7 +44,7 @@ Environment:
 
 /// The lines of a session, and what may stand in their place.
 pub(crate) fn usage(alloc: Global) -> Result<String, AllocError> {
-    let mut text = String::from_str(alloc, LINES)?;
+    let mut text = lines(alloc)?;
     text.push_str(TASKS)?;
     Ok(text)
 }

@@ -100,7 +100,7 @@ impl WordFault {
             WordFault::Import => "import takes files, or --pid and processes, or no words",
             WordFault::WhatIf => "what-if takes files, and lines behind --",
             WordFault::TooMany => "more than 64 tables",
-            WordFault::Explain => "explain takes the name of a refusal",
+            WordFault::Explain => "explain takes the name of a refusal, or an errno",
         }
     }
 }

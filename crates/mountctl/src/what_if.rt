@@ -29,6 +29,9 @@ use std::io::Eprint;
 use std::os::unix::net::UnixStream;
 use std::process::ExitCode;
 
+/// How often posts are asked for at most.
+const MOST_TAKES: u64 = u64::MAX;
+
 /// What comes of a question.
 #[derive(Clone, Copy)]
 pub(crate) enum Effects {
@@ -36,6 +39,8 @@ pub(crate) enum Effects {
     Told(bool),
     /// The server had accepted something before.
     NotNew,
+    /// The answer to the line was printed, and all that it changes was told; but others changed something too.
+    Shared,
     /// The answer to the line was printed, and not all that it changes was told.
     Lost,
 }
@@ -154,19 +159,39 @@ fn prepare_all<'a, E: Eprint, R: Input + Drop, W: Output>(
     Ok(Some(line))
 }
 
-/// Whether a watcher of which the posts were taken lost none: no more have come, and none was left out since its queue
-/// was full.
-fn has_all<R: Input + Drop, W: Output>(
+/// What a watcher has behind the posts that were told.
+#[derive(Clone, Copy)]
+enum Behind {
+    /// Nothing: no post is left.
+    Nothing,
+    /// Posts that others made, which were taken and not told.
+    Others,
+    /// Posts are missing: the queue of the watcher was full when one came, or they could not be taken.
+    Missing,
+}
+
+/// Takes the posts of a watcher until none is left, and tells none: what it had.
+fn take_all<R: Input + Drop, W: Output>(
     alloc: Global,
     lines: &mut LineReader<R>,
     writer: &mut W,
-) -> Result<bool, Fault>
+) -> Result<Behind, Fault>
     requires fresh { fault_of lines.old ≡ None }
 {
-    if ask_line(alloc, lines, writer, b"take 1", &mut Quiet)? {
-        return Ok(lines.line() == b"ok 0".as_slice());
+    let mut behind = Behind::Nothing;
+    'takes: for _take in 0..MOST_TAKES {
+        if !ask_line(alloc, lines, writer, b"take 1024", &mut Quiet)? {
+            if lines.line() == b"no Stopped".as_slice() {
+                return Ok(behind);
+            }
+            return Ok(Behind::Missing);
+        }
+        if lines.line() == b"ok 0".as_slice() {
+            return Ok(behind);
+        }
+        behind = Behind::Others;
     }
-    Ok(lines.line() == b"no Stopped".as_slice())
+    Ok(behind)
 }
 
 /// Sends a line, and tells its answer and what it changes in the namespaces of these names.
@@ -187,10 +212,10 @@ fn tell_line<R: Input + Drop, W: Output, O: Output>(
     if !tell_effects(alloc, lines, writer, line, &named, out)? {
         return Ok(Effects::Told(false));
     }
-    if has_all(alloc, lines, writer)? {
-        Ok(Effects::Told(true))
-    } else {
-        Ok(Effects::Lost)
+    match take_all(alloc, lines, writer)? {
+        Behind::Nothing => Ok(Effects::Told(true)),
+        Behind::Others => Ok(Effects::Shared),
+        Behind::Missing => Ok(Effects::Lost),
     }
 }
 
@@ -270,9 +295,14 @@ fn answer_what_if(
             let _ = eprintln!(rt; "{NAME}: {socket}: not a new server");
             Ok(ExitCode::from(1))
         }
+        Ok(Effects::Shared) => {
+            let socket = Shown(socket.as_bytes());
+            let _ = eprintln!(rt; "{NAME}: {socket}: others made changes");
+            Ok(ExitCode::from(PROGRAM.failed))
+        }
         Ok(Effects::Lost) => {
             let socket = Shown(socket.as_bytes());
-            let _ = eprintln!(rt; "{NAME}: {socket}: changes were lost, or others made some");
+            let _ = eprintln!(rt; "{NAME}: {socket}: changes were lost");
             Ok(ExitCode::from(PROGRAM.failed))
         }
         Err(fault) => Ok(status_of(rt, socket, Err(fault))),

@@ -1,7 +1,7 @@
-//! Listening at a path, on request also where a server that was killed has left its socket.
+//! Listening at a path, on request even if a server that was killed has left its socket there.
 //!
-//! A server takes the lock of its path before it looks at the path, and holds it up to its end. So no other server makes or
-//! removes a socket there meanwhile, whatever the time between two of its steps is.
+//! A server takes the lock of its path before it looks at the path, and holds it up to its end. So no other server
+//! makes or removes a socket there in the meantime, however much time passes between two of its steps.
 
 use crate::descriptors;
 use crate::lock::{Lock, LockFault, lock_path};
@@ -16,20 +16,21 @@ use std::os::unix::net::{SocketAddr, UnixListener};
 use std::time::{Clock, Duration};
 use std::{fs, io, thread};
 
-/// Who may connect: the user whose server it is.
+/// Who may connect: the user who runs the server.
 const MODE: u32 = 0o600;
 
 /// As many connections may wait to be accepted as the system allows.
 const BACKLOG: i32 = -1;
 
 /// How many milliseconds lie between two looks at a socket that refuses a connection: a program of another kind, which
-/// takes no lock, has its socket at the path a moment before it listens.
+/// takes no lock, has its socket at the path a moment before it listens there.
 const SECOND_LOOK: u64 = 100;
 
 /// How many milliseconds lie between two tries to take a lock that another server holds.
 const PAUSE: u64 = 20;
 
-/// The most tries: 15 seconds of them. A server that was stopped ends within some twelve.
+/// The most tries, which take 15 seconds. A server that was stopped ends within some twelve
+/// seconds.
 const MOST_TRIES: u32 = 750;
 
 /// The paths of a server.
@@ -42,7 +43,7 @@ pub(crate) struct Paths {
 }
 
 impl Paths {
-    /// The paths of a server at this socket. Refused for want of memory alone.
+    /// The paths of a server at this socket.
     pub(crate) fn new(alloc: Global, socket: String) -> Result<Paths, AllocError> {
         let lock = lock_path(alloc, socket.as_str())?;
         Ok(Paths { socket, lock })
@@ -71,8 +72,8 @@ fn taken<R: Files>(rt: &R, path: &str) -> ListenFault {
     fault_at(rt, path, &io::Error::from(ErrorKind::AddrInUse))
 }
 
-/// What is said of a lock that cannot be had. Where its folder is not there, or the path is that of another file, no socket
-/// could be made either, and it is said of that.
+/// What is said if there is no lock. If its folder is not there, or the path is that of another file, no socket could
+/// be made either, and the message is about that.
 fn lock_fault<R: Files>(rt: &R, path: &str, fault: LockFault) -> ListenFault {
     if let LockFault::Call(ErrorKind::NotFound) = fault {
         return ListenFault::Socket(SocketFault::Call(ErrorKind::NotFound));
@@ -92,7 +93,7 @@ fn check_status(status: i32) -> io::Result<()> {
     }
 }
 
-/// The address of a path. Without one it would be a name that no file has.
+/// The address of a path. Without a path it would be a name that no file has.
 fn address_of(path: &str) -> io::Result<SocketAddr> {
     if path.is_empty() {
         return Err(io::Error::from(ErrorKind::InvalidInput));
@@ -100,14 +101,14 @@ fn address_of(path: &str) -> io::Result<SocketAddr> {
     SocketAddr::from_pathname(path)
 }
 
-/// Whether a path is that of a server that begins or ends, where another holds its lock: nothing is there, or a socket at
-/// which nobody listens, if that may be replaced.
+/// Whether a path, whose lock another server holds, is that of a server that is beginning or ending: nothing is there,
+/// or a socket at which nobody listens, if that may be replaced.
 fn may_come_free<R: Files + Net>(rt: &R, path: &str, replaces: bool) -> bool {
     let is_silent = replaces && is_refused(rt, path) && socket_at(rt, path).is_some();
     is_silent || is_free(rt, path)
 }
 
-/// Takes the lock of a path. A server that holds it, and begins or ends, is waited for, 15 seconds at most.
+/// Takes the lock of a path. If a server that is beginning or ending holds it, this waits for 15 seconds at most.
 fn take_lock<'a, R: Files<File = File> + Net + Clock>(
     rt: &R,
     paths: &'a Paths,
@@ -127,8 +128,8 @@ fn take_lock<'a, R: Files<File = File> + Net + Clock>(
     Err(taken(rt, path))
 }
 
-/// Removes a stale socket: a connection to it is refused, and once more at the second look, after which the path still
-/// names the same one. Anything else at the path stays.
+/// Removes a stale socket: a connection to it is refused, and refused again at a second look, after which the path
+/// still names the same socket. Anything else at the path stays.
 fn remove_stale<R: Files + Net + Clock>(rt: &R, path: &str) {
     let stale = socket_at(rt, path);
     if stale.is_none() || !is_refused(rt, path) {
@@ -140,7 +141,7 @@ fn remove_stale<R: Files + Net + Clock>(rt: &R, path: &str) {
     }
 }
 
-/// A socket of which the file will have the mode [`MODE`], less what the process's umask takes off.
+/// A socket whose file will have the mode [`MODE`], less what the process's umask takes away.
 ///
 /// The mode is set while there is no file: Linux makes the file with the mode that the socket has. So there is
 /// no moment in which another user may connect, and no path is followed to set it, which somebody else could
@@ -159,8 +160,8 @@ fn bind<R: Files + Net>(rt: &R, address: &SocketAddr) -> io::Result<UnixListener
     Ok(UnixListener::from(socket))
 }
 
-/// Listens on a socket that it makes at a path, where there is nothing yet, or a stale socket which it `replaces`. If
-/// there was one, and is none any more, whoever has removed it, the path is tried again.
+/// Listens on a socket that it makes at a path, where there is nothing yet, or a stale socket that it `replaces`. If
+/// there was one and it is gone, whoever removed it, the path is tried again.
 fn bind_in_lock<R: Files + Net + Clock>(
     rt: &R,
     path: &str,
@@ -189,7 +190,7 @@ pub(crate) struct Listening<'a> {
 }
 
 impl<'a> Listening<'a> {
-    /// Listens at the path of a socket. There may be nothing, but where the server `replaces` a stale socket, that.
+    /// Listens at the path of a socket. Nothing may be there, except a stale socket if the server `replaces` it.
     pub(crate) fn begin<R: Files<File = File> + Net + Clock>(
         rt: &R,
         paths: &'a Paths,
@@ -218,7 +219,7 @@ impl<'a> Listening<'a> {
         }
     }
 
-    /// Takes the socket away, if it still is the one that was made, and gives the path up to the next server.
+    /// Removes the socket, if it is still the one that was made, and leaves the path to the next server.
     pub(crate) fn end<R: Files>(self, rt: &R) {
         let path = self.paths.socket.as_str();
         if self.made.is_some() && socket_at(rt, path) == self.made {

@@ -1,8 +1,9 @@
 //! The lock of a socket: a file beside it, which a server keeps locked as long as it lives.
 //!
-//! Who holds the lock may look at the socket, remove it and make another, so that one server at a time is at a path. The
-//! system frees the lock once its holder has ended, in whichever way. The file goes with its server; one that is killed
-//! leaves it, and nobody holds its lock then. Who locks a file that was removed meanwhile does not hold the lock of the path.
+//! Whoever holds the lock may look at the socket, remove it and make another, so that only one server at a time is at a
+//! path. The system frees the lock once its holder has ended, in whatever way. The file goes with its server; one that
+//! is killed leaves it, and then nobody holds its lock. Whoever locks a file that was removed in the meantime does not
+//! hold the lock of the path.
 
 use crate::looks::FileIdentity;
 use std::alloc::{AllocError, Global};
@@ -12,24 +13,24 @@ use std::io::ErrorKind;
 use std::os::unix::fs::{MetadataExt, OpenOptionsExt};
 use std::{fmt, fs, io};
 
-/// The mode of the file, less what the process's umask takes off. Who could open it could hold its lock.
+/// The mode of the file, less what the process's umask takes away. Whoever could open it could hold its lock.
 const MODE: u32 = 0o600;
 
-/// The path of the lock of a socket. Refused for want of memory alone.
+/// The path of the lock of a socket.
 pub(crate) fn lock_path(alloc: Global, socket: &str) -> Result<String, AllocError> {
     let mut path = String::from_str(alloc, socket)?;
     path.push_str(".lock")?;
     Ok(path)
 }
 
-/// Why a lock cannot be had.
+/// Why there is no lock.
 #[derive(Clone, Copy)]
 pub(crate) enum LockFault {
-    /// There is something at its path that is no plain file, as a symbolic link.
+    /// There is something at its path that is not a plain file, such as a symbolic link.
     NoFile,
     /// The file there is another user's.
     Foreign,
-    /// The system's call failed so.
+    /// The system's call failed with this error.
     Call(ErrorKind),
 }
 
@@ -49,7 +50,7 @@ impl Display for LockFault {
     }
 }
 
-/// Makes the file of a lock, where there is none.
+/// Makes the file of a lock, if there is none.
 fn create<R: Files<File = File>>(rt: &R, path: &str) -> io::Result<File> {
     File::options()
         .read(true)
@@ -59,7 +60,7 @@ fn create<R: Files<File = File>>(rt: &R, path: &str) -> io::Result<File> {
         .open(rt, path)
 }
 
-/// Refuses a file that is no lock of this user's.
+/// Refuses a file that is not a lock of this user's.
 fn check_file(file: &Metadata) -> Result<(), LockFault> {
     if !file.is_file() {
         return Err(LockFault::NoFile);
@@ -77,14 +78,14 @@ fn file_at<R: Files>(rt: &R, path: &str) -> Result<FileIdentity, LockFault> {
     Ok(FileIdentity::of(&file))
 }
 
-/// Opens the file of a lock that is there. A link is not followed, and nothing else than a plain file is opened, as far as
-/// it is there already at the look.
+/// Opens the file of a lock that is there. A link is not followed, and only a plain file is opened, as far as it is
+/// already there at the look.
 fn open_there<R: Files<File = File>>(rt: &R, path: &str) -> Result<File, LockFault> {
     file_at(rt, path)?;
     Ok(File::options().read(true).write(true).open(rt, path)?)
 }
 
-/// What was found at a path; none where it was removed meanwhile.
+/// What was found at a path; none if it was removed in the meantime.
 fn unless_gone<T: Drop>(found: Result<T, LockFault>) -> Result<Option<T>, LockFault> {
     match found {
         Ok(found) => Ok(Some(found)),
@@ -93,7 +94,7 @@ fn unless_gone<T: Drop>(found: Result<T, LockFault>) -> Result<Option<T>, LockFa
     }
 }
 
-/// Opens the file of a lock, or makes it; none where it was removed meanwhile.
+/// Opens the file of a lock, or makes it; none if it was removed in the meantime.
 fn open<R: Files<File = File>>(rt: &R, path: &str) -> Result<Option<File>, LockFault> {
     match create(rt, path) {
         Ok(file) => Ok(Some(file)),
@@ -102,7 +103,7 @@ fn open<R: Files<File = File>>(rt: &R, path: &str) -> Result<Option<File>, LockF
     }
 }
 
-/// Takes the lock of a file, where nobody else holds it. Whether it was taken.
+/// Takes the lock of a file, if nobody else holds it, and answers whether it did.
 fn try_lock(file: &File) -> Result<bool, LockFault> {
     match file.try_lock() {
         Ok(()) => Ok(true),
@@ -120,8 +121,8 @@ pub(crate) struct Lock<'a> {
 }
 
 impl<'a> Lock<'a> {
-    /// Takes the lock of this path, and makes its file where there is none; none where another holds the lock, or has
-    /// removed the file meanwhile.
+    /// Takes the lock of this path, and makes its file if there is none; none if another holds the lock, or has removed
+    /// the file in the meantime.
     pub(crate) fn take<R: Files<File = File>>(
         rt: &R,
         path: &'a str,
@@ -146,7 +147,7 @@ impl<'a> Lock<'a> {
         Ok(unless_gone(file_at(rt, self.path))? == Some(own))
     }
 
-    /// Removes the file, if it is still at its path, and gives the lock up.
+    /// Removes the file, if it is still at its path, and gives up the lock.
     pub(crate) fn remove<R: Files>(self, rt: &R) {
         if let Ok(true) = self.is_there(rt) {
             let _ = fs::remove_file(rt, self.path);

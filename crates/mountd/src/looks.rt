@@ -7,7 +7,7 @@ use std::io::ErrorKind;
 use std::net::Net;
 use std::os::unix::fs::{FileTypeExt, MetadataExt};
 
-/// A file, by what no other has as long as it is at a path, or is open.
+/// A file, identified by what no other has as long as it is at a path, or is open.
 #[derive(Clone, Copy, PartialEq, Eq)]
 pub(crate) struct FileIdentity {
     /// The device of its file system.
@@ -17,7 +17,7 @@ pub(crate) struct FileIdentity {
 }
 
 impl FileIdentity {
-    /// The file of which this is known.
+    /// The file with these.
     pub(crate) fn of(file: &Metadata) -> FileIdentity {
         FileIdentity {
             device: file.dev(),
@@ -26,7 +26,7 @@ impl FileIdentity {
     }
 }
 
-/// The socket that a path names; none where it names something else, also a symbolic link to a socket.
+/// The socket that a path names; none if it names something else, including a symbolic link to a socket.
 pub(crate) fn socket_at<R: Files>(rt: &R, path: &str) -> Option<FileIdentity> {
     match fs::symlink_metadata(rt, path) {
         Ok(file) if file.file_type().is_socket() => Some(FileIdentity::of(&file)),
@@ -42,8 +42,8 @@ pub(crate) fn is_free<R: Files>(rt: &R, path: &str) -> bool {
     }
 }
 
-/// Whether a connection is refused: nobody listens at the socket that a path names. Of a path that names another file it
-/// tells nothing, since that refuses each connection. It does not wait.
+/// Whether a connection is refused: nobody listens at the socket that a path names. For a path that names another file
+/// this says nothing, since such a file refuses each connection. It does not wait.
 pub(crate) fn is_refused<R: Net>(rt: &R, path: &str) -> bool {
     match connect_now(rt, path) {
         Ok(_) => false,

@@ -10,7 +10,7 @@ mod socket;
 use crate::listening::{ListenFault, Paths};
 use clap::{Arg, ArgAction, Command, Error, value_parser};
 use mt_arguments::program::{OUT_OF_MEMORY, Program, VERSION, WRITE_FAULT, read_arguments};
-use mt_requests::help::LINES;
+use mt_protocol::help::lines;
 use mt_session::floor::Floor;
 use mt_session::line::{LineReader, ReadFault};
 use mt_session::serving::{End, LINE_LIMIT, serve_plain};
@@ -32,7 +32,7 @@ const PROGRAM: Program = Program {
     failed: 1,
 };
 
-/// What is said where a server cannot listen. Behind it stand the path and the reason.
+/// What is said if a server cannot listen. The path and the reason come after it.
 const NOT_LISTENING: &str = "cannot listen";
 
 /// How many posts the queue of a watcher holds, if the arguments do not say.
@@ -48,13 +48,13 @@ struct Options {
     socket: String,
     /// Whether a socket that a killed server has left at the path is replaced.
     replaces: bool,
-    /// What the server is held to.
+    /// The limits of the server.
     limits: Limits,
 }
 
 /// What the program takes: a socket or `-`, whether a stale socket is replaced, how long queues are, how many sessions
-/// there may be, and how long one may be idle.
-fn parser<'a>(alloc: Global) -> Result<Command<'a>, Error> {
+/// there may be, and how long one may be idle. `usage` stands behind its help.
+fn parser<'a>(alloc: Global, usage: &'a str) -> Result<Command<'a>, Error> {
     let socket = Arg::new(alloc, "SOCKET")
         .help("The socket to listen on, or - for one session on standard input and output")
         .required(true)
@@ -86,7 +86,7 @@ fn parser<'a>(alloc: Global) -> Result<Command<'a>, Error> {
     let command = Command::new(alloc, NAME)
         .version(VERSION)
         .arg(socket)?
-        .after_help(LINES)
+        .after_help(usage)
         .arg(replace)?
         .arg(queue)?
         .arg(sessions)?
@@ -96,7 +96,8 @@ fn parser<'a>(alloc: Global) -> Result<Command<'a>, Error> {
 
 /// Reads the arguments.
 fn read_options(alloc: Global, words: &[&str]) -> Result<Options, Error> {
-    let matches = parser(alloc)?.try_get_matches_from(words)?;
+    let usage = lines(alloc)?;
+    let matches = parser(alloc, usage.as_str())?.try_get_matches_from(words)?;
     let socket = matches.get_str("SOCKET").unwrap_or(STANDARD);
     Ok(Options {
         socket: String::from_str(alloc, socket)?,
@@ -120,7 +121,7 @@ fn complaint(end: End) -> Option<&'static str> {
     }
 }
 
-/// Serves one session on standard input and output, with queues of so many posts, 1 to 1,024.
+/// Serves one session on standard input and output, with queues of this many posts, 1 to 1,024.
 fn serve_standard(rt: &HostRuntime, queue: usize) -> ExitCode {
     let reader = Reading::new(rt.reader());
     let Ok(mut lines) = LineReader::new(rt.alloc(), reader, LINE_LIMIT) else {

@@ -1,9 +1,9 @@
-//! The server on a Unix socket that it makes, and takes away at its end.
+//! The server on a Unix socket, which it makes, and removes at its end.
 ghost use Rattle.std.specs.Prelude.{◌≡◌, ◌<◌};
 
 use crate::listening::{ListenFault, Listening, Paths};
 use mt_desk::desk::Desk;
-use mt_desk::lines::{Lines, Naming};
+use mt_desk::lines::{Host, Lines, Naming};
 use mt_server::server::{Premises, ServerFault, run_server};
 use mt_session::bell::Bell;
 use mt_session::gate::OpenGate;
@@ -19,7 +19,7 @@ use std::time::Clock;
 /// The most posts that a queue may hold.
 pub(crate) const MOST_POSTS: usize = 1_024;
 
-/// What a server is held to.
+/// The limits of a server.
 #[derive(Clone, Copy)]
 pub(crate) struct Limits {
     /// How many posts the queue of a watcher holds, 1 to 1,024.
@@ -55,14 +55,17 @@ fn with_lines<J, R>(
 where
     J: Naming + Send + Sync,
     R: Threads + Wait + Clock + Net<Listener = TcpListener, Stream = TcpStream> + Sync,
-    requires { lines.lines ≡ J.lines }
+    requires lines { lines.lines ≡ J.lines }
+    requires history { lines.history ≡ J.history }
 {
+    let host: Host<J> = lines.host();
     let desk: Mutex<Desk<J>> = Mutex::new(Desk::new(lines));
     let bell = Bell::new();
     let premises = Premises {
         listener,
         path: path.as_str(),
         desk: &desk,
+        host: &host,
         bell: &bell,
         sessions: limits.sessions,
         idle: limits.idle,
@@ -94,9 +97,9 @@ where
 
 /// Makes a socket at a path and serves sessions on it until one stops the server.
 ///
-/// There may be nothing at the path, but where the server `replaces` it, a socket that a killed server has left. No other
-/// server is at the path as long as this one lives. Only the user whose server it is may connect, and who connects may do
-/// everything. At the end the socket is taken away, if it still is the one that was made.
+/// Nothing may be at the path, except a socket that a killed server has left, if the server `replaces` it. No other
+/// server is at the path as long as this one lives. Only the user who runs the server may connect, and whoever connects
+/// may do everything. At the end the socket is removed, if it is still the one that was made.
 pub(crate) fn serve_socket<R>(
     rt: &R,
     alloc: Global,

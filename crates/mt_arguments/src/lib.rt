@@ -1,4 +1,4 @@
-//! The arguments of a program, and what it says of those that are no good, or of its socket. Both programs take them so.
+//! The arguments of a program, and what it says of wrong ones, or of its socket. Both programs use this.
 #![tactic(auto)]
 
 pub mod connecting;

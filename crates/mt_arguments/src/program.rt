@@ -11,24 +11,24 @@ use std::io::{Eprint, Print};
 use std::process::ExitCode;
 use std::{env, io};
 
-/// The status of a run whose arguments are no good, as is usual.
+/// The usual status of a run whose arguments are wrong.
 const FAULTY: u8 = 2;
 
-/// The version of the programs, which are made together.
+/// The version of both programs, which are made together.
 pub const VERSION: &str = "0.1.0";
 
-/// What is said where there is no memory.
+/// What is said if there is no memory.
 pub const OUT_OF_MEMORY: &str = "out of memory";
 
-/// What is said where the output takes nothing.
+/// What is said if the output takes nothing.
 pub const WRITE_FAULT: &str = "write fault";
 
-/// A program, by the name that stands in its messages and the status of its runs that fail.
+/// A program, by the name in its messages and the status of its runs that fail.
 #[derive(Clone, Copy)]
 pub struct Program {
     /// The name.
     pub name: &'static str,
-    /// The status of a run that fails, other than by its arguments.
+    /// The status of a run that fails for another reason than its arguments.
     pub failed: u8,
 }
 
@@ -39,8 +39,8 @@ impl Program {
         ExitCode::from(self.failed)
     }
 
-    /// Says on standard error why a run fails, at which path, as a terminal is given it, and for what
-    /// reason, and answers its status.
+    /// Says on standard error why a run fails, at which path, written for a terminal, and for what reason, and answers
+    /// its status.
     pub fn fail_at<R: Eprint, D: Display + Drop>(
         self,
         rt: &R,
@@ -59,8 +59,8 @@ impl Program {
         ExitCode::from(FAULTY)
     }
 
-    /// Says what the parser of the arguments says, and answers the status: its help or the version on standard output, of
-    /// status 0 where it goes out, and else its complaints on standard error, of status 2.
+    /// Prints what the parser of the arguments says, and answers the status: its help or the version go to standard
+    /// output, with status 0 if they are printed, and its complaints to standard error, with status 2.
     pub fn explain<R: Print + Eprint>(self, rt: &R, error: &Error) -> ExitCode {
         match error.kind() {
             ErrorKind::DisplayHelp | ErrorKind::DisplayVersion => match print!(rt; "{error}") {
@@ -75,7 +75,8 @@ impl Program {
         }
     }
 
-    /// Says why the arguments could not be read, and answers the status: there was no memory for them, or one is no text.
+    /// Says why the arguments could not be read, and answers the status: there was no memory for them, or one is not
+    /// text.
     pub fn explain_unread<R: Eprint>(self, rt: &R, error: &io::Error) -> ExitCode {
         match error.kind() {
             io::ErrorKind::OutOfMemory => self.fail(rt, OUT_OF_MEMORY),
@@ -84,7 +85,7 @@ impl Program {
     }
 
     /// The words that the parser of the arguments takes: the program's name in the place of the path by which it was
-    /// called, and then the arguments. Fails for want of memory alone.
+    /// called, and then the arguments.
     pub fn words<'a>(
         self,
         alloc: Global,
@@ -105,7 +106,7 @@ impl Program {
 }
 
 /// The arguments of this run, of which the first is the path by which the program was called. Fails as `OutOfMemory`,
-/// and where one of them is not UTF-8.
+/// and if one of them is not UTF-8.
 pub fn read_arguments<R: Env + AllocGlobal>(rt: &R) -> io::Result<Vec<String>> {
     let mut arguments = Vec::new(rt.alloc());
     for argument in env::args(rt)? {

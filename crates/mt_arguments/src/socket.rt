@@ -1,4 +1,4 @@
-//! Why a socket cannot be had at a path, in words.
+//! Why there is no socket at a path, in words.
 ghost use Rattle.std.specs.Prelude.{◌≡◌, ◌≢◌, ◌↔◌, ◌⊎◌, ◌<◌, ◌≤◌, IsTrue, length};
 ghost use Rattle.std.specs.IoError.{error_kind};
 ghost use Rattle.mt_arguments.specs.Sockets.{is_another};
@@ -9,19 +9,19 @@ use std::io::ErrorKind;
 use std::os::unix::fs::MetadataExt;
 use std::{fmt, io};
 
-/// The longest path of a Unix socket, in bytes: the address has 108, of which the last is a zero.
+/// The longest path of a Unix socket, in bytes: the address has 108, the last of which is a zero.
 const LONGEST: usize = 107;
 
-/// Why no socket can be made at a path, or none be reached there.
+/// Why no socket can be made at a path, or reached there.
 #[derive(Clone, Copy)]
 pub enum SocketFault {
     /// The path is empty.
     NoPath,
     /// The path has more than 107 bytes.
     LongPath,
-    /// There is a file at the path that is no socket.
+    /// The file at the path is not a socket.
     NoSocket,
-    /// The system's call failed so.
+    /// The system's call failed with this error.
     Call(ErrorKind),
 }
 
@@ -35,7 +35,7 @@ fn is_another(file: &io::Result<Metadata>) -> bool
     }
 }
 
-/// Whether the system tells so of a path at which another file is too.
+/// Whether the system says this also of a path at which another kind of file is.
 fn is_vague(kind: ErrorKind) -> bool
     ensures { IsTrue result ↔ (kind ≡ ErrorKind.AddrInUse) ⊎ (kind ≡ ErrorKind.ConnectionRefused) }
 {
@@ -43,8 +43,8 @@ fn is_vague(kind: ErrorKind) -> bool
 }
 
 impl SocketFault {
-    /// What a failed call says of a path, at which a look finds this file. The system tells of a file that is no socket
-    /// what it tells of a socket that is in use, or at which nobody listens, so such a file is looked at.
+    /// What a failed call says of a path, at which this file was found. The system says of a file that is not a socket
+    /// what it says of a socket that is in use, or at which nobody listens, so the file is looked at.
     pub fn new(path: &str, error: &io::Error, file: &io::Result<Metadata>) -> SocketFault
         ensures empty { length path.now ≡ 0 → result ≡ SocketFault.NoPath }
         ensures long { 107 < length path.now → result ≡ SocketFault.LongPath }

@@ -126,7 +126,7 @@ module _ (w : WorldView) (p : Place) where
   abbrev asked : Bool → Option ℕ → List ℕ → Bool
   asked leads passed ks = leads && list_all (is_bindable w) ks && leads_within w p.dir (last_or passed ks)
 
-  -- whether so many steps from j lead to the top on such a way
+  -- whether this many steps from j lead to the top on such a way
   abbrev pub taken : ℕ → Option ℕ → ℕ → Bool
   taken n passed j = asked (below_within w.forest p.mount n j) passed (way w p.mount n j)
 
@@ -156,11 +156,11 @@ module _ (w : WorldView) (p : Place) where
   pub taken_before : (n : ℕ) (passed : Option ℕ) (j : ℕ) → j ≢ p.mount → n ≤ length w.forest → ends (parent w.forest) n j ≡ true → taken n passed j ≡ is_bound_along w p j
   taken_before n passed j ne le e = rw (longer_chain n (length w.forest) j le e, (way_more n j ne).1) refl
 
-  -- a way that goes on ends behind its first step
+  -- a way that goes on ends after its first step
   pub ends_up : (n j q : ℕ) → parent w.forest j ≡ Some q → ends (parent w.forest) (suc n) j ≡ true → ends (parent w.forest) n q ≡ true
   ends_up n j q up e = grind (arith, up, e)
 
-  -- a mount that is not unbindable is bound where its parent is, but for one that stands on the top
+  -- a mount that is not unbindable is bound where its parent is, except for one that stands on the top
   pub bound_step : IsWellFormed w → (j q : ℕ) → j ≢ p.mount → (state_of w j).unbindable ≡ false → parent w.forest j ≡ Some q → q ≢ p.mount → is_bound_along w p j ≡ is_bound_along w p q
   bound_step h j q ne e up off = rw (below_parent w h p.mount j q ne up, path_step w h p.mount j q ne up, e, (way_more (length w.forest) q off).1) refl
 

@@ -1,4 +1,4 @@
--- The mounts of each namespace stay one tree where another mount of one becomes its root mount, also where that is done mount by
+-- The mounts of each namespace stay one tree where another mount of one becomes its root mount, even where that is done mount by
 -- mount; so a pivot that is accepted keeps worlds well-formed and namespaces contained, and changes nothing outside its namespace.
 use Rattle.std.proofs.Common.{◌≡◌, ℕ, true, false, List, Option, Some, None, Ok, Err, refl, sym, ap, ◌∙◌, subst, ◌≢◌, ◌⊎◌, suc, ◌+◌, ◌<◌, cond, ◌||◌, eq-eqb, map, length, inl, inr, arith, IsTrue, eqb-true, not, ◌==◌}
 use Rattle.std.specs.Prelude.{unwrap_or, is_none}

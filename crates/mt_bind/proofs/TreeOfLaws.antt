@@ -31,7 +31,7 @@ module _ (w : WorldView) (top : ℕ) where
   abbrev pub off_top : ℕ → Bool
   off_top k = not (k == top)
 
-  -- the mounts that so many steps from j pass below the top
+  -- the mounts that this many steps from j pass below the top
   abbrev pub way : ℕ → ℕ → List ℕ
   way n j = take_while off_top (chain (parent w.forest) n j)
 

@@ -14,7 +14,7 @@ use Rattle.mt_propagate.specs.Named.{place_or_nowhere, is_root_place, is_root_mo
 use Rattle.mt_propagate.specs.Sound.{IsDestination}
 use Rattle.mt_bind.specs.Mounting.{stands_on_shared}
 
--- a mount once the new root mount has no place, and the old one has this place (pivot_root(2))
+-- a mount, once the new root mount has no place and the old one has this place (pivot_root(2))
 abbrev pub pivoted_mount : ℕ → ℕ → Place → Mount → Mount
 pivoted_mount new old p m = record m { place = cond (m.id == new) None (cond (m.id == old) (Some p) m.place) }
 
@@ -44,14 +44,14 @@ module _ (w : WorldView) where
   abbrev pub pivoted_effect : ℕ → Result Place Fault → Result Place Fault → WorldView
   pivoted_effect n new old = with_pivot w (place_or_nowhere new).mount (root_id n) (place_or_nowhere old)
 
-  -- the mount that one path names is the root mount then, and the old one stands where the other path ends (pivot_root(2))
+  -- afterwards the mount that one path names is the root mount, and the old one stands where the other path ends (pivot_root(2))
   abbrev pub pivoted : ℕ → List (List ℕ) → List (List ℕ) → Result WorldView Fault
   pivoted n new old =
       let root = walk w.skel w.forest n new in
       let place = walk w.skel w.forest n old in
       outcome (pivoted_refusals root place) (pivoted_effect n root place)
 
--- a mount may become the root mount of its namespace, and the old one may go to a place then (pivot_root(2))
+-- a mount may become the root mount of its namespace, and the old one may then go to a place (pivot_root(2))
 pub record MayPivot (w : WorldView) (new old : ℕ) (p : Place) : Type 0 where
   -- the new one is there, and stands on another mount
   pub top : Mount

@@ -20,7 +20,7 @@ fresh w fs = fresh_source (root_of w.skel fs)
 abbrev pub top_at : WorldView → Place → Mount
 top_at w p = top_of w p.mount p.dir
 
--- bind: that mount alone (`sharedsubtree`, bind semantics)
+-- bind: only that mount (`sharedsubtree`, bind semantics)
 abbrev pub alone : WorldView → Place → Source
 alone w p = record { mounts = top_at w p ∷ []; top = top_at w p; moved = false }
 
@@ -55,7 +55,7 @@ tree_within w p = record {
   moved = false;
 }
 
--- what a bind of a place copies: with `recursive` the tree of mounts below the directory, else the mount alone
+-- what a bind of a place copies: with `recursive` the tree of mounts below the directory, otherwise only the mount
 abbrev pub source_at : WorldView → Bool → Place → Source
 source_at w recursive p = cond recursive (tree_within w p) (alone w p)
 

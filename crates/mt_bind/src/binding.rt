@@ -25,7 +25,7 @@ pub(crate) fn is_unbindable(world: &World, id: MountId) -> bool
     state_of(world, id).unbindable
 }
 
-/// A list of one mount. Refused as `NoMemory` alone.
+/// A list of one mount.
 fn only(world: &World, id: MountId) -> Result<Vec<MountId>, Fault>
     ensures only { IfOk result (λ ids. ids.items ≡ id ∷ []) }
     ensures memory { IsOkUnless result Fault.NoMemory }
@@ -54,7 +54,7 @@ fn sources_at(world: &World, from: Place, recursive: bool) -> Result<Sources, Fa
     })
 }
 
-/// Binds with what stands below the source path's end where `recursive`, or without.
+/// Binds, if `recursive` together with what stands below the end of the source path.
 fn bind_from(
     world: &mut World,
     space: SpaceId,
@@ -92,9 +92,9 @@ fn bind_from(
 /// to where another path ends and to each propagation target of that place, and answers the ID of
 /// the copy at the place itself.
 ///
-/// Refused as `NoNamespace`, `NoEntry` where a component of either path is not there, the source
-/// path first, `RootPlace` where the other path is `/`, `Unbindable` where the mount is, `TooMany`
-/// above 4,096 mounts, and as `NoMemory`; then nothing has changed.
+/// Refused as `NoNamespace`, `NoEntry` if a component of either path is not there, the source path
+/// first, `RootPlace` if the other path is `/`, `Unbindable` if the mount is, `TooMany` above 4,096
+/// mounts, and as `NoMemory`; then nothing has changed.
 pub fn bind(world: &mut World, space: SpaceId, from: &[Name], to: &[Name]) -> Result<MountId, Fault>
     requires well_formed { IsWellFormed (world_view world.old) }
     requires numbers { (world.old.next_mount < 2 ^ 63) × (world.old.peers.next < 2 ^ 63) }
@@ -109,8 +109,8 @@ pub fn bind(world: &mut World, space: SpaceId, from: &[Name], to: &[Name]) -> Re
 
 /// Copies the mount where one path ends, as seen from that directory on, and all that stand on it
 /// within the directory, at whatever height, as one tree to where another path ends and to each
-/// propagation target of that place, and answers the ID of the topmost copy at the place itself.
-/// An unbindable mount is left out, with all that stand on it.
+/// propagation target of that place, and answers the ID of the topmost copy at the place itself. An
+/// unbindable mount is left out, with all mounts that stand on it.
 ///
 /// Refused as [`bind`] is; then nothing has changed.
 pub fn rbind(

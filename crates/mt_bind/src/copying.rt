@@ -16,8 +16,8 @@ use mt_propagate::carry::{insert_all, join_all};
 use mt_propagate::world::{World, state_of};
 use mt_skel::fault::Fault;
 
-/// The number of the copy of a mount, where the copies of these mounts get the numbers from `next` on.
-/// The mount is found by halving the list, so their IDs have to rise.
+/// The number of the copy of a mount, if the copies of these mounts get the numbers from `next` on. The mount is found
+/// by halving the list, so their IDs have to rise.
 fn copy_number(next: MountId, originals: &[Mount], id: MountId) -> MountId
     requires rising { IsTrue (rises id_of originals.now) }
     requires numbers { next + length originals.now < 2 ^ 64 }
@@ -65,7 +65,7 @@ fn copies(world: &World, originals: &[Mount]) -> Result<Vec<Mount>, Fault>
     Ok(copies)
 }
 
-/// The state of a copy of a mount of this state, in a namespace that is less privileged or not.
+/// The state of the copy of a mount with this state, in a namespace that is less privileged or not.
 fn state_of_copy(less: bool, state: State) -> State
     ensures { result ≡ state_of_copy less state }
 {
@@ -95,7 +95,7 @@ fn states(world: &World, originals: &[Mount], less: bool) -> Result<Vec<(MountId
     Ok(states)
 }
 
-/// Makes room for so many more mounts, and changes nothing.
+/// Makes room for this many more mounts, and changes nothing.
 fn make_room(world: &mut World, more: usize) -> Result<(), Fault>
     ensures room { OnOk result ((more ≤ world.new.forest.room) × (more ≤ world.new.peers.room)) }
     ensures memory { IsOkUnless result Fault.NoMemory }
@@ -130,10 +130,10 @@ fn add_space(world: &mut World, mounts: &[Mount], states: &[(MountId, State)]) -
     space
 }
 
-/// Adds a namespace whose mounts are copies of those of another one, each at the corresponding place
-/// with the same root and attributes, and answers its number. The copy of a shared mount is its peer,
-/// the copy of a slave has the same master. With `less` the new namespace is less privileged: there
-/// the copy of a mount in a group is in none, and has that group as its master.
+/// Adds a namespace whose mounts are copies of those of another one, each at the corresponding place with the same root
+/// and attributes, and answers its number. The copy of a shared mount is its peer, and the copy of a slave has the same
+/// master. With `less` the new namespace is less privileged: there the copy of a mount in a group is in no group, and
+/// has that group as its master.
 ///
 /// Refused as `NoNamespace`, as `TooMany` at 64 namespaces or above 4,096 mounts, and as `NoMemory`;
 /// then nothing has changed.

@@ -1,4 +1,4 @@
-//! Namespaces that go.
+//! The end of namespaces.
 ghost use Rattle.std.specs.Prelude.{◌≡◌, ◌≢◌, ◌≤◌, map, length, IfOk, IfErr, OnOk, OnErr, IsOkUnless, Ok, Err};
 ghost use Rattle.mt_mounts.specs.Forest.{id_of};
 ghost use Rattle.mt_peers.specs.Peers.{peering_of};
@@ -14,7 +14,7 @@ use mt_propagate::carry::remove_all;
 use mt_propagate::world::World;
 use mt_skel::fault::Fault;
 
-/// The IDs of the mounts of a namespace, rising. Refused as `NoMemory` alone.
+/// The IDs of the mounts of a namespace, rising.
 fn ids_in(world: &World, space: SpaceId) -> Result<Vec<MountId>, Fault>
     ensures ids { IfOk result (λ ids. ids.items ≡ map id_of (originals (world_view world.now) space)) }
     ensures memory { IsOkUnless result Fault.NoMemory }
@@ -27,8 +27,7 @@ fn ids_in(world: &World, space: SpaceId) -> Result<Vec<MountId>, Fault>
     Ok(ids)
 }
 
-/// Makes room to take this many mounts away and to change the states of all, and changes nothing. Refused as
-/// `NoMemory` alone.
+/// Makes room to take this many mounts away and to change the states of all, and changes nothing.
 fn make_room(world: &mut World, count: usize) -> Result<(), Fault>
     ensures mounts { OnOk result (count ≤ world.new.forest.room) }
     ensures states { OnOk result (length world.new.peers.peers ≤ world.new.peers.room) }

@@ -1,5 +1,5 @@
 //! What is true of new namespaces, of their end, and of the commands that make mounts stand,
-//! whatever does them. The functions do nothing: their contracts are the laws.
+//! however they are carried out. The functions do nothing: their contracts are the laws.
 ghost use Rattle.mt_bind.specs.Laws.{MountKeeps, BindKeeps, MoveKeeps, PivotKeeps, CopyingKeeps, EndingKeeps};
 ghost use Rattle.mt_bind.specs.Laws.{LessIsContained, MountKeepsContained, BindKeepsContained, MoveKeepsContained, PivotKeepsContained, MakingKeepsContained, CopyKeepsContained, EndKeepsContained, MountStaysInside, BindStaysInside, MoveStaysInside, PivotStaysInside, EndStaysInside};
 
@@ -12,10 +12,9 @@ pub fn mounting_keeps_worlds()
     ensures pivoted { PivotKeeps }
 {}
 
-/// When a namespace is copied, a well-formed world stays well-formed: the new namespace has one tree,
-/// and each copy shows the filesystem of the group that it joins or receives from. So it does when
-/// all mounts of a namespace vanish: the other namespaces keep their trees, and slaves of groups that
-/// are gone have masters that live.
+/// When a namespace is copied, a well-formed world stays well-formed: the new namespace has one tree, and each copy
+/// shows the filesystem of the group that it joins or receives from. It also does when all mounts of a namespace
+/// vanish: the other namespaces keep their trees, and slaves of groups that are gone have masters that live.
 pub fn spaces_keep_worlds()
     ensures copied { CopyingKeeps }
     ensures ended { EndingKeeps }

@@ -1,9 +1,8 @@
-//! New namespaces and their end, and what makes mounts stand where none stood: mount, bind, rbind, move
-//! and pivot.
+//! New namespaces and their end, and the commands that put mounts where none stood: mount, bind, rbind, move and pivot.
 //!
-//! [`mounting`], [`binding`] and [`moving`] have the commands that make mounts stand; [`members`] finds which
-//! mounts of a tree a recursive bind copies. [`pivoting`] gives a namespace another root mount. [`spaces`] makes
-//! namespaces, [`copying`] copies them, [`dropping`] ends them. [`laws`] has what all of these keep.
+//! [`mounting`], [`binding`] and [`moving`] have the commands that put mounts in place; [`members`] finds which mounts
+//! of a tree a recursive bind copies. [`pivoting`] gives a namespace another root mount. [`spaces`] makes namespaces,
+//! [`copying`] copies them, [`dropping`] ends them. [`laws`] has what all of these keep.
 #![tactic(auto)]
 
 pub mod binding;

@@ -19,14 +19,13 @@ struct Judgements {
     found: IndexMap<MountId, bool>,
 }
 
-// Written out, so that whoever owns them lets them go as one thing.
 impl Drop for Judgements {
     fn drop(self) {
         let Judgements { found: _found } = self;
     }
 }
 
-/// Whether a mount stands at a directory or below it. True where there is no mount to ask for.
+/// Whether a mount stands at a directory or below it. True if there is no mount to ask about.
 fn leads_within(world: &World, dir: Dir, mount: Option<MountId>) -> bool
     ensures { result ≡ leads_within (world_view world.now) dir mount }
 {
@@ -44,7 +43,7 @@ fn leads_within(world: &World, dir: Dir, mount: Option<MountId>) -> bool
 
 /// Whether a recursive bind of a directory copies a mount: it is the directory's own mount, or it
 /// stands on that one at whatever height, within the directory, and neither it nor a mount between
-/// the two is unbindable. The way up ends at a mount of which this was found before.
+/// the two is unbindable. The way up ends at a mount for which this was found before.
 fn is_bound_along(world: &World, from: Place, judged: &IndexMap<MountId, bool>, id: MountId) -> bool
     requires well_formed { IsWellFormed (world_view world.now) }
     requires judged { IsJudged (world_view world.now) from judged.now }
@@ -71,8 +70,8 @@ fn is_bound_along(world: &World, from: Place, judged: &IndexMap<MountId, bool>, 
     here == from.mount && leads_within(world, from.dir, passed)
 }
 
-/// Keeps what was found of a mount for it and for those that were passed on its way up: none of them is unbindable but the
-/// last, so that it is true of them all.
+/// Keeps what was found of a mount, for it and for those that were passed on its way up: only the last of them can be
+/// unbindable, so that it is true of them all.
 fn keep_passed(
     world: &World,
     from: Place,
@@ -107,7 +106,7 @@ fn keep_passed(
 }
 
 /// Whether a recursive bind of a directory copies a mount. What is found on the way is kept, so that no mount is passed
-/// twice. Refused as `NoMemory` alone.
+/// twice.
 fn judge(
     world: &World,
     from: Place,
@@ -125,8 +124,8 @@ fn judge(
     Ok(bound)
 }
 
-/// The mounts that a recursive bind of a directory copies, by rising ID: those of the directory's own
-/// mount and of all that stand on it are judged, and no others. Refused as `NoMemory` alone.
+/// The mounts that a recursive bind of a directory copies, by rising ID: those of the directory's own mount and of all
+/// that stand on it are judged, and no others.
 pub(crate) fn members_within(world: &World, from: Place) -> Result<Vec<MountId>, Fault>
     requires well_formed { IsWellFormed (world_view world.now) }
     ensures members { IfOk result (λ ids. ids.items ≡ map id_of (filter (λ m. is_bound_along (world_view world.now) from m.id) world.now.forest.mounts)) }

@@ -1,4 +1,4 @@
-//! Mounts of filesystems.
+//! Mounting filesystems.
 ghost use Rattle.std.specs.Prelude.{◌≡◌, ◌≢◌, ◌^◌, ◌<◌, IfOk, IfErr, OnErr, Ok, Err};
 ghost use Rattle.mt_propagate.specs.World.{world_view};
 ghost use Rattle.mt_propagate.specs.WellFormed.{IsWellFormed};
@@ -17,8 +17,8 @@ use mt_skel::name::{Label, Name};
 /// Mounts the filesystem of this name where the path leads in a namespace, and at each propagation
 /// target of that place, and answers the ID of the mount at the place itself.
 ///
-/// Refused as `NoFilesystem`, `NoNamespace`, `NoEntry` where a component is not there, `RootPlace`
-/// where the path is `/`, `TooMany` above 4,096 mounts, and as `NoMemory`; then nothing has changed.
+/// Refused as `NoFilesystem`, `NoNamespace`, `NoEntry` if a component is not there, `RootPlace` if
+/// the path is `/`, `TooMany` above 4,096 mounts, and as `NoMemory`; then nothing has changed.
 pub fn mount(world: &mut World, space: SpaceId, fs: &Label, path: &[Name]) -> Result<MountId, Fault>
     requires well_formed { IsWellFormed (world_view world.old) }
     requires numbers { (world.old.next_mount < 2 ^ 63) × (world.old.peers.next < 2 ^ 63) }

@@ -32,7 +32,7 @@ fn is_below(forest: &Forest, top: MountId, id: MountId) -> bool
     here == top
 }
 
-/// Whether the mount on which a mount stands is in a peer group, or that of a place is.
+/// Whether the mount on which a mount stands is in a peer group, or the mount of a place is.
 fn has_shared(world: &World, id: MountId, place: Place) -> bool
     ensures { result ≡ (option_map_or (λ k. is_some (group_of (world_view world.now) k)) (parent world.now.forest.mounts id) false || is_some (group_of (world_view world.now) place.mount)) }
 {
@@ -60,16 +60,14 @@ fn exchange(world: &mut World, new: MountId, old: MountId, place: Place)
     });
 }
 
-/// Makes the mount that one path names the root mount of its namespace, and moves the old root mount,
-/// with all else that stands on it, to where another path ends. Nothing propagates. Both paths are
-/// looked up before that, and may be the same one: then the old root mount stands on the new one, at
-/// its root.
+/// Makes the mount that one path names the root mount of its namespace, and moves the old root mount, with everything
+/// else that stands on it, to where another path ends. Nothing propagates. Both paths are looked up before that, and
+/// may be the same: then the old root mount stands on the new one, at its root.
 ///
-/// Refused as `NoNamespace`, `NoEntry` where a component of the path is not there, `NotMountRoot`
-/// where it ends below a mount's root, `RootPlace` where it names the root mount, `NoEntry` and
-/// `RootPlace` of the other path, `SharedParent` where the mount stands on one in a peer group or the
-/// place's mount is in one, `IntoItself` where the place's mount is neither that mount nor below it,
-/// and as `NoMemory`; then nothing has changed.
+/// Refused as `NoNamespace`, `NoEntry` if a component of the path is not there, `NotMountRoot` if it ends below a
+/// mount's root, `RootPlace` if it names the root mount, `NoEntry` and `RootPlace` of the other path, `SharedParent` if
+/// the mount stands on one in a peer group or the place's mount is in one, `IntoItself` if the place's mount is neither
+/// that mount nor below it, and as `NoMemory`; then nothing has changed.
 pub fn pivot_root(
     world: &mut World,
     space: SpaceId,

@@ -12,7 +12,7 @@ use mt_propagate::world::{PRIVATE, World};
 use mt_skel::fault::Fault;
 use mt_skel::name::Label;
 
-/// Whether one more namespace with so many mounts is too many.
+/// Whether one more namespace with this many mounts is too many.
 pub(crate) fn too_many(world: &World, more: usize) -> bool
     ensures { result ≡ (too_many_spaces (world_view world.now) || too_many_mounts (world_view world.now) more) }
 {

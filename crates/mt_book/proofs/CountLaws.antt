@@ -20,7 +20,7 @@ unfolding posts_of
 few_posts cs c =
     omega (arith, few_given (λ n. given n (space_number n cs + 1) (after cs) c) 1 ((next_world (after cs) c).next_space - 1), (next_reached (after cs) c (length cs) (reached cs)).spaces)
 
--- and each of the commands behind others no more than there are commands in all
+-- and each of the commands after others no more than there are commands in all
 pub posts_few : (before cs : List Command) (m : ℕ) → length before + length cs ≤ m → length (posts_from before cs) ≤ length cs * m
 posts_few before [] m l = omega arith
 posts_few before (c ∷ cs) m l =

@@ -33,7 +33,7 @@ use Rattle.mt_book.proofs.GrowthLaws.{reached}
 use Rattle.mt_book.proofs.DirectoryLaws.{no_post}
 use Rattle.mt_book.proofs.RiseLaws.{step_rises}
 
--- the posts of commands, and then those of the commands behind them
+-- the posts of commands, and then those of the commands after them
 pub posts_from-append : (before xs ys : List Command) → posts_from before (xs ++ ys) ≡ posts_from before xs ++ posts_from (before ++ xs) ys
 posts_from-append before [] ys = ap (λ l. posts_from l ys) (sym (append-nil before))
 posts_from-append before (x ∷ xs) ys =
@@ -59,7 +59,7 @@ after_from-append : (w : WorldView) (xs ys : List Command) → after_from w (xs 
 after_from-append w [] ys = refl
 after_from-append w (x ∷ xs) ys = after_from-append (next_world w x) xs ys
 
--- commands behind others go on from the world that these have left
+-- commands after others go on from the world that these have left
 pub after-append : (xs ys : List Command) → after (xs ++ ys) ≡ after_from (after xs) ys
 unfolding after
 after-append xs ys = after_from-append empty_world xs ys

@@ -19,7 +19,7 @@ pub record AreWorlds (b : BetweenView) : Type 0 where
   pub old : IsWellFormed b.old
   pub new : IsWellFormed b.new
 
--- these mounts have each of which a row changed in a namespace
+-- among these mounts is each one whose row changed in a namespace
 abbrev pub HoldsAll : BetweenView → List ℕ → ℕ → Type 0
 HoldsAll b ids n = HoldsChanged (table_of b.old n) (table_of b.new n) ids
 
@@ -27,6 +27,6 @@ HoldsAll b ids n = HoldsChanged (table_of b.old n) (table_of b.new n) ids
 abbrev pub numbers_after : BetweenView → List (ℕ × ℕ) → List (ℕ × ℕ)
 numbers_after b rs = counted b.old b.new rs
 
--- its posts, where somebody asks for them
+-- its posts, if somebody asks for them
 abbrev pub heard_posts : BetweenView → List (ℕ × ℕ) → List PostView
 heard_posts b rs = cond b.heard (posts_at_change b.old b.new rs) []

@@ -20,7 +20,7 @@ use Rattle.mt_book.specs.declared.command.Reply.{Reply}
 use Rattle.mt_book.specs.Step.{step, next_world, after}
 use Rattle.mt_book.specs.History.{space_number, posts_of}
 
--- what contracts see of a book: the commands that were accepted, and how many more it can take with no more memory
+-- what contracts see of a book: the commands that were accepted, and how many more it can take without more memory
 pub record BookView : Type 0 where
   pub journal : List Command
   pub room : ℕ
@@ -29,7 +29,7 @@ pub record BookView : Type 0 where
 abbrev pub command_limit : ℕ
 command_limit = 1048576
 
--- the answer alone
+-- only the answer
 abbrev pub reply_of : Result (WorldView × Reply) Fault → Result Reply Fault
 reply_of (Ok p) = Ok p.1
 reply_of (Err f) = Err f
@@ -43,7 +43,7 @@ abbrev pub accepts : WorldView → List Command → Bool
 accepts w [] = true
 accepts w (c ∷ cs) = is_ok (step w c) && accepts (next_world w c) cs
 
--- the number of a namespace, which is one more where its table is not as it was
+-- the number of a namespace, which is one more if its table is not as it was
 abbrev pub next_number : WorldView → WorldView → ℕ → ℕ → ℕ
 next_number w v n k = cond (is_empty (difference (table_of w n) (table_of v n))) k (k + 1)
 
@@ -98,7 +98,7 @@ spaces_of w = filter (is_space w) (range_with_len 1 (w.next_space - 1))
 unfoldable pub space_numbers : List Command → List (ℕ × ℕ)
 space_numbers cs = map (λ n. (n, space_number n cs)) (spaces_of (after cs))
 
--- commands were done one after another, and each answered so, with its posts
+-- commands were done one after another, and each was answered like this, with its posts
 abbrev pub AreAnswered : List Command → List Command → List (Result (Reply × List PostView) Fault) → List Command → Type 0
 AreAnswered cs [] [] end = end ≡ cs
 AreAnswered cs (c ∷ more) (Ok p ∷ answers) end = (answer cs c ≡ Ok p.0) × (p.1 ≡ posts_of cs c) × AreAnswered (cs ++ c ∷ []) more answers end

@@ -43,6 +43,6 @@ abbrev pub is_position : Option ℕ → ℕ → Bool
 is_position None k = false
 is_position (Some at) k = at == k
 
--- the number of a namespace once some have changed; one that had none has none
+-- the number of a namespace once some have changed; one that had none gets none
 abbrev pub merged : List (ℕ × ℕ) → List (ℕ × ℕ) → ℕ → Option (ℕ × ℕ)
 merged rs changed n = option_map (λ r. unwrap_or (row_at space_in n changed) r) (row_at space_in n rs)

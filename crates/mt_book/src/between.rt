@@ -54,8 +54,8 @@ impl<'a> Between<'a> {
         Between { old, new, heard }
     }
 
-    /// The number of a namespace that had this one: one more if its table is not the same in both worlds. No mounts are
-    /// looked at but these, which have all whose rows differ. Refused as `NoMemory` alone.
+    /// The number of a namespace that had this one: one more if its table is not the same in both worlds. Only these
+    /// mounts are looked at, among which are all whose rows differ.
     fn number(&self, ids: &[MountId], space: SpaceId, number: u64) -> Result<u64, Fault>
         requires rising { IsTrue (rises (λ k. k) ids.now) }
         requires held { HoldsAll self.now ids.now space }
@@ -67,7 +67,7 @@ impl<'a> Between<'a> {
         Ok(if changed { number + 1 } else { number })
     }
 
-    /// The number, as [`number`](Between::number) has it, and the post, if there is one. Refused as `NoMemory` alone.
+    /// The number, as [`number`](Between::number) has it, and the post, if there is one.
     fn post(&self, ids: &[MountId], space: SpaceId, number: u64) -> Result<Change, Fault>
         requires rising { IsTrue (rises (λ k. k) ids.now) }
         requires held { HoldsAll self.now ids.now space }
@@ -86,8 +86,8 @@ impl<'a> Between<'a> {
         })
     }
 
-    /// What changes in a namespace that had this number; its post only where somebody asks for it. No mounts are looked
-    /// at but these, which have all whose rows differ there. Refused as `NoMemory` alone.
+    /// What changes in a namespace that had this number; its post only if somebody asks for it. Only these mounts are
+    /// looked at, among which are all whose rows differ there.
     pub(crate) fn change(
         &self,
         ids: &[MountId],

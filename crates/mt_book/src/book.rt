@@ -39,10 +39,10 @@ const MOST_COMMANDS: usize = 1_048_576;
 /// The commands that were accepted, the world that they lead to, and how many posts each namespace that is there has
 /// had.
 ///
-/// A second world is kept beside the one that is shown, never more than one command behind. The next command is
-/// tried on it, and shown by exchanging both, so that no command copies a world, also not a refused one. A copy is
-/// made only for the first two commands, after a `Prepared` was dropped, or where there was no memory for what a command
-/// changed. Both lie in boxes, which go from hand to hand, but for the empty world that is shown before any command.
+/// A second world is kept beside the one that is shown, never more than one command behind. The next command is tried
+/// on it, and shown by exchanging the two, so that no command copies a world, not even a refused one. A copy is made
+/// only for the first two commands, after a `Prepared` was dropped, or where there was no memory for what a command
+/// changed. Both lie in boxes, which are passed on, except for the empty world that is shown before any command.
 pub struct Book {
     shown: Shown,
     spare: Spare,
@@ -65,8 +65,6 @@ impl Model for Book {
     ghost invariant = { λ b. IsBook (world_view (shown_world b.shown)) (since_view (shown_world b.shown)) b.spare b.numbers.items b.journal.items };
 }
 
-// Written out, so that whoever owns a book lets it go as one thing: with the derived one each function that lets a
-// floor or a desk go would be checked over every table of both worlds.
 impl Drop for Book {
     fn drop(self) {
         let Book {
@@ -113,12 +111,12 @@ impl Book {
         self.shown.world()
     }
 
-    /// Does a command beside the world that is shown, and takes all the memory that showing it needs: `commit`
-    /// shows it, and a `Prepared` that is dropped was never done. The book answers as before, whether the command
-    /// is refused or not, and what was prepared before can still be shown: the room for it stays (`room_stays`). Each of
-    /// its posts has in its fields what its type says (`valid`).
+    /// Does a command beside the world that is shown, and takes all the memory that showing it needs: `commit` shows
+    /// it, and a `Prepared` that is dropped was never done. The book answers as before, whether the command is refused
+    /// or not, and what was prepared before can still be shown: the room for it stays (`room_stays`). The fields of
+    /// each of its posts have what its type says (`valid`).
     ///
-    /// Refused as `JournalFull` after 1,048,576 accepted commands, else with the first of the command's own
+    /// Refused as `JournalFull` after 1,048,576 accepted commands, otherwise with the first of the command's own
     /// refusals that holds, and as `NoMemory`.
     pub fn prepare(&mut self, command: &Command) -> Result<Prepared, Fault>
         ensures prepared { IfOk result (λ prepared. IsPrepared self.old.journal prepared) }
@@ -177,9 +175,9 @@ impl Book {
         }
     }
 
-    /// Shows what was prepared, and answers the command's reply and its posts, by rising namespace. Not refused,
-    /// and takes no memory: what is shown was prepared for the commands that the book has now, and there is room
-    /// for one more. What was issued in a less privileged copy stays in it, as `apply` has it (`inside`).
+    /// Shows what was prepared, and answers the command's reply and its posts, by rising namespace. It cannot be
+    /// refused, and takes no memory: what is shown was prepared for the commands that the book has now, and there is
+    /// room for one more. What was issued in a less privileged copy stays in it, as `apply` has it (`inside`).
     pub fn commit(&mut self, prepared: Prepared) -> (Reply, SharedPosts)
         requires prepared { IsPrepared self.old.journal prepared }
         requires room { 0 < self.old.room }
@@ -202,13 +200,13 @@ impl Book {
         (reply, posts)
     }
 
-    /// Does a command, and answers its reply and its posts, by rising namespace: one for each namespace whose
-    /// table it changed, and each has in its fields what its type says (`valid`).
+    /// Does a command, and answers its reply and its posts, by rising namespace: one for each namespace whose table it
+    /// changed, each with fields that have what its type says (`valid`).
     ///
-    /// Refused as `JournalFull` after 1,048,576 accepted commands, else with the first of the command's own
+    /// Refused as `JournalFull` after 1,048,576 accepted commands, otherwise with the first of the command's own
     /// refusals that holds, and as `NoMemory`; then nothing has changed.
     ///
-    /// Where it is issued in a namespace that was made by `copyns` with `less` and that no later command has copied, it
+    /// If it is issued in a namespace that was made by `copyns` with `less` and that no later command has copied, it
     /// leaves the table and the number of every other namespace as they were (`inside`).
     pub fn apply(&mut self, command: &Command) -> Result<(Reply, SharedPosts), Fault>
         ensures done { IfOk result (λ done. answer self.old.journal command.now ≡ Ok done.0) }
@@ -223,7 +221,7 @@ impl Book {
         Ok(self.commit(prepared))
     }
 
-    /// The table of a namespace. Refused as `NoNamespace` where there is no such namespace, and as `NoMemory`.
+    /// The table of a namespace. Refused as `NoNamespace` if there is no such namespace, and as `NoMemory`.
     pub fn table(&self, space: SpaceId) -> Result<Table, Fault>
         ensures done { IfOk result (λ table. (is_space (after self.now.journal) space ≡ true) × (table ≡ table_of (after self.now.journal) space)) }
         ensures refused { IfErr result (λ fault. fault ≢ Fault.NoMemory → (fault ≡ Fault.NoNamespace) × (is_space (after self.now.journal) space ≡ false)) }
@@ -231,7 +229,7 @@ impl Book {
         table_of(self.world(), space)
     }
 
-    /// How many rows the table of a namespace has; none where there is no such namespace. Takes no memory.
+    /// How many rows the table of a namespace has; 0 if there is no such namespace. Takes no memory.
     pub fn row_count(&self, space: SpaceId) -> usize
         ensures { result ≡ length (table_of (after self.now.journal) space) }
     {
@@ -239,7 +237,7 @@ impl Book {
     }
 
     /// Appends the lines of the table of a namespace, each with its line end. Refused as `NoNamespace` exactly where
-    /// there is no such namespace, and else as `NoMemory` alone; what stood in the text stays in front then too.
+    /// there is no such namespace, and otherwise only as `NoMemory`; what stood in the text stays in it even then.
     pub fn push_table(&self, text: &mut Vec<u8>, space: SpaceId) -> Result<(), Fault>
         ensures done { OnOk result ((is_space (after self.now.journal) space ≡ true) × (text.new.items ≡ text.old.items ++ flat_map whole_line (table_of (after self.now.journal) space))) }
         ensures absent { is_space (after self.now.journal) space ≡ false → result ≡ Err Fault.NoNamespace }
@@ -262,7 +260,7 @@ impl Book {
         number_of(&self.numbers, space).ok_or(Fault::NoNamespace)
     }
 
-    /// The namespaces, by rising number. Refused as `NoMemory` alone.
+    /// The namespaces, by rising number.
     pub fn spaces(&self) -> Result<Vec<SpaceId>, Fault>
         ensures spaces { IfOk result (λ spaces. spaces.items ≡ spaces_of (after self.now.journal)) }
         ensures memory { IsOkUnless result Fault.NoMemory }
@@ -272,7 +270,7 @@ impl Book {
     }
 
     /// Where the walk along a path ends in a namespace: the mount, and the names from its
-    /// filesystem's root down to the directory. Refused as `NoNamespace`, as `NoEntry` where a
+    /// filesystem's root down to the directory. Refused as `NoNamespace`, as `NoEntry` if a
     /// component is not there, and as `NoMemory`.
     pub fn find(&self, space: SpaceId, path: &[Name]) -> Result<(MountId, Vec<Name>), Fault>
         ensures done { IfOk result (λ found. found_at (after self.now.journal) space path.now ≡ Ok (found.0, found.1.items)) }
@@ -281,8 +279,8 @@ impl Book {
         found_in(self.world(), space, path)
     }
 
-    /// Does commands one after another, and answers each as `apply` does, also those that it refuses. Refused as
-    /// `NoMemory` alone, where there is no room for the answers, and then nothing has changed.
+    /// Does commands one after another, and answers each as `apply` does, including those that it refuses. The call
+    /// itself is refused only where there is no room for the answers.
     ///
     /// Each command of the journal that was issued in a namespace made by `copyns` with `less`, which no command had
     /// copied since, has left the table and the number of every other namespace as they were (`inside`).
@@ -316,7 +314,7 @@ fn number_of(numbers: &[(SpaceId, u64)], space: SpaceId) -> Option<u64>
     None
 }
 
-/// The namespaces of which these are the numbers. Refused as `NoMemory` alone.
+/// The namespaces of which these are the numbers.
 fn spaces_in(alloc: Global, numbers: &[(SpaceId, u64)]) -> Result<Vec<SpaceId>, Fault>
     ensures spaces { IfOk result (λ spaces. spaces.items ≡ map space_in numbers.now) }
     ensures memory { IsOkUnless result Fault.NoMemory }

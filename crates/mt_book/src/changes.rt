@@ -33,7 +33,7 @@ pub(crate) struct Changes {
     pub(crate) posts: SharedPosts,
 }
 
-/// Appends a post, if there is one. Refused as `NoMemory` alone.
+/// Appends a post, if there is one.
 fn push_post(alloc: Global, posts: &mut Vec<Arc<Post>>, post: Option<Post>) -> Result<(), Fault>
     ensures posts { OnOk result (map (λ p. arc_value p) posts.new.items ≡ map (λ p. arc_value p) posts.old.items ++ option_to_list post) }
     ensures memory { IsOkUnless result Fault.NoMemory }
@@ -46,7 +46,7 @@ fn push_post(alloc: Global, posts: &mut Vec<Arc<Post>>, post: Option<Post>) -> R
     Ok(())
 }
 
-/// What changes in one namespace that had this number. Refused as `NoMemory` alone.
+/// What changes in one namespace that had this number.
 fn changes_in_one(
     alloc: Global,
     between: &Between<'_>,
@@ -71,8 +71,7 @@ fn changes_in_one(
     })
 }
 
-/// What changes in namespaces that had these numbers: in each, the mounts that were or are in it are compared. Refused
-/// as `NoMemory` alone.
+/// What changes in namespaces that had these numbers: in each, the mounts that were or are in it are compared.
 fn changes_in_each(
     alloc: Global,
     between: &Between<'_>,
@@ -102,8 +101,8 @@ fn changes_in_each(
     })
 }
 
-/// What changes in namespaces that had these numbers. Where there is one, as for most commands, the mounts are not told
-/// apart. Refused as `NoMemory` alone.
+/// What changes in namespaces that had these numbers. If there is only one, as for most commands, the mounts are not
+/// told apart.
 fn changes_in(
     alloc: Global,
     between: &Between<'_>,
@@ -123,8 +122,8 @@ fn changes_in(
     changes_in_each(alloc, between, ids, numbers)
 }
 
-/// Renews the numbers where all these mounts are in no other namespace than this one, before or after, and answers the
-/// posts: no other number changes. Refused as `NoMemory` alone.
+/// Renews the numbers if all these mounts are in no other namespace than this one, before or after, and answers the
+/// posts: no other number changes.
 fn renew_lone(
     alloc: Global,
     between: &Between<'_>,
@@ -154,7 +153,7 @@ fn renew_lone(
 }
 
 /// Renews the numbers of the namespaces in which one of these mounts was, or is, and answers the posts: no other
-/// namespace is looked at. Refused as `NoMemory` alone.
+/// namespace is looked at.
 fn renew_touched(
     alloc: Global,
     between: &Between<'_>,
@@ -175,9 +174,9 @@ fn renew_touched(
     Ok(changes.posts)
 }
 
-/// Renews the numbers between two worlds with the same directories, where `touched` has each mount that changed, and
-/// answers the posts. Most commands touch one namespace and move no mount: then no other row may differ, and none is
-/// listed. Refused as `NoMemory` alone.
+/// Renews the numbers between two worlds with the same directories, given in `touched` each mount that changed, and
+/// answers the posts. Most commands touch one namespace and move no mount: then no other row can differ, and none is
+/// listed.
 fn renew(
     alloc: Global,
     between: &Between<'_>,
@@ -203,7 +202,7 @@ fn renew(
 }
 
 /// Renews the numbers after a command, and answers its posts. One that makes directories changes no table, and so none
-/// is looked at. Refused as `NoMemory` alone.
+/// is looked at.
 fn renew_after(
     alloc: Global,
     between: &Between<'_>,
@@ -229,8 +228,8 @@ fn renew_after(
 }
 
 /// What a command that is accepted changes for namespaces that had these numbers: those that are there. One that it
-/// makes had number 0, and one that it drops has none any more; only then is it asked which are there. `touched` has each
-/// mount that it changed, by rising ID. Refused as `NoMemory` alone.
+/// makes had number 0, and one that it drops no longer has one; only then is it checked which are there. `touched` has
+/// each mount that it changed, by rising ID.
 pub(crate) fn changes_after(
     alloc: Global,
     between: &Between<'_>,

@@ -35,7 +35,7 @@ fn rests_in(old: &World, new: &World, space: SpaceId, id: MountId) -> bool
     is_only_in(space, before) && is_only_in(space, after) && !is_elsewhere(before, after)
 }
 
-/// The namespace of a mount, where it is there after a command, and else where it was before.
+/// The namespace of a mount after a command, or before it if the mount is gone.
 fn space_after(old: &World, new: &World, id: MountId) -> SpaceId {
     match new.forest.get(id) {
         Some(mount) => mount.space,
@@ -43,7 +43,7 @@ fn space_after(old: &World, new: &World, id: MountId) -> SpaceId {
     }
 }
 
-/// The namespace that all these mounts were in, and are in, where there is only one. Takes no memory.
+/// The namespace that all these mounts were in and are in, if there is only one. Takes no memory.
 pub(crate) fn lone_space(old: &World, new: &World, ids: &[MountId]) -> Option<SpaceId>
     ensures { IfSome result (λ space. IsTrue (list_all (stays_in (world_view old.now) (world_view new.now) space) ids.now)) }
 {
@@ -56,7 +56,7 @@ pub(crate) fn lone_space(old: &World, new: &World, ids: &[MountId]) -> Option<Sp
     Some(space)
 }
 
-/// The same, where none of these mounts moved.
+/// The same, if none of these mounts moved.
 pub(crate) fn resting_space(old: &World, new: &World, ids: &[MountId]) -> Option<SpaceId>
     ensures { IfSome result (λ space. IsTrue (list_all (rests_in (world_view old.now) (world_view new.now) space) ids.now)) }
 {

@@ -13,8 +13,7 @@ use mt_propagate::world::World;
 use mt_skel::fault::Fault;
 use std::alloc::Global;
 
-/// The numbers of namespaces before a command, with that of one that it makes, if it makes one: 0. Refused as `NoMemory`
-/// alone.
+/// The numbers of namespaces before a command, with that of one that it makes, if it makes one: 0.
 pub(crate) fn numbers_before(
     alloc: Global,
     numbers: &[(SpaceId, u64)],
@@ -31,7 +30,7 @@ pub(crate) fn numbers_before(
     Ok(before)
 }
 
-/// The numbers of those namespaces that are there. Refused as `NoMemory` alone.
+/// The numbers of those namespaces that are there.
 pub(crate) fn still_there(
     alloc: Global,
     world: &World,
@@ -49,7 +48,7 @@ pub(crate) fn still_there(
     Ok(there)
 }
 
-/// Appends the number of a namespace, if it has one. Refused as `NoMemory` alone.
+/// Appends the number of a namespace, if it has one.
 fn push_number(
     some: &mut Vec<(SpaceId, u64)>,
     numbers: &[(SpaceId, u64)],
@@ -66,7 +65,7 @@ fn push_number(
     Ok(())
 }
 
-/// The numbers of these namespaces, of those that have one. Refused as `NoMemory` alone.
+/// The numbers of those of these namespaces that have one.
 pub(crate) fn numbers_in(
     alloc: Global,
     numbers: &[(SpaceId, u64)],
@@ -84,7 +83,7 @@ pub(crate) fn numbers_in(
     Ok(some)
 }
 
-/// Puts the new number of a namespace in the place of its number, if it has one.
+/// Replaces the number of a namespace by its new one, if it has one.
 pub(crate) fn put_number(all: &mut Vec<(SpaceId, u64)>, row: (SpaceId, u64))
     requires rising { IsTrue (rises space_in all.old.items) }
     ensures rising { IsTrue (rises space_in all.new.items) }
@@ -96,7 +95,7 @@ pub(crate) fn put_number(all: &mut Vec<(SpaceId, u64)>, row: (SpaceId, u64))
     all[at] = row;
 }
 
-/// Puts new numbers of namespaces in the places of their numbers. One that had none has none.
+/// Replaces the numbers of namespaces by new ones. One that had none gets none.
 pub(crate) fn put_numbers(all: &mut Vec<(SpaceId, u64)>, changed: &[(SpaceId, u64)])
     requires rising { IsTrue (rises space_in all.old.items) }
     requires changed { IsTrue (rises space_in changed.now) }

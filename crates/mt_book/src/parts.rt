@@ -38,7 +38,7 @@ impl Part {
         }
     }
 
-    /// Appends a mount. Refused as `NoMemory` alone.
+    /// Appends a mount.
     fn push(&mut self, id: MountId) -> Result<(), Fault>
         ensures pushed { OnOk result (self.new ≡ self.old ++ id ∷ []) }
         ensures memory { IsOkUnless result Fault.NoMemory }
@@ -55,7 +55,7 @@ impl Part {
     }
 }
 
-/// Where a namespace stands among some by rising number, if it does.
+/// Where a namespace stands among some by rising number, if it is there.
 pub(crate) fn place_among(numbers: &[(SpaceId, u64)], space: SpaceId) -> Option<usize>
     requires rising { IsTrue (rises space_in numbers.now) }
     ensures within { IfSome result (λ at. at < length numbers.now) }
@@ -69,7 +69,7 @@ pub(crate) fn place_among(numbers: &[(SpaceId, u64)], space: SpaceId) -> Option<
 }
 
 /// Appends a mount to the part of a namespace, if there is one: each part is of the namespace that stands there among
-/// these. Refused as `NoMemory` alone.
+/// these.
 fn push_to(
     parts: &mut Vec<Part>,
     numbers: &[(SpaceId, u64)],
@@ -89,8 +89,8 @@ fn push_to(
     Ok(())
 }
 
-/// Appends a mount to the part of the namespace that it is in, and to those of both where it is in another one in the
-/// second world. Refused as `NoMemory` alone.
+/// Appends a mount to the part of the namespace that it is in, and to the parts of both if it is in another one in the
+/// second world.
 fn push_mount(
     parts: &mut Vec<Part>,
     numbers: &[(SpaceId, u64)],
@@ -113,7 +113,7 @@ fn push_mount(
     push_to(parts, numbers, after, id)
 }
 
-/// So many parts without mounts. Refused as `NoMemory` alone.
+/// This many parts without mounts.
 fn empty_parts(alloc: Global, count: usize) -> Result<Vec<Part>, Fault>
     ensures len { IfOk result (λ parts. length parts.items ≡ count) }
     ensures parts { IfOk result (λ parts. (k : ℕ) → part_at parts.items k ≡ []) }
@@ -127,7 +127,7 @@ fn empty_parts(alloc: Global, count: usize) -> Result<Vec<Part>, Fault>
 }
 
 /// Mounts by these namespaces, each in its order, with every mount in the parts of those that it is in, in one world or
-/// in the other. Refused as `NoMemory` alone.
+/// in the other.
 pub(crate) fn parts_of(
     alloc: Global,
     old: &World,
@@ -147,7 +147,7 @@ pub(crate) fn parts_of(
     Ok(parts)
 }
 
-/// The namespaces that one of these mounts was in, or is in, rising. Refused as `NoMemory` alone.
+/// The namespaces that one of these mounts was in, or is in, rising.
 pub(crate) fn spaces_touched(
     alloc: Global,
     old: &World,

@@ -1,9 +1,9 @@
 -- What calls leave of the streams, one behind another.
-use Rattle.std.proofs.Common.{◌≡◌, ◌≢◌, ℕ, List, [], ◌∷◌, ◌++◌, ◌+◌, ◌≤◌, length, length-append, refl, sym, ap, subst, ◌∙◌, arith, append_assoc, IsTrue, Bool, MatchBool, Result, Ok, Err, IfOk, IfErr, IsErrAnd, Option, None, ◌⊎◌, inl, inr, true, false}
+use Rattle.std.proofs.Common.{◌≡◌, ◌≢◌, ℕ, List, [], ◌∷◌, ◌++◌, ◌+◌, ◌≤◌, suc, take, length, length-append, refl, sym, ap, subst, ◌∙◌, arith, append_assoc, IsTrue, Bool, MatchBool, Result, Ok, Err, IfOk, IfErr, IsErrAnd, None, ◌⊎◌, inl, inr, true, false}
 use Rattle.std.proofs.lemmas.List.{append-nil}
+use Rattle.std.specs.List.{flat_map}
 use Rattle.std.proofs.KnownBytes.{Appends-nil, Appends-trans, Keeps-refl}
 use Rattle.std.specs.Io.KnownBytes.{Appends, Keeps}
-use Rattle.mt_lines.specs.Lines.{Item}
 use Rattle.std.proofs.lemmas.Result.{err_from_is_err_and}
 use Rattle.mt_lines.specs.Reading.{fault_of, failed_calls, last_faults, last_line, limit_of, known_left, IsNextKnown, IsFaultCause, IsFaultRun}
 use Rattle.mt_lines.specs.declared.line.Line.TheVariants.{Text as TextLine}
@@ -14,11 +14,11 @@ use Rattle.mt_lines.specs.declared.stream.Output.{Ghosts as OutputGhosts}
 use Rattle.mt_events.specs.Posts.{ended}
 use Rattle.mt_client.specs.declared.fault.ClientFault.{ClientFault}
 use Rattle.mt_client.specs.declared.fault.ClientFault.TheVariants.{Connection, Output, NoMemory}
-use Rattle.mt_client.specs.Reading.{known_lines, printed, ComeFirst, prepend_lines, Passed, HasRead, HasPassed, IsBroken, IsCutOff, HasBroken, NoneFirst, AreSoMany, IsCut, reading_fault}
+use Rattle.mt_client.specs.Reading.{known_lines, printed, AreSent, ComeFirst, prepend_lines, Passed, HasRead, HasPassed, IsBroken, IsCutOff, HasBroken, NoneFirst, AreSoMany, IsCut, reading_fault}
 use Rattle.mt_client.specs.Mirroring.{HasRefused}
 use Rattle.mt_client.specs.Missing.{IsMissing}
-use Rattle.mt_client.specs.Calls.{ReadsOn, WritesOn, AreRead, IsOut, IsOutInPart, Breaks, IsFault, IsReadFault, IsPassFault, IsEffectFault, PassesOn, PassesRefusal, IsAskFault}
-use Rattle.mt_client.proofs.RelayLaws.{printed-append, come_none, come_text, come_both, come_from, come_prepended, none_from, broken_later, broken_more, broken_from, cut_by_fault, never_output, unprinted}
+use Rattle.mt_client.specs.Calls.{ReadsOn, WritesOn, AreRead, IsOut, IsOutOrBroken, AreOutOrBroken, IsOutInPart, Breaks, IsFault, IsReadFault, IsPassFault, IsEffectFault, PassesOn, PassesRefusal, IsAskFault}
+use Rattle.mt_client.proofs.RelayLaws.{printed-append, come_none, come_text, come_both, come_prepended, broken_later, broken_more, broken_from, cut_by_fault, never_output, unprinted}
 use Rattle.mt_client.specs.Awaited.{IsOneRefusal}
 
 pub connection≢output : Connection ≢ Output
@@ -282,3 +282,28 @@ pub writes_told : {W : Type 0} {w : OutputGhosts W} {text more : List ℕ} {k l 
 writes_told (Err f) o sent unsent = tt
 writes_told (Ok true) o sent unsent = λ v e. inl ((sent refl).on.serves v (o.on.serves v e))
 writes_told (Ok false) o sent unsent = λ v e. either (λ s. s (o.on.serves v e)) (λ b. (refl, broken_later (o.on.counted v) (o.on.serves v) b)) (unsent refl v)
+
+-- the first of some requests went out, and behind it more of them
+first_sent : {W : Type 0} {w : OutputGhosts W} (request : List ℕ) (more : List (List ℕ)) {k l : W} → IsOut w (ended request) k l → AreSent (request ∷ more) (w.contents k) (w.contents l)
+first_sent {W} {w} request more {k} {l} o = record { count = 1; some = omega arith; within = omega arith; out = subst (λ x. Appends (w.contents k) (w.contents l) x) (sym (append-nil (ended request))) o.went }
+
+more_sent : {W : Type 0} {w : OutputGhosts W} (request : List ℕ) (more : List (List ℕ)) {k l m : W} → IsOut w (ended request) k l → AreSent more (w.contents l) (w.contents m) → AreSent (request ∷ more) (w.contents k) (w.contents m)
+more_sent {W} {w} request more {k} {l} {m} o s = record {
+  count = suc s.count;
+  some = omega arith;
+  within = let n = s.within in omega (arith, n);
+  out = Appends-trans (w.contents k) (w.contents l) (w.contents m) (ended request) (flat_map ended (take s.count more)) o.went s.out;
+}
+
+pub first_asked : {W : Type 0} {w : OutputGhosts W} (request : List ℕ) (more : List (List ℕ)) {k l : W} → IsOut w (ended request) k l ⊎ Breaks w k l → AreOutOrBroken w (request ∷ more) k l
+first_asked request more (inl o) = inl (first_sent request more o)
+first_asked request more (inr broken) = inr broken
+
+pub more_asked : {W : Type 0} {w : OutputGhosts W} (request : List ℕ) (more : List (List ℕ)) {k l m : W} → IsOut w (ended request) k l → AreOutOrBroken w more l m → AreOutOrBroken w (request ∷ more) k m
+more_asked request more o (inl s) = inl (more_sent request more o s)
+more_asked request more o (inr broken) = inr (breaks_later o.on broken)
+
+-- one request that went out, or calls failed
+pub asked_alone : {W : Type 0} (w : OutputGhosts W) (request : List ℕ) {k l : W} → IsOutOrBroken w (ended request) k l → AreOutOrBroken w (request ∷ []) k l
+asked_alone w request {k} {l} (inl out) = inl (record { count = 1; some = omega arith; within = omega arith; out = subst (λ x. Appends (w.contents k) (w.contents l) x) (sym (append-nil (ended request))) out })
+asked_alone w request (inr broken) = inr broken

@@ -1,7 +1,7 @@
 -- Rows, namespaces and posts that were passed on, also up to the line that ends them, what cannot come first where one
 -- is refused, and a refusal in the place of an answer.
-use Rattle.std.proofs.Common.{◌≡◌, ◌≢◌, ℕ, ◌+◌, ◌<◌, ◌≤◌, ◌^◌, Bool, List, [], ◌∷◌, ◌++◌, length, refl, sym, ap, subst, ◌∙◌, arith, append-nil, length-append, Option, Some, None, true, false, codes, if◌then◌else◌, ◌⊎◌, IsTrue, Result, Ok, Err, OnOk, OnErr}
-use Rattle.std.proofs.lemmas.List.{map-append, length-map}
+use Rattle.std.proofs.Common.{◌≡◌, ◌≢◌, ℕ, ◌+◌, ◌<◌, ◌≤◌, ◌^◌, Bool, List, [], ◌∷◌, ◌++◌, length, refl, sym, ap, subst, ◌∙◌, arith, append-nil, length-append, Option, Some, None, true, false, codes, if◌then◌else◌, ◌⊎◌, Result, Ok, Err, OnOk, OnErr}
+use Rattle.std.proofs.lemmas.List.{length-map}
 use Rattle.std.proofs.lemmas.Grind.{flat_map-append}
 use Rattle.std.specs.List.{flat_map, join_with_byte, AllByRecursion}
 use Rattle.std.proofs.lemmas.Option.{same_Some}
@@ -9,9 +9,8 @@ use Rattle.mt_lines.specs.Words.{words}
 use Rattle.std.specs.Io.KnownBytes.{Appends}
 use Rattle.mt_lines.specs.Lines.{Item}
 use Rattle.mt_skel.proofs.MiddleLaws.{each_last}
-use Rattle.mt_info.specs.Laws.{IsRow}
 use Rattle.mt_info.specs.RowLine.{line}
-use Rattle.mt_events.specs.Posts.{PostView, IsPost, post_text, ended}
+use Rattle.mt_events.specs.Posts.{PostView, post_text, ended}
 use Rattle.mt_protocol.specs.declared.form.Form.{Form}
 use Rattle.mt_client.specs.declared.block.Block.{Block}
 use Rattle.mt_client.specs.declared.block.Block.TheVariants.{Namespace, Post}
@@ -19,7 +18,7 @@ use Rattle.mt_client.specs.declared.opening.Heading.{Heading}
 use Rattle.mt_client.specs.Limits.{most_rows}
 use Rattle.mt_client.specs.Requests.{verdict, lines_behind, event_count, refuses, is_refusal}
 use Rattle.mt_client.specs.Reading.{texts, printed, ComeFirst, prepend_lines, HasRead, NoneFirst, AreSoMany, HasPassed, IsSentPart}
-use Rattle.mt_client.specs.Mirroring.{heading_words, HasRefused}
+use Rattle.mt_client.specs.Mirroring.{IsSentPost, heading_words, HasRefused}
 use Rattle.mt_client.specs.Awaited.{AreRowLines, IsPostBehind}
 use Rattle.mt_client.specs.Replies.{IsPartLines, IsPostLines, IsBlock, IsBlockOf, AreBlocks, AreBlockLines, AreBehind, IsHeaded, most_posts, IsEnding, IsFollowAnswer, IsAnswer}
 use Rattle.mt_client.proofs.FollowLaws.{post_counted, printed_post, HasReadMore}
@@ -70,7 +69,7 @@ part_needs_rows h seen middle is small none lines later k e =
     none k.rows later (subst (λ n. AreRowLines n k.rows) w.2 k.valid) t.1
 
 -- posts
-pub post_made : (n : ℕ) (seen : List ℕ) (others : List (List ℕ)) (text begun : List ℕ) → Some n ≡ event_count (words seen) → length others ≡ n → begun ≡ [] ++ ended seen → text ≡ begun ++ printed others → ((post : PostView) × IsPost post × (text ≡ post_text post))
+pub post_made : (n : ℕ) (seen : List ℕ) (others : List (List ℕ)) (text begun : List ℕ) → Some n ≡ event_count (words seen) → length others ≡ n → begun ≡ [] ++ ended seen → text ≡ begun ++ printed others → ((post : PostView) × IsSentPost post × (text ≡ post_text post))
     → IsBlockOf Post n (seen ∷ others) × (text ≡ printed (seen ∷ others))
 post_made n seen others text begun counts many began is post =
     let whole : text ≡ printed (seen ∷ others) = is ∙ ap (λ x. x ++ printed others) began in (
@@ -95,7 +94,7 @@ post_needs_lines n seen middle counts none lines later k e = none k.others later
 
 -- nor where the text of these lines is that of no post
 pub post_needs_text : (n : ℕ) (seen : List ℕ) (middle after : Option (List Item)) (text begun : List ℕ) → Some n ≡ event_count (words seen) → begun ≡ [] ++ ended seen
-    → HasReadMore n middle after begun text → ((post : PostView) → IsPost post → text ≢ post_text post) → NoneFirst IsPostLines (prepend_lines (seen ∷ []) middle)
+    → HasReadMore n middle after begun text → ((post : PostView) → IsSentPost post → text ≢ post_text post) → NoneFirst IsPostLines (prepend_lines (seen ∷ []) middle)
 post_needs_text n seen middle after text begun counts began read none lines later k e =
     let t = first_taken later (come_prepended (seen ∷ []) middle) k.all e in
     let a = lines_alike read.0 k.others later (read.1 ∙ sym (post_many n seen middle later lines counts k e)) read.2 t.1 in
@@ -285,14 +284,14 @@ words_tell (a ∷ []) e = cc
 words_tell (a ∷ b ∷ []) e = let same = λ (is : bytes_eq a (codes "no") ≡ true). (bytes_eq-Decides a (codes "no")).0 is in grind (arith, same, e)
 words_tell (a ∷ b ∷ d ∷ rest) e = cc
 
-refusal_tells : (line : List ℕ) → is_refusal line ≡ true → verdict line ≡ Some false
+pub refusal_tells : (line : List ℕ) → is_refusal line ≡ true → verdict line ≡ Some false
 refusal_tells line e = words_tell (words line) e
 
 -- a refusal is a whole answer to each request
 headed_refusal : (form : Form) (line : List ℕ) → AreBehind form 0 [] → is_refusal line ≡ true → IsHeaded form (line ∷ []) false
 headed_refusal form line behind e = record { first = line; others = []; count = 0; all = refl; tells = refusal_tells line e; counted = rw e refl; behind = behind }
 
-refusal_answers : (form : Form) (line : List ℕ) → is_refusal line ≡ true → IsAnswer form (line ∷ []) false
+pub refusal_answers : (form : Form) (line : List ℕ) → is_refusal line ≡ true → IsAnswer form (line ∷ []) false
 refusal_answers Done line e = headed_refusal Done line (refl, refl) e
 refusal_answers Number line e = headed_refusal Number line (refl, refl) e
 refusal_answers Place line e = headed_refusal Place line (refl, refl) e

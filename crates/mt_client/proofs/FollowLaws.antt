@@ -1,5 +1,5 @@
 -- What a mirror has read of posts, the texts that the lines are, and what cannot come first where a post is refused.
-use Rattle.std.proofs.Common.{◌≡◌, ℕ, ◌+◌, IfOk, Result, Ok, Err, Bool, true, false, List, [], ◌∷◌, ◌++◌, map, length, refl, sym, ap, subst, ◌∙◌, arith, length-append, codes, decimal, Option, Some, inl, inr}
+use Rattle.std.proofs.Common.{◌≡◌, ℕ, ◌+◌, ◌≤◌, IfOk, Result, Ok, Err, Bool, true, false, List, [], ◌∷◌, ◌++◌, map, length, refl, sym, ap, subst, ◌∙◌, arith, length-append, codes, decimal, Option, Some, inl, inr}
 use Rattle.std.proofs.lemmas.List.{append-nil, length-map}
 use Rattle.std.proofs.lemmas.Grind.{flat_map-append, fold-append}
 use Rattle.std.specs.List.{join_with_byte}
@@ -7,16 +7,18 @@ use Rattle.mt_lines.specs.Words.{words}
 use Rattle.mt_lines.proofs.PieceLaws.{pieces_joined}
 use Rattle.mt_lines.specs.Lines.{Item}
 use Rattle.mt_skel.proofs.MiddleLaws.{and-true, each_last}
-use Rattle.mt_events.specs.Posts.{PostView, IsPost, post_text, ended, event_words, gone_line, row_line, post_lines}
-use Rattle.mt_events.specs.Mirrors.{MirrorView, is_next, are_next, mirrored}
+use Rattle.mt_events.specs.Posts.{PostView, post_text, ended, event_words, gone_line, row_line, post_lines}
+use Rattle.mt_events.specs.Mirrors.{MirrorView, mirrored}
 use Rattle.mt_events.specs.Texts.{count_text}
 use Rattle.mt_client.specs.Reading.{texts, printed, ComeFirst, NoneFirst}
-use Rattle.mt_client.specs.Mirroring.{counted_line, opening_lines, HasOpened, IsPosted, HasFollowed, HasFollowedSome, HasFollowedAll, HasMirrored}
+use Rattle.mt_client.specs.Mirroring.{IsSentPost, may_come, may_all_come, counted_line, opening_lines, HasOpened, IsPosted, HasFollowed, HasFollowedSome, HasFollowedAll, HasMirrored}
 use Rattle.mt_client.proofs.OpeningLaws.{first_taken, unrefused_or, opening_is, opened_alike}
 use Rattle.mt_client.proofs.SeriesLaws.{IsSeries, following, are_both, up_to}
 use Rattle.mt_client.proofs.RelayLaws.{texts_split, printed-append, come_none, come_both, lines_alike}
 use Rattle.std.proofs.lemmas.Bool.{false≢true}
+use Rattle.std.proofs.lemmas.Bool.Decides.{nat_tests}
 use Rattle.std.proofs.lemmas.Option.{same_Some}
+use Rattle.mt_client.specs.Limits.{most_post_lines, at_most}
 use Rattle.mt_lines.proofs.NumberLaws.{number_decimal}
 use Rattle.mt_events.proofs.PostLaws.{text_tells, event_lacks}
 use Rattle.mt_client.specs.Awaited.{IsOneRefusal, IsRefusedOr, IsOpening, IsSuchPost, IsPostBehind, IsOnlyPost, IsOnlyApplied, IsFollowing, IsMirroring}
@@ -32,14 +34,14 @@ followed_more n before middle after old between new f h =
     record {
       lines = f.lines ++ h.lines;
       posts = f.posts ++ h.post ∷ [];
-      valid = each_last IsPost f.posts h.post f.valid h.valid;
+      valid = each_last IsSentPost f.posts h.post f.valid h.valid;
       read = come_both f.read h.read;
       text =
           printed-append f.lines h.lines ∙ (λ k. f.text k ++ (h.text ∙ sym (append-nil (post_text h.post))) k)
           ∙ sym (flat_map-append post_text f.posts (h.post ∷ []));
       many = let m = f.many in omega (arith, l, m);
       follows = record {
-        are = are_both following f.posts (h.post ∷ []) old f.follows.are (subst (λ m. are_next m (h.post ∷ []) ≡ true) f.follows.make h.follows.are);
+        are = are_both following f.posts (h.post ∷ []) old f.follows.are (subst (λ m. may_all_come m (h.post ∷ []) ≡ true) f.follows.make h.follows.are);
         make = h.follows.make ∙ ap (λ m. mirrored m h.post) f.follows.make ∙ sym (fold-append mirrored old f.posts (h.post ∷ []));
       };
     }
@@ -72,14 +74,14 @@ mirrored_whole space count before middle after found made o f = record {
 }
 
 -- a post behind its first line
-pub followed_by_post : (first : List ℕ) (post : PostView) (before middle after : Option (List Item)) (old new : MirrorView) → ComeFirst before (first ∷ []) middle → IsPosted first middle after post → IsPost post → (is_next old post ≡ true) × (new ≡ mirrored old post) → HasFollowed before after old new
+pub followed_by_post : (first : List ℕ) (post : PostView) (before middle after : Option (List Item)) (old new : MirrorView) → ComeFirst before (first ∷ []) middle → IsPosted first middle after post → IsSentPost post → (may_come old post ≡ true) × (new ≡ mirrored old post) → HasFollowed before after old new
 followed_by_post first post before middle after old new e p valid applied = record {
   lines = first ∷ p.others;
   post = post;
   valid = valid;
   read = come_both e p.read;
   text = p.text;
-  follows = record { are = and-true (is_next old post) true applied.0 refl; make = applied.1 };
+  follows = record { are = and-true (may_come old post) true applied.0 refl; make = applied.1 };
 }
 
 -- the line behind so many posts
@@ -87,14 +89,17 @@ pub ok_both : {A E : Type 0} {P Q R : A → Type 0} (r : Result A E) → ((a : A
 ok_both (Ok a) go p q = go a p q
 ok_both (Err e) go p q = tt
 
-abbrev behind_lines : PostView → List (List ℕ)
+abbrev pub behind_lines : PostView → List (List ℕ)
 behind_lines p = map gone_line p.gone ++ map row_line p.rows
 
-abbrev event_line : PostView → List ℕ
+abbrev pub event_line : PostView → List ℕ
 event_line p = join_with_byte 32 (event_words p.space p.number (length p.gone + length p.rows))
 
+within : (n : ℕ) → n ≤ most_post_lines → at_most most_post_lines (Some n) ≡ Some n
+within n le = grind (arith, nat_tests, le)
+
 -- the first line of a post tells how many lines stand behind it
-pub post_counted : (seen : List ℕ) (others : List (List ℕ)) (p : PostView) → IsPost p → seen ∷ others ≡ post_lines p → event_count (words seen) ≡ Some (length others)
+pub post_counted : (seen : List ℕ) (others : List (List ℕ)) (p : PostView) → IsSentPost p → seen ∷ others ≡ post_lines p → event_count (words seen) ≡ Some (length others)
 post_counted seen others p valid all =
     let both : seen ∷ others ≡ event_line p ∷ behind_lines p = all in
     let f : (seen ≡ event_line p) × (others ≡ behind_lines p) = (cc, cc) in
@@ -104,10 +109,12 @@ post_counted seen others p valid all =
     let gone = length-map p.gone gone_line in
     let rows = length-map p.rows row_line in
     let many : n ≡ length others = omega (arith, e, l, gone, rows) in
-    ap (λ l. event_count (words l)) f.0 ∙ ap event_count (pieces_joined 32 (codes "event") (decimal p.space ∷ decimal p.number ∷ decimal n ∷ []) (event_lacks p.space p.number n valid.space valid.number valid.counted))
-    ∙ number_decimal n valid.counted ∙ ap Some many
+    let left = valid.gone in
+    let come = valid.rows in
+    ap (λ l. event_count (words l)) f.0 ∙ ap event_count (pieces_joined 32 (codes "event") (decimal p.space ∷ decimal p.number ∷ decimal n ∷ []) (event_lacks p.space p.number n valid.valid.space valid.valid.number valid.valid.counted))
+    ∙ ap (at_most most_post_lines) (number_decimal n valid.valid.counted) ∙ within n (omega (arith, left, come)) ∙ ap Some many
 
-pub event_many : (n : ℕ) (seen : List ℕ) (others : List (List ℕ)) (p : PostView) → Some n ≡ event_count (words seen) → IsPost p → seen ∷ others ≡ post_lines p → length others ≡ n
+pub event_many : (n : ℕ) (seen : List ℕ) (others : List (List ℕ)) (p : PostView) → Some n ≡ event_count (words seen) → IsSentPost p → seen ∷ others ≡ post_lines p → length others ≡ n
 event_many n seen others p counts valid all = sym (same_Some n (length others) (counts ∙ post_counted seen others p valid all))
 
 -- the lines of a post are printed as its text
@@ -121,12 +128,12 @@ HasReadMore n before after begun text = (all : List (List ℕ)) × (length all �
 
 -- a post that was read behind its first line is the one that comes there
 pub behind_only : (n : ℕ) (seen : List ℕ) (before after : Option (List Item)) (begun text : List ℕ) (post : PostView) → Some n ≡ event_count (words seen) → begun ≡ ended seen → HasReadMore n before after begun text
-    → IsPost post → text ≡ post_text post → IsOnlyPost seen before after post
+    → IsSentPost post → text ≡ post_text post → IsOnlyPost seen before after post
 behind_only n seen before after begun text post counts began read valid said other others rest valid_other all e =
     let many = event_many n seen others other counts valid_other all in
     let a = lines_alike read.0 others rest (read.1 ∙ sym many) read.2 e in
     let whole : text ≡ printed (seen ∷ others) = read.3 ∙ (λ i. began i ++ printed (a.0 i)) in
-    (text_tells other post valid_other valid (sym (printed_post (seen ∷ others) other all) ∙ sym whole ∙ said), a.1)
+    (text_tells other post valid_other.valid valid.valid (sym (printed_post (seen ∷ others) other all) ∙ sym whole ∙ said), a.1)
 
 pub behind_posted : (n : ℕ) (seen : List ℕ) (before after : Option (List Item)) (begun text : List ℕ) (post : PostView) → Some n ≡ event_count (words seen) → begun ≡ ended seen → HasReadMore n before after begun text → text ≡ post_text post → IsPosted seen before after post
 behind_posted n seen before after begun text post counts began read said = record {

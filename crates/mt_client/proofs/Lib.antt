@@ -8,3 +8,4 @@ pub mod EndingLaws
 pub mod PlaceLaws
 pub mod TellingLaws
 pub mod MissingLaws
+pub mod RefusalLaws

@@ -4,11 +4,11 @@ use Rattle.std.proofs.lemmas.Grind.{fold-append}
 use Rattle.std.specs.List.{flat_map, fold, AllByRecursion}
 use Rattle.mt_skel.proofs.MiddleLaws.{each_left, each_right}
 use Rattle.mt_lines.specs.Lines.{Item}
-use Rattle.mt_events.specs.Posts.{PostView, IsPost, post_lines}
+use Rattle.mt_events.specs.Posts.{PostView, post_lines}
 use Rattle.mt_events.specs.Mirrors.{MirrorView}
 use Rattle.mt_events.specs.declared.opening.Scope.{Scope}
 use Rattle.mt_client.specs.Reading.{texts, ComeFirst, NoneFirst}
-use Rattle.mt_client.specs.Mirroring.{IsRefusal, counted_line}
+use Rattle.mt_client.specs.Mirroring.{IsSentPost, IsRefusal, counted_line}
 use Rattle.mt_client.specs.Awaited.{IsOneRefusal, IsRefusedOr, IsOnlyPost}
 use Rattle.mt_client.specs.Finding.{found_lines, HasFound, IsFinding}
 use Rattle.mt_client.specs.Telling.{mirrors_with, mirrors_by, are_due, portion}
@@ -48,9 +48,9 @@ portions_of count scope = record {
   S = List MirrorView;
   lines_of = portion_lines count;
   step = mirrors_by;
-  IsDue = λ ms posts. (length posts ≡ count) × AllByRecursion IsPost posts × (are_due scope ms posts ≡ true);
-  AreDue = λ ms portions. AllByRecursion (λ posts. length posts ≡ count) portions × AllByRecursion IsPost (flat portions) × (are_due scope ms (flat portions) ≡ true);
-  first = λ ms q qs h. let due = are_apart (due_to scope) q (flat qs) ms h.2 in ((h.0.0, each_left IsPost q (flat qs) h.1, due.0), (h.0.1, each_right IsPost q (flat qs) h.1, due.1));
+  IsDue = λ ms posts. (length posts ≡ count) × AllByRecursion IsSentPost posts × (are_due scope ms posts ≡ true);
+  AreDue = λ ms portions. AllByRecursion (λ posts. length posts ≡ count) portions × AllByRecursion IsSentPost (flat portions) × (are_due scope ms (flat portions) ≡ true);
+  first = λ ms q qs h. let due = are_apart (due_to scope) q (flat qs) ms h.2 in ((h.0.0, each_left IsSentPost q (flat qs) h.1, due.0), (h.0.1, each_right IsSentPost q (flat qs) h.1, due.1));
   Ends = λ n ms ls. (d : AreDuePosts count scope ms ls) × IsRefusal d.last × (n < most_portions);
 }
 
@@ -67,13 +67,13 @@ are_portions count scope mirrors lines a =
     record {
       items = a.portions;
       last = flat_map post_lines a.rest ++ a.refusal ∷ [];
-      due = (a.whole, each_left IsPost (flat a.portions) a.rest a.valid, due.0);
-      ends = (record { posts = a.rest; last = a.refusal; all = refl; valid = each_right IsPost (flat a.portions) a.rest a.valid; due = behind; ends = inr (a.within, a.refused) }, a.refused, a.bounded);
+      due = (a.whole, each_left IsSentPost (flat a.portions) a.rest a.valid, due.0);
+      ends = (record { posts = a.rest; last = a.refusal; all = refl; valid = each_right IsSentPost (flat a.portions) a.rest a.valid; due = behind; ends = inr (a.within, a.refused) }, a.refused, a.bounded);
       all = a.all;
     }
 
 -- a portion with its end
-abbrev whole_portion : (count : ℕ) (scope : Scope) (mirrors : List MirrorView) (posts : List PostView) → (length posts ≡ count) × AllByRecursion IsPost posts × (are_due scope mirrors posts ≡ true) → AreDuePosts count scope mirrors (portion_lines count posts)
+abbrev whole_portion : (count : ℕ) (scope : Scope) (mirrors : List MirrorView) (posts : List PostView) → (length posts ≡ count) × AllByRecursion IsSentPost posts × (are_due scope mirrors posts ≡ true) → AreDuePosts count scope mirrors (portion_lines count posts)
 whole_portion count scope mirrors posts is = record { posts = posts; last = counted_line count; all = refl; valid = is.1; due = is.2; ends = inl (is.0, refl) }
 
 -- one more portion came, none comes where neither posts nor a refusal do, and none where too many came

@@ -22,7 +22,6 @@ use Rattle.mt_client.specs.Reading.{texts, ComeFirst, NoneFirst, AreSoMany, prin
 use Rattle.mt_client.specs.Mirroring.{counted_line, heading_words, IsShown, heading_line, part_lines, opening_lines, opening_with, HasOpened}
 use Rattle.mt_client.specs.Awaited.{IsOneRefusal, IsRefusedOr, AreRowLines, IsOpening}
 use Rattle.mt_client.proofs.RelayLaws.{printed-append, KnownByLines, items_alike, items_cut, first_alike, prepended, come_prepended}
-use Rattle.mt_info.specs.Table.{row_id}
 use Rattle.mt_skel.specs.Rising.{is_above, rises_after}
 use Rattle.mt_skel.proofs.RisingLaws.{after_kept}
 use Rattle.mt_skel.specs.Keyed.{rises}
@@ -97,7 +96,7 @@ few_lines : (n : ℕ) → n ≤ most_opening_lines → n < 2 ^ 64
 few_lines n le = omega (arith, le)
 
 -- the text of an opening
-rows_text : (rows : List Row) → printed (map line rows) ≡ flat_map whole_line rows
+pub rows_text : (rows : List Row) → printed (map line rows) ≡ flat_map whole_line rows
 rows_text [] = refl
 rows_text (r ∷ rows) = ap (λ x. ended (line r) ++ x) (rows_text rows)
 
@@ -241,7 +240,7 @@ lines_from n (m ∷ parts) =
     let c = part_count m parts in
     omega (arith, ih, c)
 
-found_is : (scope : Scope) (parts : List MirrorView) → printed (found_lines parts) ≡ opening_text (opening_found scope parts)
+pub found_is : (scope : Scope) (parts : List MirrorView) → printed (found_lines parts) ≡ opening_text (opening_found scope parts)
 found_is scope parts =
     let l = lines_from 0 parts in
     let many : length (parts_lines parts) ≡ lines_of_parts (map part_found parts) = omega (arith, l) in
@@ -276,7 +275,7 @@ opening_needs_finding space before none lines later (inr k) e =
 
 -- the namespaces of a scope rise
 pub rises_of : (scope : Scope) (parts : List MirrorView) → AreOf scope parts → IsTrue (rises mirror_space parts)
-rises_of All parts of = of
+rises_of All parts of = of.0
 rises_of (One space) [] of = let no : [] ≡ space ∷ [] = of in cc
 rises_of (One space) (m ∷ []) of = refl
 rises_of (One space) (m ∷ n ∷ parts) of = let no : m.space ∷ (n.space ∷ map mirror_space parts) ≡ space ∷ [] = of in cc

@@ -1,16 +1,17 @@
 -- A mirror in its place among those of other namespaces.
-use Rattle.std.proofs.Common.{◌≡◌, ℕ, suc, ◌+◌, ◌<◌, Bool, true, false, cond, not, ◌==◌, nat_le, nat_eq, List, [], ◌∷◌, length, Option, Some, None, slice_get, IsTrue, refl, sym, ap, ◌∙◌, arith}
-use Rattle.std.specs.List.{insert, remove, position_from, position_or_len}
+use Rattle.std.proofs.Common.{◌≡◌, ◌≢◌, ℕ, suc, ◌+◌, ◌<◌, ◌≤◌, ◌||◌, ◌&&◌, nat_lt, subst, Bool, true, false, cond, not, ◌==◌, nat_le, nat_eq, List, [], ◌∷◌, length, Option, Some, None, slice_get, IsTrue, refl, sym, ap, ◌∙◌, arith}
+use Rattle.std.specs.List.{insert, remove, list_all, position_from, position_or_len}
 use Rattle.std.specs.Option.{option_map_or, unwrap_or}
 use Rattle.std.proofs.lemmas.Bool.Decides.{nat_tests}
-use Rattle.mt_skel.specs.Keyed.{put, row_at, rises}
-use Rattle.mt_skel.proofs.KeyedLaws.{row_at-key, row_at-below, rises-put, all-lower}
+use Rattle.mt_skel.specs.Keyed.{put, without, row_at, rises}
+use Rattle.mt_skel.proofs.KeyedLaws.{row_at-key, row_at-below, rises-put, rises-filter, all-lower}
 use Rattle.mt_skel.proofs.MiddleLaws.{and_first, and_second}
 use Rattle.mt_skel.proofs.PlaceLaws.{put_is, first-or-length}
 use Rattle.mt_events.specs.Posts.{PostView}
 use Rattle.mt_events.specs.Mirrors.{MirrorView, mirrored}
+use Rattle.mt_client.specs.Limits.{most_spaces}
 use Rattle.mt_client.specs.Finding.{mirror_space}
-use Rattle.mt_client.specs.Telling.{mirror_begun, mirror_in, mirrors_with}
+use Rattle.mt_client.specs.Telling.{mirror_begun, mirror_in, has_room, mirrors_with}
 
 pub place_is : (o k : Option ℕ) (p : MirrorView → Bool) (xs : List MirrorView) → o ≡ position_from p 0 xs → o ≡ k → unwrap_or k (length xs) ≡ position_or_len p xs
 place_is o k p xs e is = ap (λ k. unwrap_or k (length xs)) (sym is ∙ e) ∙ first-or-length p xs
@@ -61,17 +62,91 @@ found_there n k at shown old m same is rising e there begun = mirror_is k at old
 pub mirror_of : (n : ℕ) (xs : List MirrorView) → mirror_space (mirror_in xs n) ≡ n
 mirror_of n xs = grind (arith, row_at-key mirror_space n xs)
 
+-- all others are of greater namespaces, or it is taken out
+others_kept : (n : ℕ) (ys : List MirrorView) → list_all (λ y. nat_lt n (mirror_space y)) ys ≡ true → without (λ (y : MirrorView). y.space == n) ys ≡ ys
+others_kept n [] all = refl
+others_kept n (y ∷ ys) all = grind (arith, nat_tests, others_kept n ys, all)
+
+removed_is : (n : ℕ) (xs : List MirrorView) → rises mirror_space xs ≡ true → without_here n (place n xs) xs ≡ without (λ (y : MirrorView). y.space == n) xs
+removed_is n [] h = refl
+removed_is n (y ∷ ys) h = go (nat_le n y.space) refl (removed_is n ys (and_second _ _ h))
+  where
+    above : n ≤ y.space → without (λ (y : MirrorView). y.space == n) ys ≡ ys
+    above le = go (nat_lt n y.space) refl
+      where
+        go : (less : Bool) → nat_lt n y.space ≡ less → without (λ (y : MirrorView). y.space == n) ys ≡ ys
+        go true is = others_kept n ys (all-lower mirror_space n y.space ys (grind (arith, nat_tests, is)) (and_first _ _ h))
+        go false is = let same : n ≡ y.space = grind (arith, nat_tests, is, le) in others_kept n ys (subst (λ k. list_all (λ z. nat_lt k (mirror_space z)) ys ≡ true) (sym same) (and_first _ _ h))
+
+    pull : (b : Bool) (at : ℕ) → cond b (y ∷ remove ys at) (y ∷ ys) ≡ y ∷ cond b (remove ys at) ys
+    pull true at = refl
+    pull false at = refl
+
+    go : (le : Bool) → nat_le n y.space ≡ le → without_here n (place n ys) ys ≡ without (λ (y : MirrorView). y.space == n) ys
+        → without_here n (cond (not le) (1 + place n ys) 0) (y ∷ ys) ≡ without (λ (y : MirrorView). y.space == n) (y ∷ ys)
+    go true is ih = grind (arith, nat_tests, is, above)
+    go false is ih =
+        let other : (y.space == n) ≡ false = grind (arith, nat_tests, is) in
+        let at : ℕ = place n ys in
+        let e : 1 + at ≡ suc at = omega arith in
+        let behind : without (λ (y : MirrorView). y.space == n) (y ∷ ys) ≡ y ∷ without (λ (y : MirrorView). y.space == n) ys = rw other refl in
+        ap (λ k. without_here n k (y ∷ ys)) e ∙ pull (here n at ys) at ∙ ap (λ zs. y ∷ zs) ih ∙ sym behind
+
+-- all others, where it was taken out of its place
+pub others_there : (n k at : ℕ) (shown old middle : List MirrorView) → k ≡ n → shown ≡ old → IsTrue (rises mirror_space old) → at ≡ place k shown → middle ≡ without_here k at old → middle ≡ without (λ (y : MirrorView). y.space == n) old
+others_there n k at shown old middle same shown_is rising there taken =
+    taken ∙ ap (λ j. without_here k j old) (there ∙ ap (place k) shown_is) ∙ removed_is k old rising ∙ ap (λ j. without (λ (y : MirrorView). y.space == j) old) same
+
 -- a post applied in that place
-pub applied_there : (p : PostView) (k at : ℕ) (m x : MirrorView) (shown old middle new : List MirrorView) → k ≡ p.space → shown ≡ old → m ≡ mirror_in old p.space → x ≡ mirrored m p → at ≡ place k shown → middle ≡ without_here k at old → new ≡ insert middle at x
-    → new ≡ mirrors_with old p
-applied_there p k at m x shown old middle new same shown_is is made there taken e =
-    let whole : x ≡ mirrored (mirror_in old p.space) p = made ∙ ap (λ y. mirrored y p) is in
-    let there_is : at ≡ place k old = there ∙ ap (place k) shown_is in
-    e ∙ ap (λ xs. insert xs at x) taken
-    ∙ ap (λ j. insert (without_here k j old) j x) there_is
-    ∙ ap (λ j. insert (without_here j (place j old) old) (place j old) x) (same ∙ sym (ap mirror_space whole ∙ mirror_of p.space old))
-    ∙ put_is mirror_space x old
-    ∙ ap (λ y. put mirror_space y old) whole
+abbrev made_by : PostView → List MirrorView → MirrorView
+made_by p old = mirrored (mirror_in old p.space) p
+
+pub applied_there : (p : PostView) (k at : ℕ) (m x : MirrorView) (shown old middle new : List MirrorView) → k ≡ p.space → shown ≡ old → m ≡ mirror_in old p.space → x ≡ mirrored m p → IsTrue (rises mirror_space old) → at ≡ place k shown → middle ≡ without_here k at old
+    → new ≡ cond (length x.rows == 0) middle (insert middle at x) → new ≡ mirrors_with old p
+applied_there p k at m x shown old middle new same shown_is is made rising there taken e =
+    e ∙ (λ i. cond (length (whole i).rows == 0) (others i) (put_there i)) ∙ ap (λ n. cond (length (made_by p old).rows == 0) (without (λ (y : MirrorView). y.space == n) old) (put mirror_space (made_by p old) old)) (sym (mirror_of p.space old))
+  where
+    whole : x ≡ made_by p old
+    whole = made ∙ ap (λ y. mirrored y p) is
+
+    there_is : at ≡ place k old
+    there_is = there ∙ ap (place k) shown_is
+
+    others : middle ≡ without (λ (y : MirrorView). y.space == p.space) old
+    others = others_there p.space k at shown old middle same shown_is rising there taken
+
+    put_there : insert middle at x ≡ put mirror_space (made_by p old) old
+    put_there =
+        ap (λ xs. insert xs at x) taken
+        ∙ ap (λ j. insert (without_here k j old) j x) there_is
+        ∙ ap (λ j. insert (without_here j (place j old) old) (place j old) x) (same ∙ sym (ap mirror_space whole ∙ mirror_of p.space old))
+        ∙ put_is mirror_space x old
+        ∙ ap (λ y. put mirror_space y old) whole
+
+-- whether there is room for it
+pub room_there : (p : PostView) (x : MirrorView) (old middle : List MirrorView) → x ≡ made_by p old → middle ≡ without (λ (y : MirrorView). y.space == p.space) old → (length x.rows ≢ 0 → length middle < most_spaces) → has_room (made_by p old) old ≡ true
+room_there p x old middle made others few =
+    ap (λ n. (length (made_by p old).rows == 0) || nat_lt (length (without (λ (y : MirrorView). y.space == n) old)) most_spaces) (mirror_of p.space old)
+    ∙ (λ i. (length (sym made i).rows == 0) || nat_lt (length (sym others i)) most_spaces)
+    ∙ grind (arith, nat_tests, few)
+
+pub no_room_there : (p : PostView) (x : MirrorView) (old middle : List MirrorView) → x ≡ made_by p old → middle ≡ without (λ (y : MirrorView). y.space == p.space) old → (length x.rows ≢ 0) × (most_spaces ≤ length middle) → has_room (made_by p old) old ≡ false
+no_room_there p x old middle made others many =
+    ap (λ n. (length (made_by p old).rows == 0) || nat_lt (length (without (λ (y : MirrorView). y.space == n) old)) most_spaces) (mirror_of p.space old)
+    ∙ (λ i. (length (sym made i).rows == 0) || nat_lt (length (sym others i)) most_spaces)
+    ∙ (let rows = many.0 in let most = many.1 in grind (arith, nat_tests, rows, most))
 
 pub rises_with : (p : PostView) (old new : List MirrorView) → IsTrue (rises mirror_space old) → new ≡ mirrors_with old p → IsTrue (rises mirror_space new)
-rises_with p old new rising e = ap (rises mirror_space) e ∙ rises-put mirror_space (mirrored (mirror_in old p.space) p) old rising
+rises_with p old new rising e = ap (rises mirror_space) e ∙ go (length (made_by p old).rows == 0)
+  where
+    go : (b : Bool) → rises mirror_space (cond b (without (λ (y : MirrorView). y.space == (made_by p old).space) old) (put mirror_space (made_by p old) old)) ≡ true
+    go true = rises-filter mirror_space (λ (y : MirrorView). not (y.space == (made_by p old).space)) old rising
+    go false = rises-put mirror_space (made_by p old) old rising
+
+-- a test that does not hold, before another or after it
+pub first_false : (a b : Bool) → a ≡ false → (a && b) ≡ false
+first_false a b e = rw e refl
+
+pub second_false : (a b : Bool) → b ≡ false → (a && b) ≡ false
+second_false true b e = e
+second_false false b e = refl

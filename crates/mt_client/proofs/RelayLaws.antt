@@ -1,5 +1,5 @@
 -- The lines of requests and what of them went out; what was read and printed, line by line, and what cannot come first.
-use Rattle.std.proofs.Common.{Bor, ◌≡◌, ℕ, suc, ◌+◌, ◌<◌, List, [], ◌∷◌, ◌++◌, map, length, take, drop, take_all, take-append-drop, refl, sym, ap, ◌∙◌, arith, append_assoc, length-append, Result, Ok, Err, OnErr, ◌≢◌, ◌≤◌, subst, IsErrAnd, inl, inr, ◌⊎◌, Option, None, Some}
+use Rattle.std.proofs.Common.{Bor, ◌≡◌, ℕ, suc, ◌+◌, ◌<◌, List, [], ◌∷◌, ◌++◌, map, length, take, drop, take_all, take-append-drop, refl, sym, ap, ◌∙◌, arith, append_assoc, length-append, Result, Ok, Err, OnOk, OnErr, ◌≢◌, ◌≤◌, subst, IsErrAnd, inl, inr, ◌⊎◌, Option, None, Some}
 use Rattle.std.proofs.KnownBytes.{Appends-nil, Appends-trans, Appends-kept}
 use Rattle.std.proofs.lemmas.Option.{same_Some}
 use Rattle.std.specs.Io.KnownBytes.{Appends, Keeps}
@@ -29,6 +29,13 @@ joined c word (next ∷ words) = ap (λ rest. word ++ c ∷ rest) (joined c next
 pub on_err : {A E : Type 0} {P : Type 0} (r : Result A E) → P → OnErr r P
 on_err (Ok a) p = tt
 on_err (Err e) p = p
+
+pub on_ok : {A E : Type 0} {P : Type 0} (r : Result A E) → P → OnOk r P
+on_ok (Ok a) p = p
+on_ok (Err e) p = tt
+
+pub on_ok_at : {A E : Type 0} {P : Type 0} {a : A} (r : Result A E) → r ≡ Ok a → OnOk r P → P
+on_ok_at {A} {E} {P} {a} r is p = subst (λ x. OnOk x P) is p
 
 -- a text that was cut in its first piece, or in its second
 pub cut_first : (text rest : List ℕ) (old new : Option (List ℕ)) (n : ℕ) → n < length text → Appends old new (take n text) → IsCutOff (text ++ rest) old new

@@ -3,11 +3,11 @@ use Rattle.std.proofs.Common.{◌≡◌, ◌≢◌, ℕ, ◌+◌, ◌-◌, ◌<�
 use Rattle.std.specs.List.{flat_map, fold, AllByRecursion}
 use Rattle.mt_skel.proofs.MiddleLaws.{and-true, and_first, and_second}
 use Rattle.mt_lines.specs.Lines.{Item}
-use Rattle.mt_events.specs.Posts.{PostView, IsPost, post_lines}
-use Rattle.mt_events.specs.Mirrors.{MirrorView, is_next, are_next, mirrored}
+use Rattle.mt_events.specs.Posts.{PostView, post_lines}
+use Rattle.mt_events.specs.Mirrors.{MirrorView, mirrored}
 use Rattle.mt_events.specs.declared.opening.Scope.{Scope}
 use Rattle.mt_client.specs.Reading.{texts, NoneFirst}
-use Rattle.mt_client.specs.Mirroring.{IsRefusal, counted_line}
+use Rattle.mt_client.specs.Mirroring.{IsSentPost, may_come, may_all_come, IsRefusal, counted_line}
 use Rattle.mt_client.specs.Awaited.{IsOneRefusal, IsRefusedOr, IsSuchPost, IsOnlyApplied, IsLast, IsEnd}
 use Rattle.mt_client.specs.Telling.{mirrors_with, is_due, are_due}
 use Rattle.mt_client.proofs.RelayLaws.{texts_split}
@@ -145,7 +145,7 @@ pub record Posts : Type 1 where
 
 -- the posts that follow a mirror, and those that are due to several
 abbrev pub following : Posts
-following = record { S = MirrorView; apply = mirrored; is = is_next; are = are_next; none = λ m. refl; both = λ m p ps. refl }
+following = record { S = MirrorView; apply = mirrored; is = may_come; are = may_all_come; none = λ m. refl; both = λ m p ps. refl }
 
 abbrev pub due_to : Scope → Posts
 due_to scope = record { S = List MirrorView; apply = mirrors_with; is = is_due scope; are = are_due scope; none = λ ms. refl; both = λ ms p ps. refl }
@@ -172,8 +172,8 @@ post_series k ends = record {
   S = k.S;
   lines_of = post_lines;
   step = k.apply;
-  IsDue = λ s p. IsPost p × (k.is s p ≡ true);
-  AreDue = λ s ps. AllByRecursion IsPost ps × (k.are s ps ≡ true);
+  IsDue = λ s p. IsSentPost p × (k.is s p ≡ true);
+  AreDue = λ s ps. AllByRecursion IsSentPost ps × (k.are s ps ≡ true);
   first = λ s p ps h. let b = sym (k.both s p ps) ∙ h.1 in ((h.0.0, and_first (k.is s p) (k.are (k.apply s p) ps) b), (h.0.1, and_second (k.is s p) (k.are (k.apply s p) ps) b));
   Ends = λ n s ls. ends n ls;
 }

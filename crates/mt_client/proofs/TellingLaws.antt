@@ -7,7 +7,7 @@ use Rattle.std.proofs.lemmas.Grind.{flat_map-append, fold-append}
 use Rattle.std.specs.List.{flat_map}
 use Rattle.mt_skel.proofs.MiddleLaws.{and-true, each_append}
 use Rattle.mt_lines.specs.Lines.{Item}
-use Rattle.mt_events.specs.Posts.{PostView, IsPost, post_text, ended}
+use Rattle.mt_events.specs.Posts.{PostView, post_text, ended}
 use Rattle.mt_events.specs.Mirrors.{MirrorView}
 use Rattle.mt_events.specs.Texts.{count_text, followed_text}
 use Rattle.mt_events.specs.declared.opening.Scope.{Scope}
@@ -16,12 +16,14 @@ use Rattle.mt_client.specs.declared.fault.ClientFault.{ClientFault}
 use Rattle.mt_client.specs.declared.fault.ClientFault.TheVariants.{Connection, Output, NoMemory}
 use Rattle.mt_client.specs.Requests.{numbered_text, event_count}
 use Rattle.mt_client.specs.Reading.{ComeFirst, IsCutOff, IsBroken, IsSentPart}
-use Rattle.mt_client.specs.Mirroring.{HasRefused, IsPosted, counted_line}
+use Rattle.mt_client.specs.Mirroring.{IsSentPost, HasRefused, IsPosted, counted_line}
 use Rattle.mt_client.specs.Finding.{watch_text, HasFound}
 use Rattle.mt_client.specs.Telling.{told_in, mirrors_with, mirrors_by, is_due, are_due, posts_told, portion, follows_text, telling_text, all_posts, portions_text, HasCome, HasTold, IsUnsaid, IsStopped, IsBrokenOff, AreTold, HasToldPost, HasToldSome, HasToldPortion, HasToldSo, HasToldAll, HasToldAllOut, IsToldUpTo}
 use Rattle.mt_client.proofs.OpeningLaws.{watched_whole}
 use Rattle.mt_client.proofs.SeriesLaws.{due_to, are_both}
-use Rattle.mt_client.proofs.CallLaws.{connection≢output, no_memory≢output}
+use Rattle.mt_client.proofs.CallLaws.{connection≢output, no_memory≢output, breaks_later}
+use Rattle.mt_client.specs.Calls.{WritesOn, IsOut, IsOutOrBroken}
+use Rattle.mt_lines.specs.declared.stream.Output.{Ghosts as OutputGhosts}
 use Rattle.mt_client.proofs.RelayLaws.{part_first, part_second, printed-append, come_none, come_both, broken_cut}
 use Rattle.std.proofs.lemmas.Option.{same_Some}
 use Rattle.mt_lines.specs.Words.{words}
@@ -39,7 +41,7 @@ abbrev pub both_told : {named : NamedTelling} {scope : Scope} {ps qs : List Post
     → AreTold named scope ps s old mid before middle begun between → AreTold named scope qs t mid new middle after between done → AreTold named scope (ps ++ qs) (s ++ t) old new before after begun done
 both_told {named} {scope} {ps} {qs} {s} {t} {old} {mid} {new} {before} {middle} {after} {begun} {between} {done} f h = record {
   lines = f.lines ++ h.lines;
-  valid = each_append IsPost ps qs f.valid h.valid;
+  valid = each_append IsSentPost ps qs f.valid h.valid;
   due = are_both (due_to scope) ps qs old f.due (subst (λ ms. are_due scope ms qs ≡ true) f.make h.due);
   make = h.make ∙ ap (λ ms. mirrors_by ms qs) f.make ∙ sym (fold-append mirrors_with old ps qs);
   read = come_both f.read h.read;
@@ -55,7 +57,7 @@ abbrev pub said_so : {named : NamedTelling} {scope : Scope} {ps : List PostView}
 said_so e f = record { lines = f.lines; valid = f.valid; due = f.due; make = f.make; read = f.read; text = f.text ∙ e; out = f.out }
 
 -- one post
-abbrev pub post_told : {named : NamedTelling} (scope : Scope) {first : List ℕ} {post : PostView} (old : List MirrorView) {new : List MirrorView} {before middle after : Option (List Item)} (begun : Option (List ℕ)) {done : Option (List ℕ)} → ComeFirst before (first ∷ []) middle → IsPosted first middle after post → IsPost post
+abbrev pub post_told : {named : NamedTelling} (scope : Scope) {first : List ℕ} {post : PostView} (old : List MirrorView) {new : List MirrorView} {before middle after : Option (List Item)} (begun : Option (List ℕ)) {done : Option (List ℕ)} → ComeFirst before (first ∷ []) middle → IsPosted first middle after post → IsSentPost post
     → is_due scope old post ≡ true → new ≡ mirrors_with old post → Appends begun done (told_in named old post) → HasToldPost named scope old new before after begun done
 post_told {named} scope {first} {post} old {new} {before} {middle} {after} begun {done} there p valid due make out = (
   post,
@@ -76,7 +78,7 @@ unsaid_of Connection before old new b kept = kept connection≢output
 unsaid_of NoMemory before old new b kept = kept no_memory≢output
 unsaid_of Output before old new b kept = b
 
-pub stopped_post : {named : NamedTelling} {f : ClientFault} (scope : Scope) {first : List ℕ} {post : PostView} (old : List MirrorView) {before middle after : Option (List Item)} {begun done : Option (List ℕ)} → ComeFirst before (first ∷ []) middle → IsPosted first middle after post → IsPost post
+pub stopped_post : {named : NamedTelling} {f : ClientFault} (scope : Scope) {first : List ℕ} {post : PostView} (old : List MirrorView) {before middle after : Option (List Item)} {begun done : Option (List ℕ)} → ComeFirst before (first ∷ []) middle → IsPosted first middle after post → IsSentPost post
     → (f ≢ Output → Keeps begun done) → (f ≡ Output → (is_due scope old post ≡ true) × IsCutOff (told_in named old post) begun done) → IsStopped named f scope old before begun done
 stopped_post {named} {f} scope {first} {post} old {before} {middle} {after} {begun} {done} there p valid kept cut = go f kept cut
   where
@@ -125,24 +127,25 @@ portion_whole {named} {count} {n} {scope} {old} {new} {before} {middle} {after} 
     }
 
 -- at most so many posts, and no whole portion before them
-pub so_few : {named : NamedTelling} {count n : ℕ} {scope : Scope} {old new : List MirrorView} {before after : Option (List Item)} {begun done : Option (List ℕ)} → n ≤ count → HasToldSome named n scope old new before after begun done → HasToldSo named count scope old new before after begun done
+abbrev pub so_few : {named : NamedTelling} {count n : ℕ} {scope : Scope} {old new : List MirrorView} {before after : Option (List Item)} {begun done : Option (List ℕ)} → n ≤ count → HasToldSome named n scope old new before after begun done → HasToldSo named count scope old new before after begun done
 so_few le f = record { portions = []; rest = f.posts; whole = tt; within = let m = f.many in omega (arith, m, le); told = f.told }
 
-pub so_none : {named : NamedTelling} {count : ℕ} {scope : Scope} {old : List MirrorView} {before : Option (List Item)} {begun : Option (List ℕ)} → HasToldSo named count scope old old before before begun begun
+abbrev pub so_none : {named : NamedTelling} {count : ℕ} {scope : Scope} {old : List MirrorView} {before : Option (List Item)} {begun : Option (List ℕ)} → HasToldSo named count scope old old before before begun begun
 so_none = so_few (omega arith) none_yet
 
 -- what is told from here on is told from the start on, behind the portions that were told
-abbrev pub AreToldBefore : NamedTelling → ℕ → Scope → List MirrorView → List MirrorView → Option (List Item) → Option (List Item) → Option (List ℕ) → Option (List ℕ) → Type 0
-AreToldBefore named count scope old mid before middle begun between =
-    (new : List MirrorView) (after : Option (List Item)) (done : Option (List ℕ)) → HasToldSo named count scope mid new middle after between done → HasToldSo named count scope old new before after begun done
+abbrev pub AreToldBefore : NamedTelling → ℕ → Scope → ℕ → List MirrorView → List MirrorView → Option (List Item) → Option (List Item) → Option (List ℕ) → Option (List ℕ) → Type 0
+AreToldBefore named count scope k old mid before middle begun between =
+    (new : List MirrorView) (after : Option (List Item)) (done : Option (List ℕ)) → (h : HasToldSo named count scope mid new middle after between done)
+    → (s : HasToldSo named count scope old new before after begun done) × (length s.portions ≡ k + length h.portions)
 
-pub portion_before : {named : NamedTelling} {count : ℕ} {scope : Scope} {old mid : List MirrorView} {before middle : Option (List Item)} {begun between : Option (List ℕ)} → HasToldPortion named count scope old mid before middle begun between → AreToldBefore named count scope old mid before middle begun between
+portion_before : {named : NamedTelling} {count : ℕ} {scope : Scope} {old mid : List MirrorView} {before middle : Option (List Item)} {begun between : Option (List ℕ)} → HasToldPortion named count scope old mid before middle begun between → AreToldBefore named count scope 1 old mid before middle begun between
 portion_before {named} {count} {scope} {old} {mid} {before} {middle} {begun} f new after done h =
     let first : List ℕ = followed_text f.posts (count_text count) in
     let posts : f.posts ++ all_posts h.portions h.rest ≡ all_posts (f.posts ∷ h.portions) h.rest = sym (append_assoc f.posts (flat_map (λ posts. posts) h.portions) h.rest) in
     let text : first ++ portions_text count h.portions h.rest ≡ portions_text count (f.posts ∷ h.portions) h.rest =
     sym (append_assoc first (flat_map (λ posts. followed_text posts (count_text count)) h.portions) (flat_map post_text h.rest)) in
-    record {
+    let so : HasToldSo named count scope old new before after begun done = record {
       portions = f.posts ∷ h.portions;
       rest = h.rest;
       whole = (f.many, h.whole);
@@ -150,22 +153,38 @@ portion_before {named} {count} {scope} {old} {mid} {before} {middle} {begun} f n
       told = subst (λ x. AreTold named scope x (portions_text count (f.posts ∷ h.portions) h.rest) old new before after begun done) posts
           (said_so text
           (both_told f.told h.told));
-    }
+    } in
+    (so, omega arith)
+
+pub none_before : {named : NamedTelling} {count : ℕ} {scope : Scope} {old : List MirrorView} {before : Option (List Item)} {begun : Option (List ℕ)} → AreToldBefore named count scope 0 old old before before begun begun
+none_before new after end h = (h, omega arith)
+
+pub told_before : {named : NamedTelling} {count : ℕ} (k : ℕ) {scope : Scope} {old mid new : List MirrorView} {before middle after : Option (List Item)} {begun between done : Option (List ℕ)} → AreToldBefore named count scope k old mid before middle begun between → HasToldPortion named count scope mid new middle after between done
+    → AreToldBefore named count scope (k + 1) old new before after begun done
+told_before k f h next later end so =
+    let p = portion_before h next later end so in
+    let q = f next later end p.0 in
+    let m = p.1 in
+    let n = q.1 in
+    (q.0, omega (arith, m, n))
 
 -- a refusal behind them, and a fault
-pub all_behind : {named : NamedTelling} (count : ℕ) (scope : Scope) (old mid : List MirrorView) (before middle after : Option (List Item)) (begun between done : Option (List ℕ)) → AreToldBefore named count scope old mid before middle begun between → HasToldAllOut named count scope mid middle after between done
-    → HasToldAllOut named count scope old before after begun done
-all_behind {named} count scope old mid before middle after begun between end f h =
-    let a : HasToldAll named count scope h.0 mid middle after between h.1 = h.2 in
-    (h.0, h.1, record { made = a.made; middle = a.middle; so = f a.made a.middle h.1 a.so; refused = a.refused }, h.3)
+pub all_behind : {named : NamedTelling} (count k : ℕ) (scope : Scope) (old mid : List MirrorView) (before middle after : Option (List Item)) (begun between done : Option (List ℕ)) → AreToldBefore named count scope k old mid before middle begun between
+    → ((h : HasToldAllOut named count scope mid middle after between done) × (h.2.so.portions ≡ [])) → (all : HasToldAllOut named count scope old before after begun done) × (length all.2.so.portions ≡ k)
+all_behind {named} count k scope old mid before middle after begun between end f h =
+    let a : HasToldAll named count scope h.0.0 mid middle after between h.0.1 = h.0.2 in
+    let r = f a.made a.middle h.0.1 a.so in
+    let m = r.1 in
+    let n = ap length h.1 in
+    ((h.0.0, h.0.1, record { made = a.made; middle = a.middle; so = r.0; refused = a.refused }, h.0.3), omega (arith, m, n))
 
 -- the line behind so many posts
-some_kept : {named : NamedTelling} {n : ℕ} {scope : Scope} {old new : List MirrorView} {before middle : Option (List Item)} {begun between done : Option (List ℕ)} → HasToldSome named n scope old new before middle begun between → Keeps between done → HasToldSome named n scope old new before middle begun done
+abbrev some_kept : {named : NamedTelling} {n : ℕ} {scope : Scope} {old new : List MirrorView} {before middle : Option (List Item)} {begun between done : Option (List ℕ)} → HasToldSome named n scope old new before middle begun between → Keeps between done → HasToldSome named n scope old new before middle begun done
 some_kept {named} {n} {scope} {old} {new} {before} {middle} {begun} {between} {done} f kept =
     let t = f.told in
     record { posts = f.posts; many = f.many; told = record { lines = t.lines; valid = t.valid; due = t.due; make = t.make; read = t.read; text = t.text; out = Appends-kept begun between done (posts_told named old f.posts) t.out kept } }
 
-pub all_few : {named : NamedTelling} {count n : ℕ} {scope : Scope} {refusal : List ℕ} {old new : List MirrorView} {before middle after : Option (List Item)} {begun between done : Option (List ℕ)} → n ≤ count → HasToldSome named n scope old new before middle begun between → Keeps between done × HasRefused refusal middle after
+abbrev pub all_few : {named : NamedTelling} {count n : ℕ} {scope : Scope} {refusal : List ℕ} {old new : List MirrorView} {before middle after : Option (List Item)} {begun between done : Option (List ℕ)} → n ≤ count → HasToldSome named n scope old new before middle begun between → Keeps between done × HasRefused refusal middle after
     → HasToldAll named count scope refusal old before after begun done
 all_few {named} {count} {n} {scope} {refusal} {old} {new} {before} {middle} le f r = record {
   made = new;
@@ -202,6 +221,17 @@ follows_more count k =
 pub follows_sent : (count k : ℕ) (old mid new : Option (List ℕ)) → Appends old mid (follows_text count k) → Appends mid new (ended (numbered_text (codes "follow") count)) → Appends old new (follows_text count (k + 1))
 follows_sent count k old mid new e f = subst (λ x. Appends old new x) (sym (follows_more count k)) (Appends-trans old mid new (follows_text count k) (ended (numbered_text (codes "follow") count)) e f)
 
+-- and the last of them too, or calls of the writer failed
+pub follows_asked : {W : Type 0} {w : OutputGhosts W} (count k n : ℕ) {old mid new : W} → n ≡ k → WritesOn w old mid → Appends (w.contents old) (w.contents mid) (follows_text count k) → IsOutOrBroken w (ended (numbered_text (codes "follow") count)) mid new
+    → IsOutOrBroken w (follows_text count (n + 1)) old new
+follows_asked {W} {w} count k n {old} {mid} {new} same on sent (inl out) = inl (subst (λ i. Appends (w.contents old) (w.contents new) (follows_text count (i + 1))) (sym same) (follows_sent count k (w.contents old) (w.contents mid) (w.contents new) sent out))
+follows_asked count k n same on sent (inr broken) = inr (breaks_later on broken)
+
+-- behind the request of a watcher
+telling_asked : {W : Type 0} {w : OutputGhosts W} (scope : Scope) (times : ℕ) {old mid new : W} → IsOut w (ended (watch_text scope)) old mid → IsOutOrBroken w (follows_text portion times) mid new → IsOutOrBroken w (telling_text scope times) old new
+telling_asked {W} {w} scope times {old} {mid} {new} sent (inl out) = inl (Appends-trans (w.contents old) (w.contents mid) (w.contents new) (ended (watch_text scope)) (follows_text portion times) sent.went out)
+telling_asked scope times sent (inr broken) = inr (breaks_later sent.on broken)
+
 pub follows_part : (count k : ℕ) (old mid new : Option (List ℕ)) → Appends old mid (follows_text count k) → IsSentPart (ended (numbered_text (codes "follow") count)) mid new → (times : ℕ) × IsSentPart (follows_text count times) old new
 follows_part count k old mid new e p =
     (k + 1, subst (λ t. IsSentPart t old new) (sym (follows_more count k)) (part_second (follows_text count k) (ended (numbered_text (codes "follow") count)) old mid new e p))
@@ -227,18 +257,20 @@ come_whole {named} {scope} {found} {made} {before} {opened} {after} f s =
     }
 
 -- what a watcher found, all that was told behind it, and the refusal at its end
-pub told_whole : {named : NamedTelling} {scope : Scope} {found : List MirrorView} {before opened : Option (List Item)} (after : Option (List Item)) (begun done : Option (List ℕ)) → HasFound scope before opened found → HasToldAllOut named portion scope found opened after begun done
-    → (mirrors : List MirrorView) × (portions : List (List PostView)) × (rest : List PostView) × (refusal : List ℕ) × HasTold scope portions rest refusal before after mirrors × Appends begun done (posts_told named mirrors (all_posts portions rest) ++ ended refusal)
-told_whole {named} {scope} {found} {before} {opened} after begun done f h =
-    let a : HasToldAll named portion scope h.0 found opened after begun h.1 = h.2 in
+pub told_whole : {W : Type 0} {w : OutputGhosts W} {named : NamedTelling} {scope : Scope} {found : List MirrorView} {before opened : Option (List Item)} (after : Option (List Item)) (begun done : Option (List ℕ)) {k l m : W} → HasFound scope before opened found → IsOut w (ended (watch_text scope)) k l
+    → ((all : HasToldAllOut named portion scope found opened after begun done) × IsOutOrBroken w (follows_text portion (length all.2.so.portions + 1)) l m) → (mirrors : List MirrorView) × (portions : List (List PostView)) × (rest : List PostView) × (refusal : List ℕ) × HasTold scope portions rest refusal before after mirrors × Appends begun done (posts_told named mirrors (all_posts portions rest) ++ ended refusal)
+    × IsOutOrBroken w (telling_text scope (length portions + 1)) k m
+told_whole {W} {w} {named} {scope} {found} {before} {opened} after begun done f sent h =
+    let a : HasToldAll named portion scope h.0.0 found opened after begun h.0.1 = h.0.2 in
     let s = a.so in
     let t = s.told in (
       found,
       s.portions,
       s.rest,
-      h.0,
+      h.0.0,
       record { middle = a.middle; came = come_whole f s; refused = a.refused },
-      Appends-trans begun h.1 done (posts_told named found (all_posts s.portions s.rest)) (ended h.0) t.out h.3,
+      Appends-trans begun h.0.1 done (posts_told named found (all_posts s.portions s.rest)) (ended h.0.0) t.out h.0.3,
+      telling_asked scope (length s.portions + 1) sent h.1,
     )
 
 -- what was told behind what a watcher found, up to a fault
@@ -272,7 +304,7 @@ both_lines f h =
 
 -- one post, of its first line and so many behind it
 pub one_told : {named : NamedTelling} {behind : ℕ} {first : List ℕ} {post : PostView} {old new : List MirrorView} {before middle after : Option (List Item)} {begun done : Option (List ℕ)}
-    → ComeFirst before (first ∷ []) middle → Some behind ≡ event_count (words first) → IsPosted first middle after post → IsPost post → is_due All old post ≡ true → new ≡ mirrors_with old post → Appends begun done (told_in named old post)
+    → ComeFirst before (first ∷ []) middle → Some behind ≡ event_count (words first) → IsPosted first middle after post → IsSentPost post → is_due All old post ≡ true → new ≡ mirrors_with old post → Appends begun done (told_in named old post)
     → HasToldLines named (1 + behind) old new before after begun done
 one_told {named} {behind} {first} {post} {old} {new} {before} {middle} {after} {begun} there counts p valid due make out =
     let same = same_Some behind (length p.others) (counts ∙ p.counted) in

@@ -9,10 +9,10 @@ use Rattle.mt_info.specs.Laws.{IsRow}
 use Rattle.mt_info.specs.RowLine.{line}
 use Rattle.mt_info.specs.Table.{row_id}
 use Rattle.mt_info.specs.declared.row.Row.{Row}
-use Rattle.mt_events.specs.Posts.{PostView, IsPost, post_lines}
-use Rattle.mt_events.specs.Mirrors.{MirrorView, are_next}
+use Rattle.mt_events.specs.Posts.{PostView, post_lines}
+use Rattle.mt_events.specs.Mirrors.{MirrorView}
 use Rattle.mt_client.specs.Reading.{texts}
-use Rattle.mt_client.specs.Mirroring.{IsRefusal, IsShown, counted_line, opening_lines}
+use Rattle.mt_client.specs.Mirroring.{IsSentPost, may_all_come, IsRefusal, IsShown, counted_line, opening_lines}
 
 -- one line, which refuses
 abbrev pub IsOneRefusal : List (List ℕ) → Type 0
@@ -44,21 +44,21 @@ pub record IsOpening (space : ℕ) (lines : List (List ℕ)) : Type 0 where
 -- the lines of a post that a test accepts
 pub record IsSuchPost (test : PostView → Bool) (lines : List (List ℕ)) : Type 0 where
   pub post : PostView
-  pub valid : IsPost post
+  pub valid : IsSentPost post
   pub such : test post ≡ true
   pub all : lines ≡ post_lines post
 
 -- the lines of a post behind its first one
 abbrev pub IsPostBehind : List ℕ → List (List ℕ) → Type 0
-IsPostBehind first others = (post : PostView) × IsPost post × (first ∷ others ≡ post_lines post)
+IsPostBehind first others = (post : PostView) × IsSentPost post × (first ∷ others ≡ post_lines post)
 
 -- where the lines of a post come behind a first line, it is this one, and all of them are read, and no others
 abbrev pub IsOnlyPost : List ℕ → Option (List Item) → Option (List Item) → PostView → Type 0
-IsOnlyPost first before after post = (other : PostView) (others : List (List ℕ)) (rest : List Item) → IsPost other → first ∷ others ≡ post_lines other → before ≡ Some (texts others ++ rest) → (other ≡ post) × (after ≡ Some rest)
+IsOnlyPost first before after post = (other : PostView) (others : List (List ℕ)) (rest : List Item) → IsSentPost other → first ∷ others ≡ post_lines other → before ≡ Some (texts others ++ rest) → (other ≡ post) × (after ≡ Some rest)
 
 -- where the lines of a post come first, it was applied, and all of them are read, and no others
 abbrev pub IsOnlyApplied : {S : Type 0} → (S → PostView → S) → S → S → Option (List Item) → Option (List Item) → Type 0
-IsOnlyApplied apply old new before after = (post : PostView) (rest : List Item) → IsPost post → before ≡ Some (texts (post_lines post) ++ rest) → (new ≡ apply old post) × (after ≡ Some rest)
+IsOnlyApplied apply old new before after = (post : PostView) (rest : List Item) → IsSentPost post → before ≡ Some (texts (post_lines post) ++ rest) → (new ≡ apply old post) × (after ≡ Some rest)
 
 -- the line behind so many posts: this end where all have come, or a refusal
 abbrev pub IsLast : List ℕ → ℕ → ℕ → List ℕ → Type 0
@@ -69,8 +69,8 @@ pub record IsFollowing (end : List ℕ) (count : ℕ) (mirror : MirrorView) (lin
   pub posts : List PostView
   pub last : List ℕ
   pub all : lines ≡ flat_map post_lines posts ++ last ∷ []
-  pub valid : AllByRecursion IsPost posts
-  pub next : are_next mirror posts ≡ true
+  pub valid : AllByRecursion IsSentPost posts
+  pub next : may_all_come mirror posts ≡ true
   pub ends : IsLast end count (length posts) last
 
 -- the line that ends so many posts

@@ -11,7 +11,7 @@ use Rattle.mt_client.specs.declared.fault.ClientFault.{ClientFault}
 use Rattle.mt_client.specs.declared.fault.ClientFault.TheVariants.{Connection, Output}
 use Rattle.mt_events.specs.Posts.{ended}
 use Rattle.mt_client.specs.Requests.{is_refusal}
-use Rattle.mt_client.specs.Reading.{known_lines, printed, ComeFirst, prepend_lines, HasBroken, IsBroken, IsCutOff, NoneFirst}
+use Rattle.mt_client.specs.Reading.{known_lines, printed, ComeFirst, prepend_lines, HasBroken, IsBroken, IsCutOff, AreSent, NoneFirst}
 use Rattle.mt_client.specs.Mirroring.{HasRefused}
 use Rattle.mt_client.specs.Missing.{IsMissing}
 
@@ -40,6 +40,14 @@ pub record IsOut {W : Type 0} (g : OutputGhosts W) (text : List ℕ) (old new : 
 -- calls of an output failed
 abbrev pub Breaks : {W : Type 0} → OutputGhosts W → W → W → Type 0
 Breaks g old new = IsTrue g.counts → HasBroken (g.failed old) (g.failed new) (g.faults old) (g.faults new)
+
+-- this text went out, or calls of the output failed
+abbrev pub IsOutOrBroken : {W : Type 0} → OutputGhosts W → List ℕ → W → W → Type 0
+IsOutOrBroken g text old new = Appends (g.contents old) (g.contents new) text ⊎ Breaks g old new
+
+-- some of these requests went out, from the first one on, each whole; or calls of the writer failed
+abbrev pub AreOutOrBroken : {W : Type 0} → OutputGhosts W → List (List ℕ) → W → W → Type 0
+AreOutOrBroken g requests old new = AreSent requests (g.contents old) (g.contents new) ⊎ Breaks g old new
 
 -- calls of an output failed, and a part of this text went out, and not all
 pub record IsOutInPart {W : Type 0} (g : OutputGhosts W) (text : List ℕ) (old new : W) : Type 0 where

@@ -3,11 +3,11 @@
 use Rattle.std.specs.Prelude.{◌≡◌, ℕ, ◌≤◌, ◌<◌, true, List, [], ◌∷◌, ◌++◌, length, Option, Some}
 use Rattle.std.specs.List.{flat_map, AllByRecursion}
 use Rattle.mt_lines.specs.Lines.{Item}
-use Rattle.mt_events.specs.Posts.{PostView, IsPost, post_lines}
+use Rattle.mt_events.specs.Posts.{PostView, post_lines}
 use Rattle.mt_events.specs.Mirrors.{MirrorView}
 use Rattle.mt_events.specs.declared.opening.Scope.{Scope}
 use Rattle.mt_client.specs.Reading.{texts}
-use Rattle.mt_client.specs.Mirroring.{IsRefusal, counted_line}
+use Rattle.mt_client.specs.Mirroring.{IsSentPost, IsRefusal, counted_line}
 use Rattle.mt_client.specs.Awaited.{IsLast}
 use Rattle.mt_client.specs.Finding.{AreShown, found_lines}
 use Rattle.mt_client.specs.Telling.{mirrors_by, are_due, portion, all_posts}
@@ -17,7 +17,7 @@ pub record AreDuePosts (count : ℕ) (scope : Scope) (mirrors : List MirrorView)
   pub posts : List PostView
   pub last : List ℕ
   pub all : lines ≡ flat_map post_lines posts ++ last ∷ []
-  pub valid : AllByRecursion IsPost posts
+  pub valid : AllByRecursion IsSentPost posts
   pub due : are_due scope mirrors posts ≡ true
   pub ends : IsLast (counted_line count) count (length posts) last
 
@@ -37,7 +37,7 @@ pub record AreDuePortions (count : ℕ) (scope : Scope) (mirrors : List MirrorVi
   pub whole : AllByRecursion (λ posts. length posts ≡ count) portions
   pub within : length rest ≤ count
   pub bounded : length portions < most_portions
-  pub valid : AllByRecursion IsPost (all_posts portions rest)
+  pub valid : AllByRecursion IsSentPost (all_posts portions rest)
   pub due : are_due scope mirrors (all_posts portions rest) ≡ true
   pub refused : IsRefusal refusal
   pub all : lines ≡ flat_map (portion_lines count) portions ++ (flat_map post_lines rest ++ refusal ∷ [])

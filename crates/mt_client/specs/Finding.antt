@@ -1,6 +1,6 @@
 -- What a watcher finds: the namespaces of its scope, each with the number of its last post and its table.
 -- A word with no source is this project's rule.
-use Rattle.std.specs.Prelude.{◌≡◌, ℕ, ◌+◌, ◌≤◌, List, [], ◌∷◌, ◌++◌, map, length, Option, IsTrue, codes}
+use Rattle.std.specs.Prelude.{◌≡◌, ℕ, ◌+◌, ◌≤◌, List, [], ◌∷◌, map, length, Option, IsTrue, codes}
 use Rattle.std.specs.List.{flat_map, AllByRecursion}
 use Rattle.mt_skel.specs.Keyed.{rises}
 use Rattle.mt_lines.specs.Lines.{Item}
@@ -10,7 +10,7 @@ use Rattle.mt_events.specs.declared.opening.Part.{Part}
 use Rattle.mt_events.specs.declared.opening.Scope.{Scope}
 use Rattle.mt_events.specs.declared.opening.Scope.TheVariants.{One, All}
 use Rattle.mt_events.specs.Texts.{opening_text}
-use Rattle.mt_client.specs.Limits.{most_opening_lines}
+use Rattle.mt_client.specs.Limits.{most_opening_lines, most_spaces}
 use Rattle.mt_client.specs.Requests.{numbered_text}
 use Rattle.mt_client.specs.Reading.{printed, ComeFirst}
 use Rattle.mt_client.specs.Mirroring.{IsShown, counted_line, part_lines}
@@ -32,10 +32,10 @@ parts_lines parts = flat_map part_lines parts
 abbrev pub found_lines : List MirrorView → List (List ℕ)
 found_lines parts = counted_line (length (parts_lines parts)) ∷ parts_lines parts
 
--- the namespaces of a scope: the one, or all that there are, by rising number
+-- the namespaces of a scope: the one, or all that there are, by rising number, and no more than there may be
 abbrev pub AreOf : Scope → List MirrorView → Type 0
 AreOf (One space) parts = map mirror_space parts ≡ space ∷ []
-AreOf All parts = IsTrue (rises mirror_space parts)
+AreOf All parts = IsTrue (rises mirror_space parts) × (length parts ≤ most_spaces)
 
 -- namespaces that a server can show to a watcher of this scope, of no more lines than there may be
 pub record AreShown (scope : Scope) (parts : List MirrorView) : Type 0 where

@@ -10,6 +10,18 @@ most_rows = 4096
 abbrev pub most_opening_lines : ℕ
 most_opening_lines = 4160
 
+-- the lines of a post behind its first one: as many mounts that left, and as many rows, as there may be
+abbrev pub most_post_lines : ℕ
+most_post_lines = 8192
+
+-- the lines of the posts that wait: 1,024 posts, which is all that a queue holds, each with its first line
+abbrev pub most_waiting_lines : ℕ
+most_waiting_lines = 8389632
+
+-- the namespaces
+abbrev pub most_spaces : ℕ
+most_spaces = 64
+
 -- a number that is no greater than this
 abbrev pub at_most : ℕ → Option ℕ → Option ℕ
 at_most most None = None

@@ -1,6 +1,6 @@
 -- What a mirror reads: the opening of a watcher of one namespace, posts that follow it, and their end.
 -- A word with no source is this project's rule.
-use Rattle.std.specs.Prelude.{◌≡◌, ℕ, ◌+◌, ◌≤◌, ◌<◌, ◌^◌, true, List, [], ◌∷◌, ◌++◌, map, length, IsTrue, Option, Some, codes, decimal, ◌⊎◌}
+use Rattle.std.specs.Prelude.{◌≡◌, ℕ, ◌+◌, ◌≤◌, ◌<◌, ◌^◌, Bool, true, ◌&&◌, nat_le, List, [], ◌∷◌, ◌++◌, map, length, IsTrue, Option, Some, codes, decimal, ◌⊎◌}
 use Rattle.std.specs.List.{flat_map, join_with_byte, AllByRecursion}
 use Rattle.mt_skel.specs.Keyed.{rises}
 use Rattle.mt_lines.specs.Lines.{Item}
@@ -9,7 +9,7 @@ use Rattle.mt_info.specs.Table.{row_id}
 use Rattle.mt_info.specs.Laws.{IsRow}
 use Rattle.mt_info.specs.RowLine.{line}
 use Rattle.mt_events.specs.Posts.{PostView, IsPost, post_text, ended}
-use Rattle.mt_events.specs.Mirrors.{MirrorView, are_next, mirrored_by}
+use Rattle.mt_events.specs.Mirrors.{MirrorView, is_next, mirrored, mirrored_by}
 use Rattle.mt_events.specs.declared.opening.Opening.{Opening}
 use Rattle.mt_events.specs.declared.opening.Scope.TheVariants.{One}
 use Rattle.mt_events.specs.Texts.{count_text, opening_text, followed_text}
@@ -52,9 +52,24 @@ pub record IsShown (m : MirrorView) : Type 0 where
   pub rows : AllByRecursion IsRow m.rows
   pub rising : IsTrue (rises row_id m.rows)
 
--- posts of which each is the next one of the mirror that those before it have made, and the mirror that they make
+-- what is true of every post that a server sends: no more mounts left a table, and no more rows come, than there may be
+pub record IsSentPost (p : PostView) : Type 0 where
+  pub valid : IsPost p
+  pub gone : length p.gone ≤ most_rows
+  pub rows : length p.rows ≤ most_rows
+
+-- a post that may come to a mirror: the next one, and the table has no more rows then than there may be
+abbrev pub may_come : MirrorView → PostView → Bool
+may_come m p = is_next m p && nat_le (length (mirrored m p).rows) most_rows
+
+-- each of the posts may come to the mirror that those before it have made
+abbrev pub may_all_come : MirrorView → List PostView → Bool
+may_all_come m [] = true
+may_all_come m (p ∷ ps) = may_come m p && may_all_come (mirrored m p) ps
+
+-- posts of which each may come to the mirror that those before it have made, and the mirror that they make
 pub record AreMirrored (posts : List PostView) (old new : MirrorView) : Type 0 where
-  pub are : are_next old posts ≡ true
+  pub are : may_all_come old posts ≡ true
   pub make : new ≡ mirrored_by old posts
 
 -- these lines were read of an opening that a server can show, and are its text
@@ -74,7 +89,7 @@ pub record IsPosted (first : List ℕ) (before after : Option (List Item)) (post
 pub record HasFollowed (before after : Option (List Item)) (old new : MirrorView) : Type 0 where
   pub lines : List (List ℕ)
   pub post : PostView
-  pub valid : IsPost post
+  pub valid : IsSentPost post
   pub read : ComeFirst before lines after
   pub text : printed lines ≡ post_text post
   pub follows : AreMirrored (post ∷ []) old new
@@ -83,7 +98,7 @@ pub record HasFollowed (before after : Option (List Item)) (old new : MirrorView
 pub record HasFollowedSome (count : ℕ) (before after : Option (List Item)) (old new : MirrorView) : Type 0 where
   pub lines : List (List ℕ)
   pub posts : List PostView
-  pub valid : AllByRecursion IsPost posts
+  pub valid : AllByRecursion IsSentPost posts
   pub read : ComeFirst before lines after
   pub text : printed lines ≡ flat_map post_text posts
   pub many : length posts ≡ count
@@ -93,7 +108,7 @@ pub record HasFollowedSome (count : ℕ) (before after : Option (List Item)) (ol
 pub record HasFollowedAll (count : ℕ) (before after : Option (List Item)) (old new : MirrorView) : Type 0 where
   pub lines : List (List ℕ)
   pub posts : List PostView
-  pub valid : AllByRecursion IsPost posts
+  pub valid : AllByRecursion IsSentPost posts
   pub read : ComeFirst before lines after
   pub text : printed lines ≡ followed_text posts (count_text count)
   pub many : length posts ≡ count
@@ -110,7 +125,7 @@ pub record HasMirrored (space count : ℕ) (before after : Option (List Item)) (
   pub posts : List PostView
   pub lines : List (List ℕ)
   pub shown : IsShown found
-  pub valid : AllByRecursion IsPost posts
+  pub valid : AllByRecursion IsSentPost posts
   pub of : found.space ≡ space
   pub read : ComeFirst before lines after
   pub text : printed lines ≡ opening_text (opening_with found) ++ followed_text posts (count_text count)

@@ -3,11 +3,12 @@
 use Rattle.std.specs.Prelude.{◌≡◌, ℕ, ◌+◌, Bool, true, List, ◌∷◌, ◌++◌, length, Option, Some, ◌⊎◌}
 use Rattle.std.specs.List.{flat_map, AllByRecursion}
 use Rattle.mt_lines.specs.Lines.{Item}
-use Rattle.mt_events.specs.Posts.{PostView, IsPost, post_lines}
+use Rattle.mt_events.specs.Posts.{PostView, post_lines}
 use Rattle.mt_events.specs.Mirrors.{MirrorView}
 use Rattle.mt_events.specs.declared.opening.Scope.TheVariants.{All}
 use Rattle.mt_protocol.specs.Verbs.{form_of}
 use Rattle.mt_client.specs.Requests.{waiting_count}
+use Rattle.mt_client.specs.Mirroring.{IsSentPost}
 use Rattle.mt_client.specs.Reading.{texts, HasRead, NoneFirst}
 use Rattle.mt_client.specs.Replies.{IsAnswer}
 use Rattle.mt_client.specs.Awaited.{IsOneRefusal, IsRefusedOr}
@@ -17,7 +18,7 @@ use Rattle.mt_client.specs.Telling.{mirrors_with, are_due}
 -- so many lines, which are those of posts that are due
 pub record AreDueLines (count : ℕ) (mirrors : List MirrorView) (lines : List (List ℕ)) : Type 0 where
   pub posts : List PostView
-  pub valid : AllByRecursion IsPost posts
+  pub valid : AllByRecursion IsSentPost posts
   pub due : are_due All mirrors posts ≡ true
   pub many : length lines ≡ count
   pub all : lines ≡ flat_map post_lines posts
@@ -50,4 +51,4 @@ IsMissingEffect unsent line before =
 -- where the lines of a post come first, so many stand behind its first one, it was applied, and all of them are read, and no others
 abbrev pub IsOnlyCounted : ℕ → List MirrorView → List MirrorView → Option (List Item) → Option (List Item) → Type 0
 IsOnlyCounted behind old new before after =
-    (post : PostView) (rest : List Item) → IsPost post → before ≡ Some (texts (post_lines post) ++ rest) → (length (post_lines post) ≡ 1 + behind) × (new ≡ mirrors_with old post) × (after ≡ Some rest)
+    (post : PostView) (rest : List Item) → IsSentPost post → before ≡ Some (texts (post_lines post) ++ rest) → (length (post_lines post) ≡ 1 + behind) × (new ≡ mirrors_with old post) × (after ≡ Some rest)

@@ -1,6 +1,6 @@
 -- What a client has read of a connection, and what it has printed of it.
 -- A word with no source is this project's rule.
-use Rattle.std.specs.Prelude.{◌≡◌, ◌≢◌, ℕ, ◌<◌, List, [], ◌∷◌, ◌++◌, map, take, length, Option, Some, ◌⊎◌}
+use Rattle.std.specs.Prelude.{◌≡◌, ◌≢◌, ℕ, ◌<◌, ◌≤◌, List, [], ◌∷◌, ◌++◌, map, take, length, Option, Some, ◌⊎◌}
 use Rattle.std.specs.List.{flat_map}
 use Rattle.std.specs.Option.{option_map}
 use Rattle.std.specs.Io.KnownBytes.{Appends}
@@ -24,6 +24,13 @@ known_lines r = option_map (lines_of (limit_of r)) (known_left r)
 pub record IsSentPart (text : List ℕ) (old new : Option (List ℕ)) : Type 0 where
   pub count : ℕ
   pub out : Appends old new (take count text)
+
+-- some of these requests went out, from the first one on, each whole
+pub record AreSent (requests : List (List ℕ)) (old new : Option (List ℕ)) : Type 0 where
+  pub count : ℕ
+  pub some : 1 ≤ count
+  pub within : count ≤ length requests
+  pub out : Appends old new (flat_map ended (take count requests))
 
 -- what a fault of a reader is to a client
 abbrev pub reading_fault : ReadFault → ClientFault

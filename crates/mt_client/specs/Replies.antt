@@ -7,7 +7,7 @@ use Rattle.mt_lines.specs.Words.{words}
 use Rattle.mt_info.specs.Laws.{IsRow}
 use Rattle.mt_info.specs.RowLine.{line}
 use Rattle.mt_info.specs.declared.row.Row.{Row}
-use Rattle.mt_events.specs.Posts.{PostView, IsPost, post_text}
+use Rattle.mt_events.specs.Posts.{PostView, post_text}
 use Rattle.mt_protocol.specs.declared.form.Form.{Form}
 use Rattle.mt_protocol.specs.declared.form.Form.TheVariants.{Table, Opening, Posts, Followed}
 use Rattle.mt_client.specs.declared.block.Block.{Block}
@@ -15,7 +15,7 @@ use Rattle.mt_client.specs.declared.block.Block.TheVariants.{Namespace, Post}
 use Rattle.mt_client.specs.Limits.{most_rows}
 use Rattle.mt_client.specs.Requests.{verdict, is_refusal, lines_behind, event_count}
 use Rattle.mt_client.specs.Reading.{printed}
-use Rattle.mt_client.specs.Mirroring.{counted_line, heading_words}
+use Rattle.mt_client.specs.Mirroring.{IsSentPost, counted_line, heading_words}
 use Rattle.mt_client.specs.Awaited.{AreRowLines}
 
 -- the line of the row of this ID, which is above the last one, if there was one
@@ -39,7 +39,7 @@ pub record IsPostLines (lines : List (List ℕ)) : Type 0 where
   pub post : PostView
   pub all : lines ≡ first ∷ others
   pub counted : event_count (words first) ≡ Some (length others)
-  pub valid : IsPost post
+  pub valid : IsSentPost post
   pub text : printed lines ≡ post_text post
 
 abbrev pub IsBlock : Block → List (List ℕ) → Type 0

@@ -6,7 +6,7 @@ use Rattle.std.specs.Option.{option_and_then}
 use Rattle.std.specs.Str.{bytes_eq}
 use Rattle.mt_skel.specs.Escapes.{escaped}
 use Rattle.mt_lines.specs.Words.{words, number_in_text}
-use Rattle.mt_client.specs.Limits.{most_rows, most_opening_lines, at_most}
+use Rattle.mt_client.specs.Limits.{most_rows, most_opening_lines, most_post_lines, most_waiting_lines, at_most}
 use Rattle.mt_protocol.specs.Refusals.{refusal_named}
 use Rattle.mt_protocol.specs.Verbs.{first_of}
 use Rattle.mt_protocol.specs.declared.form.Form.{Form}
@@ -68,7 +68,7 @@ lines_said Number words = none_behind (lone_number words)
 lines_said Place words = none_behind (placed_number words)
 lines_said Table words = table_count words
 lines_said Opening words = at_most most_opening_lines (lone_number words)
-lines_said Posts words = lone_number words
+lines_said Posts words = at_most most_waiting_lines (lone_number words)
 lines_said Followed words = None
 lines_said Never words = None
 
@@ -84,7 +84,7 @@ lines_behind form told line = if told then lines_said form (behind_first (words 
 abbrev pub waiting_count : List ℕ → Option ℕ
 waiting_count line = if has_first line (codes "ok") then lines_behind Posts true line else None
 
--- how many lines stand behind the first line of a post: the fourth of its words, of which the first is `event`
+-- how many lines stand behind the first line of a post, no more than there may be: the fourth of its words, of which the first is `event`
 abbrev pub event_count : List (List ℕ) → Option ℕ
-event_count (first ∷ second ∷ third ∷ fourth ∷ words) = if bytes_eq first (codes "event") then number_in_text fourth else None
+event_count (first ∷ second ∷ third ∷ fourth ∷ words) = if bytes_eq first (codes "event") then at_most most_post_lines (number_in_text fourth) else None
 event_count words = None

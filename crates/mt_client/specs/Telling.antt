@@ -1,13 +1,13 @@
 -- What a watcher is told in words: the posts that it is sent, each against the mirror of its namespace.
 -- A word with no source is this project's rule.
-use Rattle.std.specs.Prelude.{◌≡◌, ℕ, ◌==◌, ◌≤◌, cond, true, Bool, ◌&&◌, List, [], ◌∷◌, ◌++◌, length, replicate, codes, fold, Option, ◌⊎◌}
+use Rattle.std.specs.Prelude.{◌≡◌, ℕ, ◌==◌, ◌≤◌, cond, true, Bool, ◌&&◌, ◌||◌, nat_lt, List, [], ◌∷◌, ◌++◌, length, replicate, codes, fold, Option, ◌⊎◌}
 use Rattle.std.specs.Io.KnownBytes.{Appends, Keeps}
 use Rattle.std.specs.List.{flat_map, AllByRecursion}
 use Rattle.std.specs.Option.{option_map_or}
-use Rattle.mt_skel.specs.Keyed.{put, row_at}
+use Rattle.mt_skel.specs.Keyed.{put, without, row_at}
 use Rattle.mt_lines.specs.Lines.{Item}
-use Rattle.mt_events.specs.Posts.{PostView, IsPost, post_text, ended}
-use Rattle.mt_events.specs.Mirrors.{MirrorView, is_next, mirrored}
+use Rattle.mt_events.specs.Posts.{PostView, post_text, ended}
+use Rattle.mt_events.specs.Mirrors.{MirrorView, mirrored}
 use Rattle.mt_events.specs.Following.{names_space}
 use Rattle.mt_events.specs.Texts.{count_text, opening_text, followed_text}
 use Rattle.mt_events.specs.declared.opening.Scope.{Scope}
@@ -16,9 +16,10 @@ use Rattle.mt_client.specs.declared.named.NamedTelling.{NamedTelling}
 use Rattle.mt_client.specs.declared.named.SpaceName.{SpaceName}
 use Rattle.mt_client.specs.declared.fault.ClientFault.{ClientFault}
 use Rattle.mt_client.specs.declared.fault.ClientFault.TheVariants.{Connection, Output, NoMemory}
+use Rattle.mt_client.specs.Limits.{most_spaces}
 use Rattle.mt_client.specs.Requests.{numbered_text}
 use Rattle.mt_client.specs.Reading.{printed, ComeFirst, IsCutOff, IsPart}
-use Rattle.mt_client.specs.Mirroring.{HasRefused}
+use Rattle.mt_client.specs.Mirroring.{IsSentPost, may_come, HasRefused}
 use Rattle.mt_client.specs.Finding.{mirror_space, watch_text, AreShown, opening_found}
 
 -- the mirror of a namespace that came later
@@ -29,17 +30,29 @@ mirror_begun n = record { space = n; number = 0; rows = [] }
 abbrev pub mirror_in : List MirrorView → ℕ → MirrorView
 mirror_in mirrors n = option_map_or (λ (m : MirrorView). m) (row_at mirror_space n mirrors) (mirror_begun n)
 
+-- the mirrors with that of a namespace: one whose table is empty then was dropped, and comes no more
+abbrev pub with_mirror : MirrorView → List MirrorView → List MirrorView
+with_mirror m mirrors = cond (length m.rows == 0) (without (λ x. x.space == m.space) mirrors) (put mirror_space m mirrors)
+
+-- there is room for a mirror: its table is empty, or there are fewer others than there may be namespaces
+abbrev pub has_room : MirrorView → List MirrorView → Bool
+has_room m mirrors = (length m.rows == 0) || nat_lt (length (without (λ x. x.space == m.space) mirrors)) most_spaces
+
 -- the mirrors once a post was applied to that of its namespace
 abbrev pub mirrors_with : List MirrorView → PostView → List MirrorView
-mirrors_with mirrors p = put mirror_space (mirrored (mirror_in mirrors p.space) p) mirrors
+mirrors_with mirrors p = with_mirror (mirrored (mirror_in mirrors p.space) p) mirrors
 
 -- the mirrors once posts were applied, one after another
 abbrev pub mirrors_by : List MirrorView → List PostView → List MirrorView
 mirrors_by mirrors posts = fold mirrors_with mirrors posts
 
--- a post is of a namespace of the scope, and the next one of its mirror
+-- a post may come to its mirror, and there is room for that then
+abbrev pub fits : List MirrorView → PostView → Bool
+fits mirrors p = may_come (mirror_in mirrors p.space) p && has_room (mirrored (mirror_in mirrors p.space) p) mirrors
+
+-- a post is of a namespace of the scope, and fits its mirror
 abbrev pub is_due : Scope → List MirrorView → PostView → Bool
-is_due scope mirrors p = names_space scope p.space && is_next (mirror_in mirrors p.space) p
+is_due scope mirrors p = names_space scope p.space && fits mirrors p
 
 -- each of the posts is due to the mirrors that those before it have made
 abbrev pub are_due : Scope → List MirrorView → List PostView → Bool
@@ -86,7 +99,7 @@ pub record HasCome (scope : Scope) (portions : List (List PostView)) (rest : Lis
   pub shown : AreShown scope found
   pub whole : AllByRecursion (λ posts. length posts ≡ portion) portions
   pub within : length rest ≤ portion
-  pub valid : AllByRecursion IsPost (all_posts portions rest)
+  pub valid : AllByRecursion IsSentPost (all_posts portions rest)
   pub due : are_due scope found (all_posts portions rest) ≡ true
   pub read : ComeFirst before lines after
   pub text : printed lines ≡ opening_text (opening_found scope found) ++ portions_text portion portions rest
@@ -108,7 +121,7 @@ pub record IsHalfTold (named : NamedTelling) (scope : Scope) (mirrors : List Mir
   pub post : PostView
   pub lines : List (List ℕ)
   pub later : Option (List Item)
-  pub valid : IsPost post
+  pub valid : IsSentPost post
   pub due : is_due scope mirrors post ≡ true
   pub read : ComeFirst before lines later
   pub text : printed lines ≡ post_text post
@@ -128,7 +141,7 @@ IsBrokenOff named fault scope before old new =
 -- lines were read that are this text, of these posts, which are due; they were told, and the mirrors have followed
 pub record AreTold (named : NamedTelling) (scope : Scope) (posts : List PostView) (said : List ℕ) (old new : List MirrorView) (before after : Option (List Item)) (begun done : Option (List ℕ)) : Type 0 where
   pub lines : List (List ℕ)
-  pub valid : AllByRecursion IsPost posts
+  pub valid : AllByRecursion IsSentPost posts
   pub due : are_due scope old posts ≡ true
   pub make : new ≡ mirrors_by old posts
   pub read : ComeFirst before lines after

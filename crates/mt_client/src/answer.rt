@@ -3,7 +3,7 @@ ghost use Rattle.std.specs.Prelude.{◌≡◌};
 ghost use Rattle.mt_client.specs.Limits.{at_most};
 ghost use Rattle.mt_client.specs.Requests.{verdict, is_refusal, lone_number, placed_number, table_count, lines_said, lines_behind, waiting_count};
 
-use crate::opening::{MOST_LINES, MOST_ROWS};
+use crate::opening::{MOST_LINES, MOST_ROWS, MOST_WAITING_LINES};
 use mt_lines::words::{Words, number, words};
 use mt_protocol::form::{Form, first_word};
 use mt_protocol::refusal::refusal_named;
@@ -57,7 +57,7 @@ fn placed_number(words: &mut Words<'_>) -> Option<u64>
 }
 
 /// A number that is no greater than this.
-fn at_most(most: u64, number: Option<u64>) -> Option<u64>
+pub(crate) fn at_most(most: u64, number: Option<u64>) -> Option<u64>
     ensures { result ≡ at_most most number }
 {
     match number {
@@ -97,7 +97,7 @@ fn lines_said(form: Form, words: &mut Words<'_>) -> Option<u64>
         }
         Form::Table => table_count(words),
         Form::Opening => at_most(MOST_LINES, lone_number(words)),
-        Form::Posts => lone_number(words),
+        Form::Posts => at_most(MOST_WAITING_LINES, lone_number(words)),
         Form::Followed | Form::Never => None,
     }
 }

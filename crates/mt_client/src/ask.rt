@@ -5,6 +5,7 @@ ghost use Rattle.mt_lines.specs.Reading.{last_faults, fault_of, limit_of};
 ghost use Rattle.mt_events.specs.Posts.{ended};
 ghost use Rattle.mt_protocol.specs.Verbs.{form_of};
 ghost use Rattle.mt_client.specs.Requests.{request_text};
+ghost use Rattle.mt_client.specs.Calls.{IsOutOrBroken};
 ghost use Rattle.mt_client.specs.Awaited.{IsOneRefusal};
 ghost use Rattle.mt_client.specs.Replies.{IsAnswer};
 ghost use Rattle.mt_client.specs.Reading.{known_lines, HasPassed, HasBroken, IsBroken, IsSentPart, IsCut};
@@ -39,6 +40,7 @@ pub fn ask_line<R: Input + Drop, W: Output, O: Output>(
     // The whole line of the request went out, or calls of the writer failed, and then a part of it did.
     ensures sent { result ≡ Ok true → Appends (W.contents writer.old) (W.contents writer.new) (ended line.now) }
     ensures part { IsSentPart (ended line.now) (W.contents writer.old) (W.contents writer.new) }
+    ensures asked { OnOk result (IsOutOrBroken W.Output (ended line.now) writer.old writer.new) }
 
     // The lines that were read are a whole answer to the request, `ok` or `no` as is told, and these lines were
     // printed. Up to a fault those that were read whole were printed, of the last a part where the output failed.
@@ -93,6 +95,7 @@ pub fn ask<R: Input + Drop, W: Output, O: Output>(
     // The whole line of the request went out, or calls of the writer failed, and then a part of it did.
     ensures sent { result ≡ Ok true → Appends (W.contents writer.old) (W.contents writer.new) (ended (request_text (map (λ word. word.now) words.now))) }
     ensures part { IsSentPart (ended (request_text (map (λ word. word.now) words.now))) (W.contents writer.old) (W.contents writer.new) }
+    ensures asked { OnOk result (IsOutOrBroken W.Output (ended (request_text (map (λ word. word.now) words.now))) writer.old writer.new) }
 
     // The lines that were read are a whole answer to the request, `ok` or `no` as is told, and these lines were
     // printed. Up to a fault those that were read whole were printed, of the last a part where the output failed.

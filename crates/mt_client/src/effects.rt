@@ -1,5 +1,5 @@
 //! What a line changes, told.
-ghost use Rattle.std.specs.Prelude.{◌≡◌, ℕ, ◌+◌, ◌⊎◌, List, [], ◌++◌, true, false, Option, None, Ok, Err, IfOk, IfErr, OnOk, IsTrue};
+ghost use Rattle.std.specs.Prelude.{◌≡◌, ℕ, ◌+◌, ◌⊎◌, List, [], ◌∷◌, ◌++◌, true, false, Option, None, Ok, Err, IfOk, IfErr, OnOk, IsTrue};
 ghost use Rattle.std.specs.Io.KnownBytes.{Appends};
 ghost use Rattle.mt_skel.specs.Keyed.{rises};
 ghost use Rattle.mt_lines.specs.Reading.{failed_calls, last_faults, fault_of, limit_of};
@@ -8,9 +8,9 @@ ghost use Rattle.mt_events.specs.Posts.{ended};
 ghost use Rattle.mt_protocol.specs.Verbs.{form_of};
 ghost use Rattle.mt_client.specs.Replies.{IsAnswer};
 ghost use Rattle.mt_client.specs.Reading.{known_lines, HasBroken, IsSentPart, HasPassed};
-ghost use Rattle.mt_client.specs.Calls.{ReadsOn, WritesOn, IsOut, IsTellFault, IsEffectFault};
+ghost use Rattle.mt_client.specs.Calls.{ReadsOn, WritesOn, IsOut, IsOutOrBroken, AreOutOrBroken, IsTellFault, IsEffectFault};
 ghost use Rattle.mt_client.specs.Awaited.{IsRefusedOr, IsSuchPost};
-ghost use Rattle.mt_client.specs.Finding.{mirror_space};
+ghost use Rattle.mt_client.specs.Finding.{mirror_space, watch_text};
 ghost use Rattle.mt_client.specs.Telling.{is_due, IsStopped};
 ghost use Rattle.mt_client.specs.Effects.{taking_text, effects_text, HasToldLines, HasToldTaken, HasEffects, IsRefusedOut, IsRefusedLine, IsRefusedEffect, IsToldShort, IsTakenShort, IsAnsweredShort, IsEffectShort};
 ghost use Rattle.mt_client.specs.Missing.{AreDueLines, IsWaiting, IsMissing, IsMissingAnswer, IsMissingEffect, IsOnlyCounted};
@@ -136,6 +136,7 @@ fn tell_changes<R: Input + Drop, W: Output, O: Output>(
     ensures broken { IfErr result
         (λ fault. IsTakenShort named.now fault mirrors.old.items (known_lines lines.old) (O.contents out.old) (O.contents out.new)) }
     ensures sent { result ≡ Ok true → IsOut W.Output (ended taking_text) writer.old writer.new }
+    ensures asked { OnOk result (IsOutOrBroken W.Output (ended taking_text) writer.old writer.new) }
     ensures on { OnOk result (ReadsOn lines.old lines.new) }
     ensures prints { OnOk result (WritesOn O.Output out.old out.new) }
     ensures fault { IfErr result (λ fault. IsEffectFault W.Output O.Output fault (λ unsent. IsMissing unsent (IsRefusedOr (IsWaiting mirrors.old.items)) (known_lines lines.old)) lines.old lines.new writer.old writer.new out.old out.new) }
@@ -165,6 +166,7 @@ fn tell_answered<R: Input + Drop, W: Output, O: Output>(
     ensures broken { IfErr result
         (λ fault. IsAnsweredShort named.now fault line.now mirrors.old.items (known_lines lines.old) (O.contents out.old) (O.contents out.new)) }
     ensures sent { result ≡ Ok true → IsOut W.Output (ended line.now ++ ended taking_text) writer.old writer.new }
+    ensures asked { result ≡ Ok false → AreOutOrBroken W.Output (line.now ∷ taking_text ∷ []) writer.old writer.new }
     ensures part { IsSentPart (ended line.now ++ ended taking_text) (W.contents writer.old) (W.contents writer.new) }
     ensures on { OnOk result (ReadsOn lines.old lines.new) }
     ensures prints { OnOk result (WritesOn O.Output out.old out.new) }
@@ -190,9 +192,9 @@ fn tell_answered<R: Input + Drop, W: Output, O: Output>(
 ///
 /// Answers whether the line was answered `ok`, and its changes were told; where not, a refusal was printed, and nothing
 /// behind it. Refused as `Connection` where the connection fails or ends early, or where what comes is no opening, no
-/// answer to the line, or no posts, each the next one of its namespace; as `Output` where what was to be printed does not
-/// go out, and else as `NoMemory`. But for `Output` whole lines of the answer were printed then, and behind a whole answer
-/// posts that had come, each whole.
+/// answer to the line, or no posts, each the next one of its namespace, or more than a server has; as `Output` where what
+/// was to be printed does not go out, and else as `NoMemory`. But for `Output` whole lines of the answer were printed then,
+/// and behind a whole answer posts that had come, each whole.
 pub fn tell_effects<R: Input + Drop, W: Output, O: Output>(
     alloc: Global,
     lines: &mut LineReader<R>,
@@ -218,9 +220,10 @@ pub fn tell_effects<R: Input + Drop, W: Output, O: Output>(
         (λ fault. IsEffectShort named.now fault line.now (known_lines lines.old) (O.contents out.old) (O.contents out.new)) }
 
     // The request of the watcher went out, then the line, and then that for the posts; or a part of these, and nothing
-    // else.
+    // else. Where a refusal was printed, some of them did, each whole, or calls of the writer failed.
     ensures sent { result ≡ Ok true → Appends (W.contents writer.old) (W.contents writer.new) (effects_text line.now) }
     ensures part { IsSentPart (effects_text line.now) (W.contents writer.old) (W.contents writer.new) }
+    ensures asked { result ≡ Ok false → AreOutOrBroken W.Output (watch_text All ∷ line.now ∷ taking_text ∷ []) writer.old writer.new }
 
     // `Connection` only where calls of the reader failed, or the lines do not begin with what a watcher of all namespaces
     // finds, or behind that with an answer to the line, or behind that with the posts that wait, nor with a refusal in the

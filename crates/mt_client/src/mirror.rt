@@ -3,12 +3,12 @@ ghost use Rattle.std.specs.Prelude.{◌≡◌, ◌≢◌, ◌⊎◌, ℕ, List, 
 ghost use Rattle.std.specs.Io.KnownBytes.{Appends, Keeps};
 ghost use Rattle.mt_lines.specs.Reading.{last_faults, fault_of, last_line, limit_of};
 ghost use Rattle.mt_events.specs.Texts.{table_text};
-ghost use Rattle.mt_events.specs.Mirrors.{MirrorView, is_next, mirrored};
+ghost use Rattle.mt_events.specs.Mirrors.{MirrorView, mirrored};
 ghost use Rattle.mt_events.specs.Posts.{ended};
 ghost use Rattle.mt_client.specs.Reading.{known_lines, ComeFirst, HasBroken, IsSentPart, NoneFirst, IsCut};
-ghost use Rattle.mt_client.specs.Calls.{ReadsOn, WritesOn, IsOut, IsReadFault, IsTalkFault, IsTurnedAway, IsAskFault};
+ghost use Rattle.mt_client.specs.Calls.{ReadsOn, WritesOn, IsOut, IsOutOrBroken, AreOutOrBroken, IsReadFault, IsTalkFault, IsTurnedAway, IsAskFault};
 ghost use Rattle.mt_client.specs.Requests.{numbered_text};
-ghost use Rattle.mt_client.specs.Mirroring.{counted_line, HasOpened, HasFollowed, HasFollowedAll, HasRefused, IsRefusedMidway, HasMirrored, requests_text, IsRefused};
+ghost use Rattle.mt_client.specs.Mirroring.{counted_line, may_come, HasOpened, HasFollowed, HasFollowedAll, HasRefused, IsRefusedMidway, HasMirrored, requests_text, IsRefused};
 ghost use Rattle.mt_client.specs.Awaited.{IsOneRefusal, IsRefusedOr, IsOpening, IsSuchPost, IsOnlyApplied, IsFollowing, IsEnd, IsMirroring};
 
 use crate::answer::is_refusal;
@@ -75,7 +75,7 @@ fn follow_post<R: Input + Drop>(
     ensures applied { result ≡ Ok true → IsOnlyApplied mirrored mirror.old mirror.new (known_lines lines.old) (known_lines lines.new) }
     ensures unrefused { result ≡ Ok true → NoneFirst IsOneRefusal (known_lines lines.old) }
     ensures on { OnOk result (ReadsOn lines.old lines.new) }
-    ensures fault { IfErr result (λ fault. IsReadFault fault (IsRefusedOr (IsSuchPost (is_next mirror.old))) (known_lines lines.old) lines.old lines.new) }
+    ensures fault { IfErr result (λ fault. IsReadFault fault (IsRefusedOr (IsSuchPost (may_come mirror.old))) (known_lines lines.old) lines.old lines.new) }
 {
     next_text(lines)?;
     if is_refusal(lines.line()) {
@@ -171,6 +171,7 @@ fn print_followed<R: Input + Drop, W: Output, O: Output>(
         × IsRefusedMidway count (last_line lines.new) (known_lines lines.old) (known_lines lines.new) mirror.old made }
     ensures refused { result ≡ Ok false → IsOut O.Output (ended (last_line lines.new)) out.old out.new }
     ensures sent { result ≡ Ok true → IsOut W.Output (ended (numbered_text (codes "follow") count)) writer.old writer.new }
+    ensures asked { OnOk result (IsOutOrBroken W.Output (ended (numbered_text (codes "follow") count)) writer.old writer.new) }
     ensures unsent { result ≡ Ok false → IsTrue W.counts → (W.faults writer.old ≡ [] → W.faults writer.new ≡ [])
         ⊎ HasBroken (W.failed writer.old) (W.failed writer.new) (W.faults writer.old) (W.faults writer.new) }
     ensures part { IsSentPart (ended (numbered_text (codes "follow") count)) (W.contents writer.old) (W.contents writer.new) }
@@ -200,7 +201,7 @@ fn print_followed<R: Input + Drop, W: Output, O: Output>(
 ///
 /// Refused as `Connection` where the connection fails or ends early, or where what comes is neither: the opening of
 /// another namespace, or of several, rows that are not well-formed or do not rise by ID, what is no post, a post that
-/// is not the next one, or an end that counts other posts. Refused as
+/// is not the next one, an end that counts other posts, or more than 4,096 rows. Refused as
 /// `Output` where what was to be printed does not go out, and else as `NoMemory`. But for `Output` nothing was
 /// printed then.
 pub fn mirror<R: Input + Drop, W: Output, O: Output>(
@@ -225,9 +226,11 @@ pub fn mirror<R: Input + Drop, W: Output, O: Output>(
         × IsRefused space count refusal (known_lines lines.old) (known_lines lines.new)
         × Appends (O.contents out.old) (O.contents out.new) (ended refusal) }
 
-    // Both requests went out where a table is printed, and up to a refusal or a fault a part of them.
+    // Both requests went out where a table is printed, and up to a fault a part of them. Where a refusal is, that of the
+    // watcher did, and maybe the other, or calls of the writer failed.
     ensures sent { result ≡ Ok true → Appends (W.contents writer.old) (W.contents writer.new) (requests_text space count) }
     ensures part { IsSentPart (requests_text space count) (W.contents writer.old) (W.contents writer.new) }
+    ensures asked { result ≡ Ok false → AreOutOrBroken W.Output (numbered_text (codes "watch") space ∷ numbered_text (codes "follow") count ∷ []) writer.old writer.new }
 
     // `Connection` only where calls of the reader failed, or the lines do not begin with an opening of the namespace, so
     // many posts that follow it, and their end, nor with a refusal in the place of one of these, or where calls of the

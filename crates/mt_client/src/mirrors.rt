@@ -1,14 +1,16 @@
 //! Mirrors of several namespaces, by rising number.
-ghost use Rattle.std.specs.Prelude.{cond, ◌++◌, ◌≡◌, ◌≡◌, ◌≢◌, ◌≤◌, ◌==◌, false, true, nat_le, length, slice_get, IsTrue, OnOk, Some, Err};
-ghost use Rattle.std.specs.List.{remove, position_from, position_or_len};
+ghost use Rattle.std.specs.Prelude.{cond, ◌++◌, ◌≡◌, ◌≢◌, ◌<◌, ◌≤◌, ◌==◌, false, true, nat_le, length, slice_get, IsTrue, OnOk, Some, Err};
+ghost use Rattle.std.specs.List.{insert, remove, position_from, position_or_len};
 ghost use Rattle.std.specs.Option.{option_map_or};
 ghost use Rattle.mt_skel.specs.Keyed.{rises};
-ghost use Rattle.mt_events.specs.Mirrors.{MirrorView, is_next};
+ghost use Rattle.mt_events.specs.Mirrors.{MirrorView};
 ghost use Rattle.mt_render.specs.Events.{told_as};
+ghost use Rattle.mt_client.specs.Limits.{most_spaces};
 ghost use Rattle.mt_client.specs.Finding.{mirror_space};
-ghost use Rattle.mt_client.specs.Telling.{mirror_begun, mirror_in, mirrors_with};
+ghost use Rattle.mt_client.specs.Telling.{mirror_begun, mirror_in, mirrors_with, fits};
 
 use crate::fault::ClientFault;
+use crate::opening::MOST_SPACES;
 use crate::posts::apply_next;
 use mt_events::mirror::Mirror;
 use mt_events::post::Post;
@@ -67,8 +69,28 @@ fn take_at(alloc: Global, mirrors: &mut Vec<Mirror>, place: usize, space: SpaceI
     }
 }
 
+/// Puts a mirror into this place, unless its table is empty: its namespace was dropped then. Refused as `Connection` where
+/// there are as many others as there may be namespaces, and else as `NoMemory` alone.
+fn put_at(mirrors: &mut Vec<Mirror>, place: usize, mirror: Mirror) -> Result<(), ClientFault>
+    requires { place ≤ length mirrors.old.items }
+    ensures put { OnOk result (mirrors.new.items ≡ cond (length mirror.rows == 0) mirrors.old.items (insert mirrors.old.items place mirror)) }
+    ensures few { OnOk result (length mirror.rows ≢ 0 → length mirrors.old.items < most_spaces) }
+    ensures refused { result ≡ Err ClientFault.Connection → (length mirror.rows ≢ 0) × (most_spaces ≤ length mirrors.old.items) }
+    ensures kind { result ≢ Err ClientFault.Output }
+{
+    if mirror.table().rows().is_empty() {
+        return Ok(());
+    }
+    if mirrors.len() as u64 >= MOST_SPACES {
+        return Err(ClientFault::Connection);
+    }
+    mirrors.insert(place, mirror)?;
+    Ok(())
+}
+
 /// Tells a post, with the name of its namespace, and applies it to the mirror of that; one that came later
-/// begins at 0 with the empty table. Refused as `Connection` where the post is not the next one, and else as `NoMemory` alone.
+/// begins at 0 with the empty table, and one whose table is empty then was dropped, and goes. Refused as `Connection` where
+/// the post does not fit, and else as `NoMemory` alone.
 pub(crate) fn apply_told(
     alloc: Global,
     text: &mut Vec<u8>,
@@ -80,8 +102,8 @@ pub(crate) fn apply_told(
     requires rising { IsTrue (rises mirror_space mirrors.old.items) }
     ensures told { OnOk result (text.new.items ≡ text.old.items ++ told_as telling name.now (mirror_in mirrors.old.items post.now.space) post.now) }
     ensures applied { OnOk result (mirrors.new.items ≡ mirrors_with mirrors.old.items post.now) }
-    ensures next { OnOk result (is_next (mirror_in mirrors.old.items post.now.space) post.now ≡ true) }
-    ensures refused { result ≡ Err ClientFault.Connection → is_next (mirror_in mirrors.old.items post.now.space) post.now ≡ false }
+    ensures next { OnOk result (fits mirrors.old.items post.now ≡ true) }
+    ensures refused { result ≡ Err ClientFault.Connection → fits mirrors.old.items post.now ≡ false }
     ensures rising { OnOk result (IsTrue (rises mirror_space mirrors.new.items)) }
     ensures kind { result ≢ Err ClientFault.Output }
 {
@@ -90,6 +112,6 @@ pub(crate) fn apply_told(
     let told = told_as(alloc, telling, &mirror, post, name)?;
     text.extend_from_slice(told.as_slice())?;
     apply_next(&mut mirror, post)?;
-    mirrors.insert(place, mirror)?;
+    put_at(mirrors, place, mirror)?;
     Ok(())
 }

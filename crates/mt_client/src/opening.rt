@@ -27,6 +27,15 @@ use std::alloc::Global;
 /// How many rows all namespaces have at most.
 pub(crate) const MOST_ROWS: u64 = 4_096;
 
+/// How many namespaces there are at most.
+pub(crate) const MOST_SPACES: u64 = 64;
+
+/// How many lines a post has at most behind its first one: as many mounts that left, and as many rows, as there may be.
+pub(crate) const MOST_POST_LINES: u64 = 8_192;
+
+/// How many lines the posts have at most that wait: 1,024 posts, which is all that a queue holds, each with its first line.
+pub(crate) const MOST_WAITING_LINES: u64 = 8_389_632;
+
 /// How many lines an opening has at most behind its first one: these rows, and one line for each of 64 namespaces.
 pub(crate) const MOST_LINES: u64 = 4_160;
 

@@ -11,7 +11,9 @@ ghost use Rattle.mt_client.specs.Finding.{mirror_space, parts_lines, AreOf, HasF
 
 use crate::answer::is_refusal;
 use crate::fault::ClientFault;
-use crate::opening::{MOST_LINES, MOST_ROWS, is_beyond, read_count, read_heading, read_rows};
+use crate::opening::{
+    MOST_LINES, MOST_ROWS, MOST_SPACES, is_beyond, read_count, read_heading, read_rows,
+};
 use crate::relay::next_text;
 use mt_events::mirror::Mirror;
 use mt_events::opening::Scope;
@@ -95,13 +97,13 @@ fn is_one(parts: &[Mirror], space: SpaceId) -> bool
     }
 }
 
-/// Whether these are namespaces of this scope: the one, or any by rising number.
+/// Whether these are namespaces of this scope: the one, or any by rising number, and no more than there may be.
 fn are_of(scope: Scope, parts: &[Mirror]) -> bool
     ensures { MatchBool result (AreOf scope parts.now) (AreOf scope parts.now → ⊥) }
 {
     match scope {
         Scope::One(space) => is_one(parts, space),
-        Scope::All => is_rising(parts),
+        Scope::All => is_rising(parts) && parts.len() as u64 <= MOST_SPACES,
     }
 }
 

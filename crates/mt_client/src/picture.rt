@@ -6,7 +6,7 @@ ghost use Rattle.mt_events.specs.Mirrors.{MirrorView};
 ghost use Rattle.mt_events.specs.Posts.{ended};
 ghost use Rattle.mt_render.specs.Drawings.{drawing_text};
 ghost use Rattle.mt_client.specs.Reading.{known_lines, HasBroken, IsSentPart, IsCut};
-ghost use Rattle.mt_client.specs.Calls.{IsOut};
+ghost use Rattle.mt_client.specs.Calls.{IsOut, IsOutOrBroken};
 ghost use Rattle.mt_client.specs.Mirroring.{HasRefused};
 ghost use Rattle.mt_client.specs.Awaited.{IsOneRefusal, IsRefusedOr};
 ghost use Rattle.mt_client.specs.Finding.{watch_text, HasWatched, IsFinding};
@@ -73,6 +73,7 @@ pub fn draw<R: Input + Drop, W: Output, O: Output>(
     // The request went out, or calls of the writer failed, and then a part of it did; and nothing else.
     ensures sent { result ≡ Ok true → Appends (W.contents writer.old) (W.contents writer.new) (ended (watch_text scope)) }
     ensures part { IsSentPart (ended (watch_text scope)) (W.contents writer.old) (W.contents writer.new) }
+    ensures asked { OnOk result (IsOutOrBroken W.Output (ended (watch_text scope)) writer.old writer.new) }
 
     // `Connection` only where calls of the reader failed, or the lines begin neither with such an opening nor with a
     // refusal, or where calls of the writer failed and no refusal comes first. Where no fault of the stream stood, the last call failed then, or was the last of as

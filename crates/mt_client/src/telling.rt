@@ -1,5 +1,5 @@
 //! The posts of a watcher, told as they come.
-ghost use Rattle.std.specs.Prelude.{◌≡◌, ◌≢◌, ℕ, ◌⊎◌, List, [], ◌++◌, true, false, None, Ok, Err, IfOk, IfErr, OnOk, OnErr, IsTrue, MatchBool, codes};
+ghost use Rattle.std.specs.Prelude.{◌≡◌, ◌≢◌, ℕ, ◌+◌, ◌⊎◌, length, List, [], ◌++◌, true, false, None, Ok, Err, IfOk, IfErr, OnOk, OnErr, IsTrue, MatchBool, codes};
 ghost use Rattle.std.specs.Io.KnownBytes.{Appends, Keeps};
 ghost use Rattle.mt_skel.specs.Keyed.{rises};
 ghost use Rattle.mt_lines.specs.Reading.{last_faults, fault_of, last_line, limit_of};
@@ -7,10 +7,10 @@ ghost use Rattle.mt_events.specs.Mirrors.{MirrorView};
 ghost use Rattle.mt_events.specs.Posts.{PostView, ended};
 ghost use Rattle.mt_client.specs.Requests.{numbered_text};
 ghost use Rattle.mt_client.specs.Reading.{known_lines, HasBroken, IsSentPart, NoneFirst, IsCut};
-ghost use Rattle.mt_client.specs.Calls.{ReadsOn, WritesOn, IsOut, IsOutInPart, IsTellFault, IsTalkFault};
+ghost use Rattle.mt_client.specs.Calls.{ReadsOn, WritesOn, IsOut, IsOutOrBroken, IsOutInPart, IsTellFault, IsTalkFault};
 ghost use Rattle.mt_client.specs.Mirroring.{HasRefused};
 ghost use Rattle.mt_client.specs.Awaited.{IsOneRefusal, IsRefusedOr, IsSuchPost, IsOnlyApplied};
-ghost use Rattle.mt_client.specs.Finding.{mirror_space};
+ghost use Rattle.mt_client.specs.Finding.{mirror_space, watch_text};
 ghost use Rattle.mt_client.specs.Telling.{told_in, mirrors_with, is_due, posts_told, follows_text, telling_text, all_posts, HasTold, IsStopped, IsBrokenOff, HasToldPost, HasToldPortion, HasToldAll, HasToldAllOut, IsToldUpTo};
 ghost use Rattle.mt_client.specs.Due.{AreDuePosts, AreDuePortions, IsTelling, AreOnlyApplied};
 
@@ -112,7 +112,7 @@ fn tell_posts<R: Input + Drop, O: Output>(
     requires rising { IsTrue (rises mirror_space mirrors.old.items) }
     ensures told { IfOk result (λ going. MatchBool going
         (HasToldPortion named.now count scope mirrors.old.items mirrors.new.items (known_lines lines.old) (known_lines lines.new) (O.contents out.old) (O.contents out.new))
-        (HasToldAll named.now count scope (last_line lines.new) mirrors.old.items (known_lines lines.old) (known_lines lines.new) (O.contents out.old) (O.contents out.new))) }
+        ((all : HasToldAll named.now count scope (last_line lines.new) mirrors.old.items (known_lines lines.old) (known_lines lines.new) (O.contents out.old) (O.contents out.new)) × (all.so.portions ≡ []))) }
     ensures rising { OnOk result (IsTrue (rises mirror_space mirrors.new.items)) }
     ensures broken { IfErr result
         (λ fault. IsToldUpTo named.now fault count scope mirrors.old.items (known_lines lines.old) (O.contents out.old) (O.contents out.new)) }
@@ -144,13 +144,14 @@ fn tell_portion<R: Input + Drop, W: Output, O: Output>(
     requires rising { IsTrue (rises mirror_space mirrors.old.items) }
     ensures told { IfOk result (λ going. MatchBool going
         (HasToldPortion named.now count scope mirrors.old.items mirrors.new.items (known_lines lines.old) (known_lines lines.new) (O.contents out.old) (O.contents out.new))
-        (HasToldAllOut named.now count scope mirrors.old.items (known_lines lines.old) (known_lines lines.new) (O.contents out.old) (O.contents out.new))) }
+        ((all : HasToldAllOut named.now count scope mirrors.old.items (known_lines lines.old) (known_lines lines.new) (O.contents out.old) (O.contents out.new)) × (all.2.so.portions ≡ []))) }
     ensures rising { OnOk result (IsTrue (rises mirror_space mirrors.new.items)) }
     ensures broken { IfErr result
         (λ fault. IsToldUpTo named.now fault count scope mirrors.old.items (known_lines lines.old) (O.contents out.old) (O.contents out.new)) }
     ensures part { IsSentPart (ended (numbered_text (codes "follow") count)) (W.contents writer.old) (W.contents writer.new) }
     ensures applied { result ≡ Ok true → AreOnlyApplied count scope mirrors.old.items mirrors.new.items (known_lines lines.old) (known_lines lines.new) }
     ensures sent { result ≡ Ok true → IsOut W.Output (ended (numbered_text (codes "follow") count)) writer.old writer.new }
+    ensures asked { OnOk result (IsOutOrBroken W.Output (ended (numbered_text (codes "follow") count)) writer.old writer.new) }
     ensures on { OnOk result (ReadsOn lines.old lines.new) }
     ensures prints { OnOk result (WritesOn O.Output out.old out.new) }
     ensures fault { IfErr result (λ fault. IsTalkFault W.Output O.Output fault (AreDuePosts count scope mirrors.old.items) lines.old lines.new writer.old writer.new out.old out.new) }
@@ -179,7 +180,8 @@ fn tell_portions<R: Input + Drop, W: Output, O: Output>(
 ) -> Result<(), ClientFault>
     requires fresh { fault_of lines.old ≡ None }
     requires rising { IsTrue (rises mirror_space mirrors.old.items) }
-    ensures told { OnOk result (HasToldAllOut named.now count scope mirrors.old.items (known_lines lines.old) (known_lines lines.new) (O.contents out.old) (O.contents out.new)) }
+    ensures told { OnOk result ((all : HasToldAllOut named.now count scope mirrors.old.items (known_lines lines.old) (known_lines lines.new) (O.contents out.old) (O.contents out.new))
+        × IsOutOrBroken W.Output (follows_text count (length all.2.so.portions + 1)) writer.old writer.new) }
     ensures broken { IfErr result
         (λ fault. IsToldUpTo named.now fault count scope mirrors.old.items (known_lines lines.old) (O.contents out.old) (O.contents out.new)) }
     ensures part { (times : ℕ) × IsSentPart (follows_text count times) (W.contents writer.old) (W.contents writer.new) }
@@ -206,7 +208,8 @@ fn tell_portions<R: Input + Drop, W: Output, O: Output>(
 /// a stop; also one that was sent before the server ended a connection over which a request did not go out.
 ///
 /// Refused as `Connection` where the connection fails or ends early, or where what comes is no opening of the scope,
-/// no post, a post of another namespace or not the next one of its namespace, or an end that counts other posts.
+/// no post, a post of another namespace or not the next one of its namespace, an end that counts other posts, or more than
+/// 4,096 rows of a namespace or 64 namespaces; one of which the table is empty then was dropped, and counts no more.
 /// Refused as `Output` where what was to be printed does not go out, and else as `NoMemory`. But for `Output` posts that
 /// had come were printed then, each whole, and nothing else.
 pub fn tell<R: Input + Drop, W: Output, O: Output>(
@@ -222,11 +225,14 @@ pub fn tell<R: Input + Drop, W: Output, O: Output>(
     // A refusal was printed that stood in the place of the opening, or the lines that were read are the text of an
     // opening that a server can show to a watcher of the scope, and of posts that are due to it, each the next one of its
     // namespace, and a refusal; each of the posts was told, against the tables that those before it had led
-    // to, and then the refusal was printed.
-    ensures told { OnOk result (((refusal : List ℕ) × HasRefused refusal (known_lines lines.old) (known_lines lines.new) × Appends (O.contents out.old) (O.contents out.new) (ended refusal))
+    // to, and then the refusal was printed. The request of the watcher went out, and behind an opening one for each portion
+    // of posts that came whole and one more, or calls of the writer failed.
+    ensures told { OnOk result (((refusal : List ℕ) × HasRefused refusal (known_lines lines.old) (known_lines lines.new) × Appends (O.contents out.old) (O.contents out.new) (ended refusal)
+        × IsOutOrBroken W.Output (ended (watch_text scope)) writer.old writer.new)
         ⊎ ((found : List MirrorView) × (portions : List (List PostView)) × (rest : List PostView) × (refusal : List ℕ)
         × HasTold scope portions rest refusal (known_lines lines.old) (known_lines lines.new) found
-        × Appends (O.contents out.old) (O.contents out.new) (posts_told named.now found (all_posts portions rest) ++ ended refusal))) }
+        × Appends (O.contents out.old) (O.contents out.new) (posts_told named.now found (all_posts portions rest) ++ ended refusal)
+        × IsOutOrBroken W.Output (telling_text scope (length portions + 1)) writer.old writer.new)) }
 
     // Up to a fault nothing was printed, or what is told of posts that had come, from the first one on, each whole. Where
     // the output failed, a part of one more text was printed, that of a post that is due, or of lines that had come.

@@ -6,3 +6,4 @@ pub mod DeskLaws
 pub mod SendingLaws
 pub mod SentLaws
 pub mod FollowLaws
+pub mod HeldLaws

@@ -6,3 +6,4 @@ pub mod Places
 pub mod Sending
 pub mod Sent
 pub mod Headline
+pub mod Held

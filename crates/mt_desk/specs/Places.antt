@@ -107,6 +107,7 @@ pub record IsKeptDesk (lines : List LineId) (d : DeskView) (slots : List Slot) (
 pub record LinesView : Type 0 where
   pub lines : List LineId
   pub capacity : ℕ
+  pub history : LineId
 
 pub record AreLines (capacity : ℕ) (slots : List Slot) (order : List ℕ) (room : ℕ) : Type 0 where
   pub capacity_is : 0 < capacity

@@ -1,120 +1,150 @@
-//! The book and the rows of its watchers.
-ghost use Rattle.std.specs.Prelude.{◌≡◌, ◌≢◌, ◌==◌, not, vec_capacity, [], IsOk, IfOk, IfErr, OnErr, Ok, Err};
-ghost use Rattle.std.specs.List.{filter};
-ghost use Rattle.mt_floor.specs.Schedule.{empty_floor, floor_step, opening_refusal};
+//! A desk: the book, the rows of its watchers, and the history of who did what, for one lock.
+ghost use Rattle.std.specs.Prelude.{◌≡◌, ◌≢◌, ◌++◌, ◌∷◌, [], IsOk, IfOk, IfErr, OnOk, OnErr, Ok, Err};
+ghost use Rattle.mt_floor.specs.Schedule.{empty_floor, floor_step};
 ghost use Rattle.mt_floor.specs.declared.event.Event.TheVariants.{Apply, Open, Stop};
 ghost use Rattle.mt_floor.specs.declared.event.Answer.TheVariants.{Opened, Halted};
+ghost use Rattle.mt_history.specs.declared.act.Act.TheVariants as act;
+ghost use Rattle.mt_history.specs.Entries.{entry, acts_by, IsSeen};
 ghost use Rattle.mt_desk.specs.Desk.{IsDesk, floor_of_desk, with_watcher, halted_desk};
 ghost use Rattle.mt_desk.specs.Calls.{IsApplied, IsMet, IsClosed};
 ghost use Rattle.mt_desk.specs.Headline.{Meet, Close, IsScheduledBy};
+ghost use Rattle.mt_desk.specs.Held.{IsLogged};
 
-use crate::due::due_of;
-use crate::lines::{Lines, Naming};
-use crate::places::{Slot, close_at, end_all, is_heard, meet_at, open_at, parked_place, send_all};
+use crate::board::Board;
+use crate::lines::{Host, Lines, Naming};
 use crate::watcher::Watcher;
 use mt_book::book::Book;
 use mt_book::command::{Command, Reply};
 use mt_events::opening::Scope;
 use mt_events::shared::SharedPosts;
-use mt_floor::finding::{found, opening_refusal};
-use mt_floor::watch::{Meeting, WatchKey};
+use mt_floor::watch::Meeting;
+use mt_history::history::History;
 use mt_skel::fault::Fault;
-use std::alloc::Global;
 use std::marker::{Model, PhantomData};
 use std::sync::Wait;
 
-/// The book and the rows of its watchers, for one lock. `order` has the places that are in use, by rising key.
+/// A desk with its history, for one lock.
 #[derive(Drop)]
 pub struct Desk<J: Naming> {
-    capacity: usize,
-    book: Book,
-    last_key: WatchKey,
-    stopped: bool,
-    slots: Vec<Slot>,
-    order: Vec<usize>,
-    alloc: Global,
-    of: PhantomData<J>,
+    board: Board<J>,
+    history: History,
 }
 
 impl<J: Naming> Model for Desk<J> {
-    ghost use Rattle.std.specs.Prelude.{vec_capacity};
-    ghost use Rattle.mt_desk.specs.Desk.{DeskView};
-    ghost use Rattle.mt_desk.specs.Places.{desk_of, IsKeptDesk};
+    ghost use Rattle.mt_desk.specs.Held.{HeldView, IsHeld};
 
-    ghost Value = { DeskView };
+    ghost Value = { HeldView };
 
-    ghost view = { λ d. desk_of d.capacity d.book.journal d.last_key d.stopped d.slots.items d.order.items };
+    ghost view = { λ d. record { desk = d.board; log = d.history.log } };
 
-    ghost invariant = { λ d. IsKeptDesk J.lines (desk_of d.capacity d.book.journal d.last_key d.stopped d.slots.items d.order.items) d.slots.items d.order.items (vec_capacity d.order) };
+    ghost invariant = { λ d. IsHeld J.history d.board d.history };
+}
+
+/// What a session knows of the history of the desk of a name. It has no bytes, and it is the only one of its number.
+#[derive(Drop)]
+pub struct DeskWitness<J: Naming> {
+    own: mt_history::history::Witness,
+    of: PhantomData<J>,
+}
+
+impl<J: Naming> Model for DeskWitness<J> {
+    ghost use Rattle.std.specs.Prelude.{◌≡◌};
+    ghost use Rattle.mt_history.specs.Entries.{WitnessView};
+
+    ghost Value = { WitnessView };
+
+    ghost view = { λ w. w.own };
+
+    ghost invariant = { λ w. w.own.table ≡ J.history };
 }
 
 impl<J: Naming> Desk<J> {
     /// A desk with nothing done, on the lines that its name tells. Takes no memory.
     pub fn new(lines: Lines) -> Desk<J>
-        requires { lines.lines ≡ J.lines }
-        ensures floor { floor_of_desk result ≡ empty_floor lines.capacity }
-        ensures rows { result.rows ≡ [] }
+        requires lines { lines.lines ≡ J.lines }
+        requires history { lines.history ≡ J.history }
+        ensures floor { floor_of_desk result.desk ≡ empty_floor lines.capacity }
+        ensures rows { result.desk.rows ≡ [] }
+        ensures log { result.log ≡ [] }
     {
-        let Lines {
-            slots,
-            order,
-            capacity,
-            alloc,
-        } = lines;
-        Desk {
-            capacity,
-            book: Book::new(alloc),
-            last_key: 0,
-            stopped: false,
-            slots,
-            order,
-            alloc,
-            of: PhantomData,
-        }
+        let (board, history) = Board::<J>::new(lines);
+        Desk { board, history }
     }
 
     /// The accepted commands, and what they have led to.
     pub fn book(&self) -> &Book
-        ensures journal { result.now.journal ≡ self.now.journal }
+        ensures journal { result.now.journal ≡ self.now.desk.journal }
 
         // What is always true of a desk.
-        ensures kept { IsDesk self.now }
+        ensures kept { IsDesk self.now.desk }
+        ensures told { IsLogged self.now.desk self.now.log }
     {
-        &self.book
+        self.board.book()
     }
 
-    /// Applies a command, and sends its posts to the watchers that follow them; one whose queue is full lags, and is
-    /// sent nothing any more. `meet` tells each watcher how far it is.
+    /// Lets a new session in, which has seen the history as it is. No entry has its number. Takes no memory.
+    pub fn admit(&mut self, _host: &Host<J>) -> DeskWitness<J>
+        ensures desk { self.new ≡ self.old }
+        ensures seen { result.seen ≡ self.old.log }
+        ensures fresh { acts_by result.by self.old.log ≡ [] }
+    {
+        let own = self.history.admit();
+        DeskWitness {
+            own,
+            of: PhantomData,
+        }
+    }
+
+    /// A session sees the history as it is. All that the session did is in what it had seen.
+    pub fn look(&mut self, witness: &mut DeskWitness<J>)
+        ensures desk { self.new ≡ self.old }
+
+        // What is always true of a desk.
+        ensures told { IsLogged self.old.desk self.old.log }
+        ensures witness { witness.new ≡ record witness.old { seen = self.old.log } }
+        ensures seen { IsSeen witness.old.by witness.old.seen self.old.log }
+    {
+        self.history.look(&mut witness.own);
+    }
+
+    /// Two sessions have two numbers.
+    pub fn tell_apart(&self, one: &mut DeskWitness<J>, other: &mut DeskWitness<J>)
+        ensures same { (one.new ≡ one.old) × (other.new ≡ other.old) }
+        ensures differ { one.old.by ≢ other.old.by }
+    {
+        self.history.tell_apart(&mut one.own, &mut other.own);
+    }
+
+    /// Applies a session's command, and sends its posts to the watchers that follow them; one whose queue is full lags, and is
+    /// sent nothing any more. `meet` tells each watcher how far it is. Once, and at the end of the history, which the
+    /// session has then seen; where it is refused, the history stays.
     ///
     /// Refused, with nothing changed, as `Stopped` after a stop, as `JournalFull` after 1,048,576 accepted commands,
     /// else with the first of the command's own refusals that holds, and as `NoMemory`. It may wait for a step of a
     /// watcher that takes.
-    pub fn apply<R: Wait>(&mut self, rt: &R, command: &Command) -> Result<Reply, Fault>
-        ensures done { IfOk result (λ reply. IsApplied self.old command.now reply self.new) }
-        ensures refused { IfErr result (λ fault. fault ≢ Fault.NoMemory → floor_step (floor_of_desk self.old) (Apply command.now) ≡ (floor_of_desk self.old, Err fault)) }
+    pub fn apply<R: Wait>(
+        &mut self,
+        rt: &R,
+        witness: &mut DeskWitness<J>,
+        command: &Command,
+    ) -> Result<Reply, Fault>
+        ensures done { IfOk result (λ reply. IsApplied self.old.desk command.now reply self.new.desk) }
+        ensures refused { IfErr result (λ fault. fault ≢ Fault.NoMemory → floor_step (floor_of_desk self.old.desk) (Apply command.now) ≡ (floor_of_desk self.old.desk, Err fault)) }
         ensures unchanged { OnErr result (self.new ≡ self.old) }
+        ensures log { OnOk result (self.new.log ≡ self.old.log ++ entry witness.old.by (act.Apply command.now) ∷ []) }
+        ensures witness { witness.new ≡ record witness.old { seen = self.new.log } }
+        ensures seen { IsSeen witness.old.by witness.old.seen self.old.log }
     {
-        if self.stopped {
-            return Err(Fault::Stopped);
+        match self.board.apply(rt, command) {
+            Ok(reply) => {
+                self.history.apply(&mut witness.own, command);
+                Ok(reply)
+            }
+            Err(fault) => {
+                self.history.look(&mut witness.own);
+                Err(fault)
+            }
         }
-        let prepared = self.book.prepare_for(command, is_heard(&self.slots))?;
-        let due = due_of(self.alloc, prepared.posts(), &self.slots, &self.order)?;
-        let (reply, _) = self.book.commit(prepared);
-        send_all(rt, &mut self.slots, due);
-        Ok(reply)
-    }
-
-    /// Why no watcher of this scope begins.
-    fn refuses(&self, scope: Scope) -> Option<Fault>
-        ensures { result ≡ opening_refusal (floor_of_desk self.now) scope }
-    {
-        opening_refusal(
-            &self.book,
-            scope,
-            self.order.len(),
-            self.last_key,
-            self.stopped,
-        )
     }
 
     /// Begins a watcher, which finds what the book shows now.
@@ -123,32 +153,14 @@ impl<J: Naming> Desk<J> {
     /// there are 64 watchers, those that lag or have ended too, or all keys were given out, as `Stopped` after a stop,
     /// and as `NoMemory`.
     pub fn open(&mut self, scope: Scope) -> Result<Watcher<J>, Fault>
-        ensures done { IfOk result (λ w. floor_step (floor_of_desk self.old) (Open scope) ≡ (floor_of_desk self.new, Ok (Opened w.key w.half.opening))) }
-        ensures desk { IfOk result (λ w. self.new ≡ with_watcher self.old scope) }
-        ensures key { IfOk result (λ w. w.key ≡ self.old.next_key) }
+        ensures done { IfOk result (λ w. floor_step (floor_of_desk self.old.desk) (Open scope) ≡ (floor_of_desk self.new.desk, Ok (Opened w.key w.half.opening))) }
+        ensures desk { IfOk result (λ w. self.new ≡ record self.old { desk = with_watcher self.old.desk scope }) }
+        ensures key { IfOk result (λ w. w.key ≡ self.old.desk.next_key) }
         ensures begins { IfOk result (λ w. w.half.taken ≡ []) }
-        ensures refused { IfErr result (λ fault. fault ≢ Fault.NoMemory → floor_step (floor_of_desk self.old) (Open scope) ≡ (floor_of_desk self.old, Err fault)) }
+        ensures refused { IfErr result (λ fault. fault ≢ Fault.NoMemory → floor_step (floor_of_desk self.old.desk) (Open scope) ≡ (floor_of_desk self.old.desk, Err fault)) }
         ensures unchanged { OnErr result (self.new ≡ self.old) }
     {
-        if let Some(fault) = self.refuses(scope) {
-            return Err(fault);
-        }
-        let opening = found(self.alloc, &self.book, scope)?;
-        let left = Vec::with_capacity(self.alloc, self.capacity)?;
-        let Some(place) = parked_place(&self.slots) else {
-            unreachable!()
-        };
-        let key = self.last_key + 1;
-        let since = self.book.journal().len();
-        let half = open_at(&mut self.slots, place, key, scope, since, opening, left);
-        self.order.push_reserved(place);
-        self.last_key = key;
-        Ok(Watcher {
-            key,
-            place,
-            half,
-            of: PhantomData,
-        })
+        self.board.open(scope)
     }
 
     /// How many posts were sent to a watcher, how many of them it has taken, and whether it is still posted to. The
@@ -160,11 +172,11 @@ impl<J: Naming> Desk<J> {
     /// give each namespace's table as of its last taken number (`headline`).
     pub fn meet(&mut self, watcher: &mut Watcher<J>) -> Result<Meeting, Fault>
         ensures ok { IsOk result }
-        ensures met { IfOk result (λ m. IsMet self.old watcher.old m self.new watcher.new) }
-        ensures headline { IfOk result (λ m. IsScheduledBy (Meet watcher.old m watcher.new) self.new) }
+        ensures met { IfOk result (λ m. IsMet self.old.desk watcher.old m self.new.desk watcher.new) }
+        ensures headline { IfOk result (λ m. IsScheduledBy (Meet watcher.old m watcher.new) self.new.desk) }
+        ensures log { self.new.log ≡ self.old.log }
     {
-        let meeting = meet_at(&mut self.slots, watcher.place, &mut watcher.half);
-        Ok(meeting)
+        self.board.meet(watcher)
     }
 
     /// Ends a watcher, and answers what was sent to it and not taken. Not refused: a watcher of this desk's name has
@@ -178,42 +190,30 @@ impl<J: Naming> Desk<J> {
         watcher: Watcher<J>,
     ) -> Result<SharedPosts, (Watcher<J>, Fault)>
         ensures ok { IsOk result }
-        ensures closed { IfOk result (λ posts. IsClosed self.old watcher posts self.new) }
-        ensures headline { IfOk result (λ posts. IsScheduledBy (Close watcher posts) self.new) }
+        ensures closed { IfOk result (λ posts. IsClosed self.old.desk watcher posts self.new.desk) }
+        ensures headline { IfOk result (λ posts. IsScheduledBy (Close watcher posts) self.new.desk) }
+        ensures log { self.new.log ≡ self.old.log }
     {
-        let Watcher {
-            key: _,
-            place,
-            half,
-            of: _,
-        } = watcher;
-        let posts = close_at(rt, &mut self.slots, place, half);
-        drop_place(&mut self.order, place);
-        Ok(posts)
+        self.board.close(rt, watcher)
     }
 
     /// Whether the desk is stopped.
     pub fn is_stopped(&self) -> bool
-        ensures { result ≡ self.now.stopped }
+        ensures { result ≡ self.now.desk.stopped }
     {
-        self.stopped
+        self.board.is_stopped()
     }
 
-    /// Stops the desk: no command and no watcher after that, and no watcher is sent anything. A second stop changes
-    /// nothing. Takes no memory.
-    pub fn stop(&mut self)
-        ensures floor { floor_step (floor_of_desk self.old) Stop ≡ (floor_of_desk self.new, Ok Halted) }
-        ensures desk { self.new ≡ halted_desk self.old }
+    /// Stops the desk for a session: no command and no watcher after that, and no watcher is sent anything. The stop stands
+    /// at the end of the history, which the session has then seen. Takes no memory.
+    pub fn stop(&mut self, witness: &mut DeskWitness<J>)
+        ensures floor { floor_step (floor_of_desk self.old.desk) Stop ≡ (floor_of_desk self.new.desk, Ok Halted) }
+        ensures desk { self.new.desk ≡ halted_desk self.old.desk }
+        ensures log { self.new.log ≡ self.old.log ++ entry witness.old.by act.Stop ∷ [] }
+        ensures witness { witness.new ≡ record witness.old { seen = self.new.log } }
+        ensures seen { IsSeen witness.old.by witness.old.seen self.old.log }
     {
-        self.stopped = true;
-        end_all(&mut self.slots);
+        self.board.stop();
+        self.history.stop(&mut witness.own);
     }
-}
-
-/// Takes one place out of the order.
-fn drop_place(order: &mut Vec<usize>, place: usize)
-    ensures items { order.new.items ≡ filter (λ k. not (k == place)) order.old.items }
-    ensures room { vec_capacity order.new ≡ vec_capacity order.old }
-{
-    order.retain(|other| *other != place);
 }

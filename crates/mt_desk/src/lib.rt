@@ -5,10 +5,12 @@
 //! be (`specs/Late.antt`).
 //!
 //! [`desk`] has the calls, [`lines`] the queues, made before the name that ties them to one desk, and [`watcher`]
-//! the half that a session owns. Inside, [`places`] has what stands at each line, [`row`] what is kept of one
-//! watcher, and [`due`] which posts go to which rows. [`laws`] has what is true of every list of calls.
+//! the half that a session owns. Inside, [`board`] has a desk without the history of who did what, [`places`] what
+//! stands at each line, [`row`] what is kept of one watcher, and [`due`] which posts go to which rows. [`laws`] has what is
+//! true of every list of calls.
 #![tactic(auto)]
 
+mod board;
 pub mod desk;
 mod due;
 pub mod laws;

@@ -48,7 +48,7 @@ module _ {X : Type 0} (f : X → List ℕ) (start : List ℕ) (each : (x : X) (r
   clash : (x : X) (rest s : List (List ℕ)) → s ≡ f x ∷ rest → begins start s ≡ false → ⊥
   clash x rest s e other = let here : begins start s ≡ true = ap (begins start) e ∙ each x rest in cc
 
-  -- what stands behind them
+  -- what stands after them
   pub same_behind : (xs ys : List X) (r s : List (List ℕ)) → map f xs ++ r ≡ map f ys ++ s → begins start r ≡ false → begins start s ≡ false → r ≡ s
   same_behind [] [] r s e h k = e
   same_behind [] (y ∷ ys) r s e h k = absurd (clash y (map f ys ++ s) r e h)
@@ -129,7 +129,7 @@ event-lacks-end space number count a b d =
     joined-lacks-end 32 (event_words space number count) refl
     (and-true (lacks 10 (decimal space)) _ (decimal-lacks-end space a) (and-true (lacks 10 (decimal number)) _ (decimal-lacks-end number b) (and-true (lacks 10 (decimal count)) true (decimal-lacks-end count d) refl)))
 
--- what stands behind those of the mounts that left
+-- what stands after those of the mounts that left
 abbrev tail_lines : PostView → List (List ℕ)
 tail_lines p = map row_line p.rows ++ [] ∷ []
 

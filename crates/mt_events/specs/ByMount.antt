@@ -12,7 +12,7 @@ use Rattle.mt_events.specs.Difference.{is_row_of}
 abbrev pub collected : {X : Type 0} → (ℕ → Option X) → List ℕ → List X
 collected f ids = flat_map (λ i. option_to_list (f i)) ids
 
--- the row of a mount in the second table, where the first has it not as it is
+-- the row of a mount in the second table, if the first does not have it as it is
 abbrev pub new_row : List Row → List Row → ℕ → Option Row
 new_row a b i = option_and_then (λ r. cond (is_row_of a r) None (Some r)) (row_at row_id i b)
 

@@ -32,7 +32,7 @@ fn is_row_of(rows: &[Row], row: &Row) -> bool
     }
 }
 
-/// The IDs that the rows before have, and the rows after have not.
+/// The IDs that the rows before have but the rows after do not.
 fn gone(alloc: Global, before: &[Row], after: &[Row]) -> Result<Vec<MountId>, Fault>
     requires { IsTrue (rises row_id after.now) }
     ensures gone { IfOk result (λ ids. ids.items ≡ map row_id (filter (λ r. not (has row_id r.id after.now)) before.now)) }
@@ -47,7 +47,7 @@ fn gone(alloc: Global, before: &[Row], after: &[Row]) -> Result<Vec<MountId>, Fa
     Ok(ids)
 }
 
-/// The rows after that are not among the rows before as they are.
+/// Those of the rows after that are not, as they are, among the rows before.
 fn new_rows(alloc: Global, before: &[Row], after: &[Row]) -> Result<Vec<Row>, Fault>
     requires { IsTrue (rises row_id before.now) }
     ensures rows { IfOk result (λ rows. rows.items ≡ filter (λ r. not (is_row_of before.now r)) after.now) }
@@ -89,10 +89,8 @@ pub(crate) fn some_change(delta: Delta) -> Option<Delta>
     Some(delta)
 }
 
-/// What changed from one table to another, or `None` exactly where they are equal. Where something changed, it can
-/// be told by a post (`Post::new`).
-///
-/// Refused as `NoMemory` alone.
+/// What changed from one table to another, or `None` exactly where they are equal. If something changed, it can be told
+/// by a post (`Post::new`).
 pub fn change(alloc: Global, before: &Table, after: &Table) -> Result<Option<Delta>, Fault>
     ensures change { IfOk result (λ change. change ≡ some_change (difference before.now after.now)) }
     ensures told { IfOk result (λ change. IfSome change (λ delta. IsTrue (is_change delta.gone delta.rows))) }

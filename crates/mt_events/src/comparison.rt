@@ -1,4 +1,4 @@
-//! Whether the table of a namespace changed, where nobody asks how: no row is made but to compare it.
+//! Whether the table of a namespace changed, if nobody asks how: rows are made only to compare them.
 ghost use Rattle.std.specs.Prelude.{◌≡◌, not, IfOk, IsOkUnless, IsTrue};
 ghost use Rattle.std.specs.List.{list_any};
 ghost use Rattle.mt_skel.specs.Keyed.{rises};
@@ -16,8 +16,8 @@ use mt_mounts::mount::{MountId, SpaceId};
 use mt_propagate::world::World;
 use mt_skel::fault::Fault;
 
-/// Whether a mount came or left, or has other attributes or another state, so that its rows need not be made to see that
-/// they differ. Takes no memory.
+/// Whether a mount came or left, or has other attributes or another state, so that its rows differ, without making
+/// them. Takes no memory.
 fn is_plain_news(before: &World, after: &World, space: SpaceId, id: MountId) -> bool
     requires before { IsWellFormed (world_view before.now) }
     requires after { IsWellFormed (world_view after.now) }
@@ -34,7 +34,7 @@ fn is_plain_news(before: &World, after: &World, space: SpaceId, id: MountId) -> 
     is_other(before, after, id)
 }
 
-/// Whether a mount left the namespace, or its row is new or not as it was. Refused as `NoMemory` alone.
+/// Whether a mount left the namespace, or its row is new or not as it was.
 fn is_news(
     before: &mut Findings<'_>,
     after: &mut Findings<'_>,
@@ -59,8 +59,8 @@ fn is_news(
     Ok(new_row(before, after, space, id)?.is_some())
 }
 
-/// Whether any of these mounts left the namespace, or has a row that is new or not as it was. For most commands that is
-/// plain of the first. Refused as `NoMemory` alone.
+/// Whether any of these mounts left the namespace, or has a row that is new or not as it was. For most commands the
+/// first one shows that.
 fn any_news(
     before: &World,
     after: &World,
@@ -87,12 +87,10 @@ fn any_news(
     Ok(false)
 }
 
-/// Whether the table of a namespace is another one in one world than in the other: whether
+/// Whether the table of a namespace differs between two worlds, that is, whether
 /// [`change_of`](crate::touched::change_of) has something to tell. `touched` has, by rising ID, every mount whose row
 /// changed, and may have more; it is gone over up to the first that did. A namespace that is not there counts as the
 /// empty table.
-///
-/// Refused as `NoMemory` alone.
 pub fn is_changed(
     before: &World,
     after: &World,

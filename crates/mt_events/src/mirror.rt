@@ -182,7 +182,7 @@ impl Mirror {
     /// it is refused.
     ///
     /// Refused as `BadLine` exactly where the post is of another namespace, or its number is not the
-    /// mirror's plus one, and else as `NoMemory` alone.
+    /// mirror's plus one, and otherwise only as `NoMemory`.
     pub fn apply(&mut self, post: &Post) -> Result<(), Fault>
         ensures applied { OnOk result ((is_next self.old post.now ≡ true) × (self.new ≡ mirrored self.old post.now)) }
         ensures bad { is_next self.old post.now ≡ false → result ≡ Err Fault.BadLine }

@@ -1,4 +1,4 @@
-//! The text of a post. Where memory is wanting, what stood in the text stays in front.
+//! The text of a post. If there is not enough memory, what stood in the text stays in it.
 ghost use Rattle.std.specs.Prelude.{◌≡◌, ◌+◌, ◌++◌, IfOk, OnOk, IsOkUnless};
 ghost use Rattle.std.specs.List.{flat_map, join_with_byte};
 ghost use Rattle.mt_skel.specs.Front.{IsFront};
@@ -11,7 +11,7 @@ use mt_mounts::mount::{MountId, SpaceId};
 use mt_skel::fault::Fault;
 use std::alloc::{AllocError, Global};
 
-/// The text of a post: its lines, each with its line end. Refused as `NoMemory` alone.
+/// The text of a post: its lines, each with its line end.
 pub fn print_post(alloc: Global, post: &Post) -> Result<Vec<u8>, Fault>
     ensures text { IfOk result (λ text. text.items ≡ post_text post.now) }
     ensures memory { IsOkUnless result Fault.NoMemory }
@@ -21,7 +21,7 @@ pub fn print_post(alloc: Global, post: &Post) -> Result<Vec<u8>, Fault>
     Ok(text)
 }
 
-/// Appends the text of a post: its lines, each with its line end. Fails for want of memory alone.
+/// Appends the text of a post: its lines, each with its line end.
 #[tactic(auto, using(crate::proofs::PostLaws::post_pieces))]
 pub fn push_post(text: &mut Vec<u8>, post: &Post) -> Result<(), AllocError>
     ensures text { OnOk result (text.new.items ≡ text.old.items ++ post_text post.now) }

@@ -145,7 +145,7 @@ fn post_of(event: Event, gone: Vec<MountId>, rows: Vec<Row>) -> Option<Post>
 
 /// The post of which this is the text: its lines, each with its line end. No two posts have one text.
 ///
-/// Refused as `BadLine` exactly where it is the text of no post, and else as `NoMemory` alone.
+/// Refused as `BadLine` exactly where it is the text of no post, and otherwise only as `NoMemory`.
 pub fn read_post(alloc: Global, text: &[u8]) -> Result<Post, Fault>
     ensures post { IfOk result (λ post. text.now ≡ post_text post) }
     ensures valid { IfOk result (λ post. IsPost post) }

@@ -15,7 +15,6 @@ use mt_skel::fault::Fault;
 use std::alloc::{AllocError, Global};
 
 /// The lines of a table: `ok`, the count of its rows and how often it has changed, and then the line of each row.
-/// Fails for want of memory alone.
 pub fn table_lines(alloc: Global, number: u64, table: &Table) -> Result<Vec<u8>, AllocError>
     ensures { IfOk result (λ lines. lines.items ≡ table_text number table.now) }
 {
@@ -25,7 +24,7 @@ pub fn table_lines(alloc: Global, number: u64, table: &Table) -> Result<Vec<u8>,
     Ok(lines)
 }
 
-/// Lines behind `ok` and how many they are. Fails for want of memory alone.
+/// Lines after `ok` and how many they are.
 pub fn counted_lines(alloc: Global, count: u64, lines: &[u8]) -> Result<Vec<u8>, AllocError>
     ensures { IfOk result (λ all. all.items ≡ count_text count ++ lines.now) }
 {
@@ -38,7 +37,7 @@ pub fn counted_lines(alloc: Global, count: u64, lines: &[u8]) -> Result<Vec<u8>,
 }
 
 /// The lines that tell what a watcher finds: `ok`, how many lines follow, and for each namespace a line `space` with
-/// its number, that of its last post and the count of its rows, and the line of each row. Refused as `NoMemory` alone.
+/// its number, that of its last post and the count of its rows, and the line of each row.
 pub fn lines_of_opening(alloc: Global, opening: &Opening) -> Result<Vec<u8>, Fault>
     ensures text { IfOk result (λ lines. lines.items ≡ opening_text opening.now) }
     ensures memory { IsOkUnless result Fault.NoMemory }
@@ -52,7 +51,8 @@ pub fn lines_of_opening(alloc: Global, opening: &Opening) -> Result<Vec<u8>, Fau
     Ok(counted_lines(alloc, count, &lines)?)
 }
 
-/// A count of lines with one more and so many below it. Refused as `NoMemory` alone: no memory holds 2^64 lines.
+/// A count of lines with one more and this many below it. It is refused as `NoMemory` where it does not fit: no memory
+/// holds 2^64 lines.
 fn lines_with(lines: u64, below: u64) -> Result<u64, Fault>
     ensures lines { IfOk result (λ sum. sum ≡ lines + (1 + below)) }
     ensures memory { IsOkUnless result Fault.NoMemory }
@@ -63,7 +63,7 @@ fn lines_with(lines: u64, below: u64) -> Result<u64, Fault>
         .ok_or(Fault::NoMemory)
 }
 
-/// A count of lines with those of a post. Refused as `NoMemory` alone: no memory holds 2^64 lines.
+/// A count of lines with those of a post, refused likewise.
 fn lines_with_post(lines: u64, post: &Post) -> Result<u64, Fault>
     ensures lines { IfOk result (λ sum. sum ≡ lines + length (post_lines post.now)) }
     ensures memory { IsOkUnless result Fault.NoMemory }
@@ -99,7 +99,7 @@ impl PrintedPosts {
         }
     }
 
-    /// Appends a post. Refused as `NoMemory` alone, and then the posts are those of before.
+    /// Appends a post.
     pub fn push(&mut self, post: &Post) -> Result<(), Fault>
         ensures text { OnOk result (self.new.text.items ≡ self.old.text.items ++ post_text post.now) }
         ensures lines { OnOk result (self.new.lines ≡ self.old.lines + length (post_lines post.now)) }
@@ -116,7 +116,7 @@ impl PrintedPosts {
     }
 }
 
-/// Appends the text of a post, or nothing where memory is wanting.
+/// Appends the text of a post, or nothing if there is not enough memory.
 fn push_whole(text: &mut Vec<u8>, post: &Post) -> Result<(), AllocError>
     ensures text { OnOk result (text.new.items ≡ text.old.items ++ post_text post.now) }
     ensures unchanged { OnErr result (text.new.items ≡ text.old.items) }
@@ -145,8 +145,7 @@ fn push_part(lines: &mut Vec<u8>, part: &Part) -> Result<(), AllocError>
     Ok(())
 }
 
-/// Appends the line in front of a table: `ok`, the count of its rows and how often it has changed. Fails for want of
-/// memory alone, and what stood there stays in front then too.
+/// Appends the line before a table: `ok`, the count of its rows and how often it has changed.
 pub fn push_heading(lines: &mut Vec<u8>, count: u64, number: u64) -> Result<(), AllocError>
     ensures text { OnOk result (lines.new.items ≡ lines.old.items ++ (codes "ok " ++ decimal count ++ codes " " ++ decimal number ++ 10 ∷ [])) }
     ensures kept { IsFront lines.old.items lines.new.items }

@@ -31,8 +31,7 @@ pub(crate) fn is_in(world: &World, space: SpaceId, id: MountId) -> bool
     }
 }
 
-/// The row of a mount in the table of a namespace, or `None` exactly where it is not in there. Refused as `NoMemory`
-/// alone.
+/// The row of a mount in the table of a namespace, or `None` exactly if it is not in that table.
 fn row_in(seen: &mut Findings<'_>, space: SpaceId, id: MountId) -> Result<Option<Row>, Fault>
     requires well_formed { IsWellFormed (world_view seen.old) }
     ensures row { IfOk result (λ row. row ≡ row_at row_id id (table_of (world_view seen.old) space)) }
@@ -48,7 +47,7 @@ fn row_in(seen: &mut Findings<'_>, space: SpaceId, id: MountId) -> Result<Option
     Ok(Some(row_seen(seen, id)?))
 }
 
-/// The row of a mount after, or `None` exactly where it is not there or as it was. Refused as `NoMemory` alone.
+/// The row of a mount after, or `None` exactly where it is not there or as it was.
 pub(crate) fn new_row(
     before: &mut Findings<'_>,
     after: &mut Findings<'_>,
@@ -77,7 +76,7 @@ pub(crate) fn new_row(
     Ok(Some(row))
 }
 
-/// Those of the mounts touched that are in the namespace before and not after.
+/// Those of the touched mounts that are in the namespace before but not after.
 fn gone(
     before: &World,
     after: &World,
@@ -98,7 +97,7 @@ fn gone(
     Ok(ids)
 }
 
-/// Appends the row of a mount after, if it is new or not as it was. Refused as `NoMemory` alone.
+/// Appends the row of a mount after, if it is new or not as it was.
 fn push_new(
     rows: &mut Vec<Row>,
     before: &mut Findings<'_>,
@@ -120,7 +119,7 @@ fn push_new(
     Ok(())
 }
 
-/// The rows after of the mounts touched that are new or not as they were.
+/// The rows, after the change, of the touched mounts that are new or not as they were.
 fn new_rows(
     before: &World,
     after: &World,
@@ -164,11 +163,10 @@ fn delta_of(
     })
 }
 
-/// What changed in the table of a namespace from one world to another, or `None` exactly where it is the same table.
-/// `touched` has, by rising ID, every mount whose row changed, and may have more; no other mount is looked at. A namespace
-/// that is not there counts as the empty table. Where something changed, it can be told by a post (`Post::telling`).
-///
-/// Refused as `NoMemory` alone.
+/// What changed in the table of a namespace from one world to another, or `None` exactly if the table is the same.
+/// `touched` has, by rising ID, every mount whose row changed, and may have more; no other mount is looked at. A
+/// namespace that is not there counts as the empty table. If something changed, it can be told by a post
+/// (`Post::telling`).
 pub fn change_of(
     before: &World,
     after: &World,

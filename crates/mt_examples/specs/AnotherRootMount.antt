@@ -1,5 +1,5 @@
--- A sandbox makes a mount of its own the root mount of its namespace, and puts the old one below it: all mounts stay where
--- they stand, but are seen at other paths, and who watches is told of each (pivot_root(2); posts: this project's rule).
+-- A sandbox makes a mount of its own the root mount of its namespace, and puts the old one below it: all mounts stay where they
+-- stand, but are seen at other paths, and a watcher is told of each (pivot_root(2); posts: this project's rule).
 use Rattle.std.specs.Prelude.{◌≡◌, refl, List, [], ◌∷◌, ◌++◌}
 use Rattle.mt_examples.specs.Prelude.{Command, mkdir, mount, pivot, ok, no, answers_then, lines, shown, posted, private_root, computed}
 use Rattle.mt_skel.specs.declared.fault.Fault.TheVariants.{NoEntry}

@@ -64,7 +64,7 @@ fn is_started(alloc: Global, book: &mut Book) -> Result<bool, Fault> {
     Ok(text.as_slice() == STARTED)
 }
 
-/// Whether a book that has done the start answers and posts to the commands of a text what the text says.
+/// Whether a book that has done the start answers the commands of a text, and posts, as the text says.
 fn is_played_behind_start(alloc: Global, book: &mut Book, text: &[u8]) -> Result<bool, Fault> {
     let started = is_started(alloc, book)?;
     let told = played(alloc, book, text)?;
@@ -93,7 +93,7 @@ fn is_dropped(alloc: Global, book: &mut Book, line: &[u8]) -> Result<bool, Fault
     Ok(posts == 1 && book.journal().len() == before)
 }
 
-/// Whether it is done as well later.
+/// Whether it can be done later all the same.
 fn is_done_later(alloc: Global, book: &mut Book) -> Result<bool, Fault> {
     let started = is_started(alloc, book)?;
     let kept = is_dropped(alloc, book, b"mount 1 d /m")?;
@@ -109,7 +109,7 @@ fn prepared_commands_may_be_dropped(rt: HostRuntime) -> Result<(), Fail> {
     Ok(())
 }
 
-/// Shows a command that was prepared, though another one was refused behind it.
+/// Shows a command that was prepared, though another one was refused after it.
 fn shown_behind(book: &mut Book, first: &Command, refused: &Command) -> Result<Reply, Fault> {
     let prepared = book.prepare(first)?;
     let _ = book.prepare(refused);
@@ -117,7 +117,7 @@ fn shown_behind(book: &mut Book, first: &Command, refused: &Command) -> Result<R
     Ok(reply)
 }
 
-/// Whether it is done then.
+/// Whether it is done all the same.
 fn is_shown_behind(alloc: Global, book: &mut Book) -> Result<bool, Fault> {
     let started = is_started(alloc, book)?;
     let first = command_of(alloc, b"mount 1 d /m")?;

@@ -1,10 +1,10 @@
-//! Watchers of a desk: one that lags, one that keeps up, those after a stop, and as many as there may be.
+//! Watchers of a desk: one that lags, one that keeps up, watchers after a stop, and as many as there may be.
 ghost use Rattle.std.specs.Prelude.{◌≡◌};
 
 use crate::fixture::{are_done, commands_of};
 use mt_book::command::{Command, Reply};
-use mt_desk::desk::Desk;
-use mt_desk::lines::{Lines, Naming};
+use mt_desk::desk::{Desk, DeskWitness};
+use mt_desk::lines::{Host, Lines, Naming};
 use mt_desk::watcher::Watcher;
 use mt_events::opening::Scope;
 use mt_events::post::Post;
@@ -21,7 +21,7 @@ mkfs d ext4 /dev/x
 mkdir a /m
 newns a";
 
-/// Two commands, each of which changes the table of namespace 1 after the other.
+/// Two commands, each of which changes the table of namespace 1 when it comes after the other.
 const TURNS: &[u8] = b"setattr 1 / set=ro
 setattr 1 / clr=ro";
 
@@ -29,8 +29,13 @@ setattr 1 / clr=ro";
 const ROUNDS: u64 = 500;
 
 /// Whether a command is done.
-fn is_done<J: Naming, R: Wait>(rt: &R, desk: &mut Desk<J>, command: &Command) -> bool {
-    matches!(desk.apply(rt, command), Ok(Reply::Done))
+fn is_done<J: Naming, R: Wait>(
+    rt: &R,
+    desk: &mut Desk<J>,
+    witness: &mut DeskWitness<J>,
+    command: &Command,
+) -> bool {
+    matches!(desk.apply(rt, witness, command), Ok(Reply::Done))
 }
 
 /// The number of a post; 0 if there is none.
@@ -41,7 +46,7 @@ fn number_of(post: Option<Arc<Post>>) -> u64 {
     }
 }
 
-/// Whether a watcher meets its desk so.
+/// Whether a meeting of a watcher with its desk tells this.
 pub(crate) fn meets<J: Naming>(
     desk: &mut Desk<J>,
     watcher: &mut Watcher<J>,
@@ -76,19 +81,20 @@ fn left_at_close<J: Naming, R: Wait>(
 fn lags<J: Naming, R: Wait>(
     rt: &R,
     desk: &mut Desk<J>,
+    witness: &mut DeskWitness<J>,
     watcher: &mut Watcher<J>,
     turns: &[Command],
 ) -> bool {
     let [first, second] = turns else {
         return false;
     };
-    if !are_done(rt, desk, turns) || !meets(desk, watcher, 2, 0, Phase::Open) {
+    if !are_done(rt, desk, witness, turns) || !meets(desk, watcher, 2, 0, Phase::Open) {
         return false;
     }
-    if !is_done(rt, desk, first) || !meets(desk, watcher, 2, 0, Phase::Lagged) {
+    if !is_done(rt, desk, witness, first) || !meets(desk, watcher, 2, 0, Phase::Lagged) {
         return false;
     }
-    if !is_done(rt, desk, second) {
+    if !is_done(rt, desk, witness, second) {
         return false;
     }
     let numbers = (
@@ -99,17 +105,18 @@ fn lags<J: Naming, R: Wait>(
     numbers == (2, 3, 0) && meets(desk, watcher, 2, 2, Phase::Lagged)
 }
 
-/// Whether a watcher takes the post of each command, where the first has this number.
+/// Whether a watcher takes the post of each command, if the first has this number.
 fn takes_each<J: Naming, R: Wait>(
     rt: &R,
     desk: &mut Desk<J>,
+    witness: &mut DeskWitness<J>,
     watcher: &mut Watcher<J>,
     turns: &[Command],
     first: u64,
 ) -> bool {
     let mut number = first;
     'turns: for turn in turns {
-        if desk.apply(rt, turn).is_err() || number_of(watcher.take(rt)) != number {
+        if desk.apply(rt, witness, turn).is_err() || number_of(watcher.take(rt)) != number {
             return false;
         }
         number = number.wrapping_add(1);
@@ -117,15 +124,16 @@ fn takes_each<J: Naming, R: Wait>(
     true
 }
 
-/// Whether a watcher with room for two posts never lags where it takes after each command.
+/// Whether a watcher with room for two posts never lags if it takes after each command.
 fn keeps_up<J: Naming, R: Wait>(
     rt: &R,
     desk: &mut Desk<J>,
+    witness: &mut DeskWitness<J>,
     watcher: &mut Watcher<J>,
     turns: &[Command],
 ) -> bool {
     'rounds: for round in 0..ROUNDS {
-        if !takes_each(rt, desk, watcher, turns, 2 * round + 2) {
+        if !takes_each(rt, desk, witness, watcher, turns, 2 * round + 2) {
             return false;
         }
     }
@@ -136,25 +144,26 @@ fn keeps_up<J: Naming, R: Wait>(
 fn stops<J: Naming, R: Wait>(
     rt: &R,
     desk: &mut Desk<J>,
+    witness: &mut DeskWitness<J>,
     watcher: &mut Watcher<J>,
     turns: &[Command],
 ) -> bool {
     let [first, second] = turns else {
         return false;
     };
-    if !is_done(rt, desk, first) {
+    if !is_done(rt, desk, witness, first) {
         return false;
     }
-    desk.stop();
-    desk.stop();
-    let refused = match desk.apply(rt, second) {
+    desk.stop(witness);
+    desk.stop(witness);
+    let refused = match desk.apply(rt, witness, second) {
         Ok(_) => false,
         Err(fault) => fault == Fault::Stopped,
     };
     refused && begins_not(desk, Fault::Stopped) && meets(desk, watcher, 1, 0, Phase::Ended)
 }
 
-/// Whether a watcher of namespace 1 is refused so.
+/// Whether a watcher of namespace 1 is refused for this reason.
 fn begins_not<J: Naming>(desk: &mut Desk<J>, wanted: Fault) -> bool {
     match desk.open(Scope::One(1)) {
         Ok(_) => false,
@@ -174,34 +183,38 @@ enum Trial {
 fn goes_well<J: Naming, R: Wait>(
     rt: &R,
     desk: &mut Desk<J>,
+    witness: &mut DeskWitness<J>,
     watcher: &mut Watcher<J>,
     turns: &[Command],
     trial: Trial,
 ) -> bool {
     match trial {
-        Trial::Lags => lags(rt, desk, watcher, turns),
-        Trial::KeepsUp => keeps_up(rt, desk, watcher, turns),
-        Trial::Stops => stops(rt, desk, watcher, turns),
+        Trial::Lags => lags(rt, desk, witness, watcher, turns),
+        Trial::KeepsUp => keeps_up(rt, desk, witness, watcher, turns),
+        Trial::Stops => stops(rt, desk, witness, watcher, turns),
     }
 }
 
-/// How many posts are left where a watcher is closed after a trial that goes as it should.
+/// How many posts are left when a watcher is closed after a trial that goes as it should.
 fn left_on<J: Naming, R: Wait>(
     rt: &R,
     alloc: Global,
     lines: Lines,
     trial: Trial,
 ) -> Result<Option<usize>, Fault>
-    requires { lines.lines ≡ J.lines }
+    requires lines { lines.lines ≡ J.lines }
+    requires history { lines.history ≡ J.history }
 {
+    let host: Host<J> = lines.host();
     let mut desk: Desk<J> = Desk::new(lines);
+    let mut witness = desk.admit(&host);
     let start = commands_of(alloc, START)?;
     let turns = commands_of(alloc, TURNS)?;
-    if !are_done(rt, &mut desk, &start) {
+    if !are_done(rt, &mut desk, &mut witness, &start) {
         return Ok(None);
     }
     let mut watcher = desk.open(Scope::One(1))?;
-    if !goes_well(rt, &mut desk, &mut watcher, &turns, trial) {
+    if !goes_well(rt, &mut desk, &mut witness, &mut watcher, &turns, trial) {
         return Ok(None);
     }
     Ok(left_at_close(rt, &mut desk, watcher))
@@ -256,19 +269,23 @@ fn all_lag<J: Naming>(desk: &mut Desk<J>, watchers: &mut Vec<Watcher<J>>) -> boo
     true
 }
 
-/// Whether 64 watchers are the most, those that lag too, and one more may begin once one is closed.
+/// Whether 64 watchers are the most, including those that lag, and one more may begin once one is
+/// closed.
 fn is_full_at_64<J: Naming, R: Wait>(rt: &R, alloc: Global, lines: Lines) -> Result<bool, Fault>
-    requires { lines.lines ≡ J.lines }
+    requires lines { lines.lines ≡ J.lines }
+    requires history { lines.history ≡ J.history }
 {
+    let host: Host<J> = lines.host();
     let mut desk: Desk<J> = Desk::new(lines);
+    let mut witness = desk.admit(&host);
     let start = commands_of(alloc, START)?;
     let turns = commands_of(alloc, TURNS)?;
-    if !are_done(rt, &mut desk, &start) {
+    if !are_done(rt, &mut desk, &mut witness, &start) {
         return Ok(false);
     }
     let mut watchers = all_watchers(alloc, &mut desk)?;
     let open = begins_not(&mut desk, Fault::TooManyWatchers);
-    if !are_done(rt, &mut desk, &turns) {
+    if !are_done(rt, &mut desk, &mut witness, &turns) {
         return Ok(false);
     }
     let lagged = all_lag(&mut desk, &mut watchers) && begins_not(&mut desk, Fault::TooManyWatchers);

@@ -1,7 +1,7 @@
 //! What the tests share: lines of commands, what a book answers to them, and commands done at a desk.
 use mt_book::book::Book;
 use mt_book::command::{Command, Reply};
-use mt_desk::desk::Desk;
+use mt_desk::desk::{Desk, DeskWitness};
 use mt_desk::lines::Naming;
 use mt_events::print::push_post;
 use mt_events::shared::SharedPosts;
@@ -29,14 +29,15 @@ pub(crate) fn commands_of(alloc: Global, lines: &[u8]) -> Result<Vec<Command>, F
     Ok(commands)
 }
 
-/// Does commands at a desk, one after another: whether all were done.
+/// Does a session's commands at a desk, one after another: whether all were done.
 pub(crate) fn are_done<J: Naming, R: Wait>(
     rt: &R,
     desk: &mut Desk<J>,
+    witness: &mut DeskWitness<J>,
     commands: &[Command],
 ) -> bool {
     'commands: for command in commands {
-        if desk.apply(rt, command).is_err() {
+        if desk.apply(rt, witness, command).is_err() {
             return false;
         }
     }
@@ -78,8 +79,8 @@ fn push_turn(alloc: Global, text: &mut Vec<u8>, book: &mut Book, line: &[u8]) ->
     push_answer(text, &answer)
 }
 
-/// What a book answers and posts to the commands of a text, each a line behind `> `: their lines, and below each its
-/// answer and its posts. Other lines of the text are not read.
+/// What a book answers and posts to the commands of a text, each a line after `> `: their lines, and below each line
+/// its answer and its posts. Other lines of the text are not read.
 pub(crate) fn played(alloc: Global, book: &mut Book, text: &[u8]) -> Result<Vec<u8>, Fault> {
     let mut told = Vec::new(alloc);
     for line in Pieces::new(b'\n', text) {

@@ -1,4 +1,4 @@
-//! Events one after another, as no session does them: each answer of a schedule.
+//! Events one after another, in a way that no session does them: each answer of a schedule.
 use crate::fixture::commands_of;
 use mt_events::opening::Scope;
 use mt_floor::event::{Answer, Event};
@@ -7,7 +7,7 @@ use mt_skel::fault::Fault;
 use std::alloc::Global;
 use std::test::Fail;
 
-/// Commands of which the first gives no post, the second one, and the third is refused.
+/// Commands: the first gives no post, the second gives one, and the third is refused.
 const COMMANDS: &[u8] = b"mkfs a tmpfs none
 newns a
 mkfs a x y";
@@ -29,7 +29,7 @@ no NoWatcher
 halted
 ";
 
-/// A watcher that begins before the commands, is posted to and takes after each, and is closed before a stop.
+/// A watcher that begins before the commands, is sent posts and takes after each, and is closed before a stop.
 fn schedule(alloc: Global) -> Result<Vec<Event>, Fault> {
     let mut events = Vec::new(alloc);
     events.push(Event::Open(Scope::All))?;
@@ -90,7 +90,7 @@ fn a_schedule_is_answered_in_order(rt: HostRuntime) -> Result<(), Fail> {
     Ok(())
 }
 
-/// How many of so many watchers begin on a floor, and why the next one does not.
+/// How many of this many watchers begin on a floor, and why the next one does not.
 fn begun(alloc: Global, watchers: usize) -> Result<(usize, Option<Fault>), Fault> {
     let mut floor = Floor::new(alloc, 1);
     for count in 0..watchers {

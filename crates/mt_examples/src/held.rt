@@ -1,4 +1,4 @@
-//! Sessions of a server that a gate holds, or notes: posts that are taken while the desk is held, and a mirror beside
+//! Sessions of a server that a gate holds, or notes: posts are taken while the desk is held, and a mirror runs beside
 //! others.
 use crate::sockets::{
     Ended, LINE_LIMIT, Plan, ROOM, are_done, connected, is_done, listening, served, stops,
@@ -42,9 +42,9 @@ enum Stage {
     Changed,
     /// Its second command was done, and the desk is held.
     Held,
-    /// Posts were taken meanwhile.
+    /// Posts were taken in the meantime.
     Taken,
-    /// The desk was let go for that.
+    /// The desk was released for that.
     Released,
 }
 
@@ -55,14 +55,14 @@ struct Stages {
 }
 
 impl Stages {
-    /// Those of a test that begins.
+    /// The stages of a test that begins.
     fn new() -> Stages {
         Stages {
             now: Mutex::new(Stage::Begun),
         }
     }
 
-    /// Whether the test has come so far, and no further.
+    /// Whether the test has come this far, and no further.
     fn are_at<R: Wait>(&self, rt: &R, stage: Stage) -> bool {
         *self.now.lock(rt) == stage
     }
@@ -128,7 +128,7 @@ newns a";
 /// What is answered.
 const STARTED: &[u8] = b"ok 1\nok 2\nok\nok 1\n";
 
-/// Two commands, each of which changes the table of namespace 1 after the other.
+/// Two commands, each of which changes the table of namespace 1 when it comes after the other.
 const TURNS: &[u8] = b"setattr 1 / set=ro
 setattr 1 / clr=ro";
 

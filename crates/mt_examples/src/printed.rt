@@ -47,7 +47,7 @@ const POST: &[u8] = b"event 1 1 3
 = 7 2 0:2 / /m\\040n/s rw,relatime shared:3 - ext4 /dev/x rw
 ";
 
-/// Bytes, and how they stand in a line.
+/// Bytes, and how they are written in a line.
 const ESCAPED: [(&[u8], &[u8]); 3] = [
     (b" a\t/\n\\b", b"\\040a\\011/\\012\\134b"),
     (b"plain", b"plain"),

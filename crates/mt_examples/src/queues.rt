@@ -25,7 +25,7 @@ const MANY: u64 = 10_000;
 /// How often each thread tries before it gives up.
 const TURNS: u64 = 100_000_000;
 
-/// What a watcher of namespace 1 finds where nothing was done yet.
+/// What a watcher of namespace 1 finds if nothing was done yet.
 fn opening(alloc: Global) -> Opening
     ensures { IsFromFirst result }
 {
@@ -35,7 +35,7 @@ fn opening(alloc: Global) -> Opening
     }
 }
 
-/// A line's halves, opened for this watcher.
+/// The halves of a line that is opened for this watcher.
 fn opened(alloc: Global, line: Line) -> (Sender, Receiver)
     ensures next { IsNext 1 result.0 }
     ensures line { AreOneLine result.0 result.1 }
@@ -58,7 +58,7 @@ fn post(alloc: Global, number: u64) -> Result<Item, Fault>
     Ok(Arc::new(alloc, post)?)
 }
 
-/// Sends a post, the one with the number that is next.
+/// Sends a post, the one with the next number.
 fn send<R: Wait>(rt: &R, sender: &mut Sender, number: u64, post: Item) -> Result<(), Full>
     requires post { ((arc_value post).space ≡ 1) × ((arc_value post).number ≡ number) }
     requires next { IsNext number sender.old }
@@ -91,7 +91,7 @@ fn number_of(post: Option<Item>) -> u64 {
     }
 }
 
-/// Whether a line that is opened begins with no post.
+/// Whether a line that is opened begins without posts.
 fn is_empty(alloc: Global, line: Line) -> bool {
     let (mut sender, mut receiver) = opened(alloc, line);
     meet(&mut sender, &mut receiver) == (0, 0)
@@ -120,7 +120,7 @@ fn a_full_line_hands_a_post_back(rt: HostRuntime) -> Result<(), Fail> {
     Ok(())
 }
 
-/// Sends the posts 1 to `count`, each again while the line is full. `false` where it gives up.
+/// Sends the posts 1 to `count`, each again while the line is full. `false` if it gives up.
 fn send_all<R: Wait>(rt: &R, alloc: Global, mut sender: Sender, count: u64) -> Result<bool, Fault>
     requires { IsNext 1 sender }
 {
@@ -144,7 +144,7 @@ fn send_all<R: Wait>(rt: &R, alloc: Global, mut sender: Sender, count: u64) -> R
     Ok(false)
 }
 
-/// Takes posts until it has `count`. `false` where their numbers are not 1 to `count`, or where it gives up.
+/// Takes posts until it has `count`. `false` if their numbers are not 1 to `count`, or if it gives up.
 fn take_all<R: Wait>(rt: &R, mut receiver: Receiver, count: u64) -> bool {
     let mut taken = 0;
     'turns: for _turn in 0..TURNS {
@@ -164,7 +164,8 @@ fn take_all<R: Wait>(rt: &R, mut receiver: Receiver, count: u64) -> bool {
     false
 }
 
-/// Whether one thread sends all posts, and another takes them in order, through a line for eight.
+/// Whether one thread sends all posts and another takes them in order, through a line for eight
+/// posts.
 fn are_handed_over<R: Threads + Wait + Sync>(rt: &R, alloc: Global) -> Result<(bool, bool), Fault> {
     let line = make_line(alloc, 8)?;
     let (sender, receiver) = opened(alloc, line);

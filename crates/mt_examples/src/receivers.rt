@@ -1,5 +1,4 @@
-//! Receivers as a scan of all mounts finds them, which is slow and easy to believe, beside those that the engine
-//! finds.
+//! Receivers as a scan of all mounts finds them, which is slow but easy to trust, beside those that the engine finds.
 ghost use Rattle.std.specs.Prelude.{◌≡◌};
 ghost use Rattle.mt_propagate.specs.World.{world_view};
 ghost use Rattle.mt_propagate.specs.Touched.{since_view};
@@ -19,14 +18,14 @@ use mt_skel::list::is_among;
 use std::alloc::Global;
 use std::test::Fail;
 
-/// No session below makes so many directories.
+/// No session below makes this many directories.
 const MOST_DIRECTORIES: u64 = 16;
 
-/// Two namespaces of which each gets what is mounted in the other; a namespace that is a slave of another.
+/// Two namespaces, each of which receives what is mounted in the other; a namespace that is a slave of another.
 const NAMESPACES: &[u8] =
     b"mkfs a tmpfs none\nmkfs d ext4 /dev/x\nmkdir a /m\nnewns a\nsetattr 1 / prop=shared\ncopyns 1\nmount 1 d /m\nmkdir a /n\nsetattr 2 / prop=slave\nmount 2 d /m\nmount 1 d /n";
 
-/// A receiver whose root does not hold the directory, and one behind it that does.
+/// A receiver whose root does not hold the directory, and one after it that does.
 const WITHOUT_DIRECTORY: &[u8] =
     b"mkfs h tmpfs none\nmkfs a ext4 /dev/x\nmkfs d xfs /dev/y\nmkdir h /w\nmkdir h /v\nmkdir h /n\nmkdir h /f\nmkdir a /x\nmkdir a /t\nnewns h\nmount 1 a /w\nsetattr 1 /w prop=shared\nbind 1 /w /v\nsetattr 1 /v prop=slave\nsetattr 1 /v prop=shared\nbind 1 /v/x /n\nbind 1 /v /f\nsetattr 1 /f prop=slave\numount 1 /v\nmount 1 d /w/t";
 
@@ -76,7 +75,7 @@ fn is_found(found: &[GroupId], group: Option<GroupId>) -> bool {
     }
 }
 
-/// Adds the group of a mount, if its master was found and it was not.
+/// Adds the group of a mount, if its master was found but it was not.
 fn join_found(found: &mut Vec<GroupId>, peers: &Peers, state: State) -> Result<(), Fault> {
     let Some(group) = state.group else {
         return Ok(());
@@ -99,7 +98,7 @@ fn join_all_found(
     Ok(())
 }
 
-/// The groups that get what happens in a group: as often as there are mounts, those whose master does.
+/// The groups that receive what happens in a group: repeated as often as there are mounts, those whose master does.
 fn reached(
     peers: &Peers,
     states: &[(MountId, State)],
@@ -113,7 +112,7 @@ fn reached(
     Ok(found)
 }
 
-/// Whether a mount gets what happens at a place, where these groups do.
+/// Whether a mount receives what happens at a place, given the groups that do.
 fn is_receiver(world: &World, place: Place, found: &[GroupId], mount: &Mount) -> bool {
     if mount.id == place.mount {
         return false;
@@ -174,7 +173,7 @@ fn is_agreed_everywhere(world: &World) -> Result<bool, Fault> {
     Ok(true)
 }
 
-/// Does a command, whether it is refused or not. Refused as `NoMemory`, also where no number is left.
+/// Does a command, whether it is refused or not. Refused as `NoMemory`, even if no number is left.
 pub(crate) fn do_one(world: &mut World, command: &Command) -> Result<(), Fault>
     requires well_formed { IsWellFormed (world_view world.old) }
     ensures kept { IsWellFormed (world_view world.new) }
@@ -211,7 +210,7 @@ fn counted_at_root(world: &World) -> Result<(usize, u64), Fault> {
     Ok((ids.len(), looks.count()))
 }
 
-/// The same in a world that is as full as may be.
+/// The same in a world that is as full as it can be.
 fn counted_in_full_world(alloc: Global) -> Result<(usize, u64), Fault> {
     let commands = commands_of(alloc, FULL_WORLD)?;
     let doubling = commands_of(alloc, DOUBLING)?;

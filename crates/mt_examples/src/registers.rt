@@ -10,7 +10,7 @@ use std::io::ErrorKind;
 use std::os::unix::net::UnixStream;
 use std::test::Fail;
 
-/// A door of which each accept fails.
+/// A door at which each accept fails.
 #[derive(Drop)]
 struct Closed;
 
@@ -28,7 +28,7 @@ impl Door for Closed {
     }
 }
 
-/// A lookout that says always the same.
+/// A lookout that always says the same.
 #[derive(Drop)]
 struct Fixed {
     over: bool,
@@ -59,7 +59,8 @@ fn sessions_are_numbered_and_no_more_than_may_be(rt: HostRuntime) -> Result<(), 
     Ok(())
 }
 
-/// How a round ends at a closed door before which so many accepts in succession have failed, and how many have then.
+/// How a round ends at a closed door after this many accepts in succession have failed, and how many have failed
+/// afterwards.
 fn round(over: bool, before: u32) -> (Round, u32)
     requires { before < most_failures }
 {

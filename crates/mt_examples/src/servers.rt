@@ -32,7 +32,7 @@ struct HoldsFirst {
     state: Mutex<Held>,
 }
 
-/// What has come to pass at the gate.
+/// What has happened at the gate.
 #[derive(Clone, Copy, PartialEq, Eq)]
 struct Held {
     /// Session 2 was at the gate, and has gone on.
@@ -52,7 +52,7 @@ impl HoldsFirst {
         }
     }
 
-    /// What has come to pass.
+    /// What has happened.
     fn held<R: Wait>(&self, rt: &R) -> Held {
         *self.state.lock(rt)
     }
@@ -107,12 +107,12 @@ fn reads(alloc: Global, stream: &UnixStream, wanted: &[u8]) -> bool {
     }
 }
 
-/// Whether a request is answered so.
+/// Whether a request has this answer.
 fn answers(alloc: Global, stream: &UnixStream, request: &[u8], wanted: &[u8]) -> bool {
     send(&mut Writing::new(stream), request).is_ok() && reads(alloc, stream, wanted)
 }
 
-/// The number that answers a request, of 1 and 2; else 0.
+/// The number that answers a request, if it is 1 or 2; otherwise 0.
 fn number_answered(alloc: Global, stream: &UnixStream, request: &[u8]) -> u64 {
     if send(&mut Writing::new(stream), request).is_err() {
         return 0;
@@ -167,7 +167,7 @@ fn two_sessions_are_served_at_once(rt: HostRuntime) -> Result<(), Fail> {
     Ok(())
 }
 
-/// How a server ends of which each accept fails, and whose desk may be stopped already.
+/// How a server ends if each accept fails and its desk may be stopped already.
 fn ends_by_failures<R>(rt: &R, alloc: Global, path: &String, stopped: bool) -> io::Result<Ended>
 where
     R: Threads + Wait + Clock + Files + Net<Listener = TcpListener, Stream = TcpStream> + Sync,

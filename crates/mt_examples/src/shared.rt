@@ -3,7 +3,7 @@ ghost use Rattle.std.specs.Prelude.{◌≡◌};
 
 use crate::desks::all_watchers;
 use mt_desk::desk::Desk;
-use mt_desk::lines::{Lines, Naming};
+use mt_desk::lines::{Host, Lines, Naming};
 use mt_lines::line::LineReader;
 use mt_lines::memory::{Portions, Sink};
 use mt_lines::stream::Cut;
@@ -11,6 +11,7 @@ use mt_session::bell::Bell;
 use mt_session::gate::OpenGate;
 use mt_session::serving::{End, LINE_LIMIT};
 use mt_session::shared_serving::serve_shared;
+use mt_session::shared_session::SharedSession;
 use mt_skel::fault::Fault;
 use std::alloc::Global;
 use std::marker::Brand;
@@ -33,20 +34,34 @@ space 1 1 1
 1 1 0:1 / / rw,relatime - tmpfs none rw
 ";
 
-/// Whether a session whose writer fails behind the answer to `watch` is cut there, and has closed its watcher: as many may
-/// begin as there may be at all.
+/// Whether a session whose writer fails after the answer to `watch` is cut there, and has closed its watcher:
+/// afterwards as many may begin as there may be at all.
 fn leaves_no_watcher<J: Naming, R: Wait + Clock>(
     rt: &R,
     alloc: Global,
     lines: Lines,
 ) -> Result<bool, Fault>
-    requires { lines.lines ≡ J.lines }
+    requires lines { lines.lines ≡ J.lines }
+    requires history { lines.history ≡ J.history }
 {
+    let host: Host<J> = lines.host();
     let desk: Mutex<Desk<J>> = Mutex::new(Desk::new(lines));
+    let witness = desk.lock(rt).admit(&host);
+    let mut session = SharedSession::new(alloc, witness);
     let bell = Bell::new();
     let mut sink = Sink::new(alloc, 4_096, BEGUN.len())?;
     let mut lines = LineReader::new(alloc, Portions::new(WATCHES, 4_096), LINE_LIMIT)?;
-    let end = serve_shared(rt, alloc, 1, &mut lines, &mut sink, &desk, &bell, &OpenGate);
+    let end = serve_shared(
+        rt,
+        alloc,
+        1,
+        &mut lines,
+        &mut sink,
+        &desk,
+        &bell,
+        &OpenGate,
+        &mut session,
+    );
     let watchers = all_watchers(alloc, &mut desk.lock(rt))?;
     let cut = end == End::Cut(Cut { sent: 0 });
     Ok(cut && sink.bytes() == BEGUN && watchers.len() == 64)

@@ -4,7 +4,7 @@ ghost use Rattle.mt_lines.specs.Reading.{fault_of};
 
 use mt_client::ask::ask;
 use mt_desk::desk::Desk;
-use mt_desk::lines::{Lines, Naming};
+use mt_desk::lines::{Host, Lines, Naming};
 use mt_lines::line::LineReader;
 use mt_lines::memory::Sink;
 use mt_lines::stream::{Input, Reading, Writing};
@@ -56,7 +56,7 @@ pub(crate) fn ended_by(answer: Result<(), ServerFault>) -> Ended {
     }
 }
 
-/// A listener at a path where there may be the socket of an earlier run.
+/// A listener at a path where the socket of an earlier run may be.
 pub(crate) fn listening<R: Files + Net>(rt: &R, path: &String) -> io::Result<UnixListener> {
     let _ = fs::remove_file(rt, path.as_str());
     UnixListener::bind(rt, path.as_str())
@@ -73,7 +73,7 @@ pub(crate) struct Plan {
     pub(crate) stopped: bool,
 }
 
-/// A door of which each accept fails.
+/// A door at which each accept fails.
 #[derive(Drop)]
 struct Failing;
 
@@ -105,11 +105,14 @@ where
     J: Naming + Send + Sync,
     G: Gate + Sync,
     R: Threads + Wait + Clock + Net<Listener = TcpListener, Stream = TcpStream> + Sync,
-    requires { lines.lines ≡ J.lines }
+    requires lines { lines.lines ≡ J.lines }
+    requires history { lines.history ≡ J.history }
 {
+    let host: Host<J> = lines.host();
     let mut desk = Desk::new(lines);
     if plan.stopped {
-        desk.stop();
+        let mut witness = desk.admit(&host);
+        desk.stop(&mut witness);
     }
     let desk: Mutex<Desk<J>> = Mutex::new(desk);
     let bell = Bell::new();
@@ -117,6 +120,7 @@ where
         listener,
         path: path.as_str(),
         desk: &desk,
+        host: &host,
         bell: &bell,
         sessions: plan.sessions,
         idle: 0,

@@ -1,5 +1,5 @@
 //! What becomes of a mount that is made shared, a slave, private or unbindable: the table of states of the kernel's
-//! document on shared subtrees; and what a mount leaves behind that goes.
+//! document on shared subtrees; and what a mount that goes leaves behind.
 use mt_mounts::mount::MountId;
 use mt_peers::peers::Peers;
 use mt_peers::state::{GroupId, Kind, State};
@@ -10,16 +10,16 @@ use std::test::Fail;
 /// The mount that is made something else.
 const MOUNT: MountId = 1;
 
-/// Another member of its group, which is group 1, where there is one.
+/// Another member of its group, which is group 1, if there is one.
 const PEER: MountId = 2;
 
-/// The member of the group that is its master, where there is one.
+/// The member of the group that is its master, if there is one.
 const MASTER: MountId = 9;
 
 /// The group of [`MASTER`].
 const ABOVE: GroupId = 3;
 
-/// The group that a mount makes which is made shared and is in none: the first one, since no other was made.
+/// The group that a mount gets that is made shared and has none: the first one, since no other was made.
 const NEW: GroupId = 1;
 
 /// The kinds, in the order of the table.
@@ -41,7 +41,7 @@ const PRIVATE: State = State {
     unbindable: false,
 };
 
-/// Private, and not to be bound.
+/// Private, and cannot be bound.
 const UNBINDABLE: State = State {
     group: None,
     master: None,

@@ -1,4 +1,4 @@
-//! Lines of streams in memory in any pieces, and what is sent to streams that fail.
+//! Lines of streams in memory, in any pieces, and what is sent to streams that fail.
 use mt_lines::line::{Line, LineReader, ReadFault};
 use mt_lines::memory::{Faltering, Faulty, Portions, Sink};
 use mt_lines::stream::{Cut, Input, StreamFault, send};
@@ -19,7 +19,7 @@ fn word(answer: Result<Line, ReadFault>) -> &'static [u8] {
     }
 }
 
-/// What so many calls answer, each with the bytes that the reader lends behind it.
+/// What this many calls answer, each with the bytes that the reader lends after it.
 fn told<R: Input + Drop>(
     alloc: Global,
     reader: R,
@@ -36,7 +36,7 @@ fn told<R: Input + Drop>(
     Ok(told)
 }
 
-/// Whether a text has these lines in pieces of each size.
+/// Whether a text has these lines when it comes in pieces of each size.
 fn is_told(alloc: Global, text: &[u8], limit: u32, wanted: &[u8]) -> Result<bool, AllocError> {
     let mut same = true;
     for most in [1, 3, 1000] {
@@ -63,7 +63,7 @@ fn reads_the_same_lines_in_any_pieces(rt: HostRuntime) -> Result<(), Fail> {
     Ok(())
 }
 
-/// Whether a reader that fails so often in succession behind its first read gives these lines.
+/// Whether a reader that fails this often in succession after its first read gives these lines.
 fn is_kept(
     alloc: Global,
     fault: StreamFault,
@@ -93,7 +93,7 @@ fn keeps_a_fault(rt: HostRuntime) -> Result<(), Fail> {
     Ok(())
 }
 
-/// Whether a send to a writer that fails so often ends so, and the next one succeeds.
+/// Whether a send to a writer that fails this often ends like this, and the next one succeeds.
 fn is_sent_over(fault: StreamFault, times: u32, wanted: Result<(), Cut>) -> bool {
     let mut writer = Faltering::new(fault, times);
     let first = send(&mut writer, b"abc");

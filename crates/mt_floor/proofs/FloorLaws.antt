@@ -34,7 +34,7 @@ pub nothing : (b : Bool) → ◌≡◌ {A = List PostView} (cond b [] []) []
 nothing true = refl
 nothing false = refl
 
--- a newcomer stands behind the others
+-- a newcomer stands after the others
 pub newcomer_kept : (s : FloorView) (sc : Scope) → Kept s → Kept (opens s sc)
 newcomer_kept s sc k = record {
   rising = rises-last watcher_key (newcomer s sc) s.watchers k.below k.rising;

@@ -60,7 +60,7 @@ pub held_same : {key : ℕ} {scope : Scope} {before since since' : List Command}
     → Held key scope before since sent taken s → Held key scope before since' sent' taken' s
 held_same {key = key} {scope = scope} {before = before} {s = s} a b c h = coe 0 1 (i. Held key scope before (a i) (b i) (c i) s) h
 
--- a list with nothing behind it
+-- a list with nothing after it
 pub more : {X : Type 0} (xs : List X) {ys : List X} → ys ≡ [] → xs ≡ xs ++ ys
 more xs e = sym (append-nil xs) ∙ ap (λ l. xs ++ l) (sym e)
 
@@ -108,7 +108,7 @@ module _ {key : ℕ} {scope : Scope} {before since : List Command} {sent taken :
       becomes e a kept journal next (λ r at. h.row r (sym row ∙ at)) (due ∙ h.due ∙ ap (λ o. cond (is_found_open o) h.first.not_posted []) (sym row)) none posts takes (λ n. row ∙ n)
       (λ o. (ap is_found_open row ∙ o, calm)) (λ x. off (sym x ∙ lasts))
 
-  -- one behind which the watcher is gone or not open, and nothing is due to it
+  -- one after which the watcher is gone or not open, and nothing is due to it
   pub ends : (e : Event) (a : Stepped) → Kept a.0 → a.0.journal ≡ s.journal → s.next_key ≤ a.0.next_key
       → ((r : Watcher) → row_at watcher_key key a.0.watchers ≡ Some r → IsRowFor scope before sent taken r) → has_open key a.0 ≡ false → due_for key a.0.due ≡ []
       → accepted_by e a.1 ≡ [] → posted_by key s.due a.1 ≡ [] → taken_by key e a.1 ≡ [] → (row_at watcher_key key s.watchers ≡ None → row_at watcher_key key a.0.watchers ≡ None)

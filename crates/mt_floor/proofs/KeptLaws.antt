@@ -68,14 +68,14 @@ abbrev pub follows_all : List Command → FloorRowView → List PostView
 follows_all j r = followed_posts r.scope (take r.since j) (drop r.since j)
 
 module _ (c : ℕ) (j : List Command) (r : FloorRowView) (h : IsFloorRow c j r) where
-  -- it has taken so many posts
+  -- it has taken this many posts
   taken_count : length (take r.taken (follows_all j r)) ≡ r.taken
   taken_count = length-take-le r.taken (follows_all j r) h.taken
 
   sent_count : length (watcher_of j r).sent ≡ r.taken + length r.waiting
   sent_count = omega (arith, length-append (take r.taken (follows_all j r)) r.waiting, taken_count)
 
-  -- its queue is full where so many posts wait
+  -- its queue is full where this many posts wait
   pub full_is : is_full c (watcher_of j r) ≡ nat_le c (length r.waiting)
   full_is = same (length (watcher_of j r).taken + c) (length (watcher_of j r).sent) c (length r.waiting) r.taken (omega (arith, taken_count)) sent_count
     where

@@ -21,7 +21,7 @@ use Rattle.mt_floor.specs.Laws.{IsTold}
 use Rattle.mt_floor.proofs.RunLaws.{get_drop, told_next}
 use Rattle.mt_floor.proofs.HeadLaws.{held_then}
 
--- the row behind an answer
+-- the row after an answer
 pub record Answers (key : ℕ) (s : FloorView) (says : Watcher → Type 0) : Type 0 where
   pub row : Watcher
   pub at : row_at watcher_key key s.watchers ≡ Some row

@@ -11,7 +11,7 @@ use Rattle.mt_book.specs.declared.command.Command.{Command}
 use Rattle.mt_floor.specs.Watcher.{Watcher, watcher_key}
 use Rattle.mt_floor.specs.Rows.{FloorRowView, watcher_of}
 
--- the row of a key, with those before it and those behind it
+-- the row of a key, with those before it and those after it
 pub record IsAt (q i : ℕ) (rows : List FloorRowView) (row : FloorRowView) : Type 0 where
   pub front : List FloorRowView
   pub back : List FloorRowView

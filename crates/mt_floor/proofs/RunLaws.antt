@@ -35,7 +35,7 @@ run_split s es zero = refl
 run_split s [] (suc n) = refl
 run_split s (e ∷ es) (suc n) = run_split (floor_step s e).0 es n
 
--- an element behind the first ones, or among them
+-- an element after the first ones, or among them
 pub get_drop : {X : Type 0} (xs : List X) (n i : ℕ) → slice_get (drop n xs) i ≡ slice_get xs (n + i)
 get_drop xs zero i = ap (slice_get xs) (omega arith)
 get_drop [] (suc n) i = sym (slice_get_past [] (suc n + i) (omega arith))
@@ -52,7 +52,7 @@ get_left [] ys n e = absurd (get_in [] n _ e)
 get_left (z ∷ xs) ys zero e = e
 get_left (z ∷ xs) ys (suc n) e = get_left xs ys n e
 
--- the answers behind some events
+-- the answers after some events
 pub told_behind : (capacity : ℕ) (es : List Event) (n i : ℕ) → slice_get (run (floor_after capacity (take n es)) (drop n es)).1 i ≡ slice_get (answers capacity es) (n + i)
 told_behind capacity es n i = (λ j. slice_get (run_split (empty_floor capacity) es n j).1 i) ∙ get_drop (answers capacity es) n i
 

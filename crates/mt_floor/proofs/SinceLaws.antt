@@ -70,7 +70,7 @@ given_behind capacity xs ys key =
     let more = (run (floor_after capacity xs) ys).1 in
     λ i. given_posts key (drop_at xs ys (length xs) refl i) ((ap (drop (length xs)) (run_told (empty_floor capacity) xs ys) ∙ drop_at told more (length xs) (told_count (empty_floor capacity) xs)) i)
 
--- the answer behind some events
+-- the answer after some events
 pub at_seam : (capacity : ℕ) (xs : List Event) (e : Event) (ys : List Event) → slice_get (answers capacity (xs ++ e ∷ ys)) (length xs) ≡ Some (floor_step (floor_after capacity xs) e).1
 at_seam capacity xs e ys =
     let a = floor_step (floor_after capacity xs) e in

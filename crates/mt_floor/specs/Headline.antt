@@ -1,5 +1,5 @@
--- The headline, of every list of events from a floor with nothing done.
--- A word with no source is this project's rule.
+-- The headline, for every list of events from a floor on which nothing was done. A word with no
+-- source is this project's rule.
 --
 -- In every schedule, the events that a watcher has taken are a prefix of those posted for the namespaces it follows since its opening,
 -- each once and in order, none posted after its close or lag (TakenInOrder). Applied to its opening tables, they give each namespace's
@@ -124,7 +124,7 @@ pub record IsInOrder (capacity : ℕ) (es : List Event) (at key : ℕ) (o : Open
   -- a watcher that is gone, lagged or ended after some of the events gets no post from then on
   pub none : (n : ℕ) → at < n → has_open key (floor_after capacity (take n es)) ≡ false → posted_since capacity es n key ≡ []
 
--- the first sentence, of every list of events and every watcher that began in it
+-- the first sentence, for every list of events and every watcher that began in it
 abbrev pub TakenInOrder : Type 0
 TakenInOrder = (capacity : ℕ) (es : List Event) (at key : ℕ) (o : Opening) → slice_get (answers capacity es) at ≡ Some (Ok (Opened key o)) → IsInOrder capacity es at key o
 
@@ -138,22 +138,24 @@ pub record IsRebuilt (capacity : ℕ) (es : List Event) (at key : ℕ) (o : Open
   pub as_of : (n : ℕ) (front : List PostView) (p : PostView) → IsTrue (names_space o.scope n) → space_posts n (taken_since capacity es at key) ≡ front ++ p ∷ []
       → IsTableAsOf n p (accepted es (answers capacity es)) (table_made o n (taken_since capacity es at key))
 
--- the second sentence, of every list of events and every watcher that began in it
+-- the second sentence, for every list of events and every watcher that began in it
 abbrev pub TakenRebuild : Type 0
 TakenRebuild = (capacity : ℕ) (es : List Event) (at key : ℕ) (o : Opening) → slice_get (answers capacity es) at ≡ Some (Ok (Opened key o)) → IsRebuilt capacity es at key o
 
--- both sentences, of one list of events: of every watcher that began in it
+-- both sentences, for one list of events: for every watcher that began in it
 abbrev pub WatchersFollow : ℕ → List Event → Type 0
 WatchersFollow capacity es =
     (at key : ℕ) (o : Opening) → slice_get (answers capacity es) at ≡ Some (Ok (Opened key o)) → IsInOrder capacity es at key o × IsRebuilt capacity es at key o
 
--- events were done on the floor that others had led to, and answered so: all of them are one schedule, which leads to the floor now, and the headline holds of it
+-- events were done on the floor to which others had led, with these answers: all of them are one schedule, which leads to the floor
+-- now, and the headline holds for it
 pub record IsHeadlined (capacity : ℕ) (before es : List Event) (told : List (Result Answer Fault)) (now : FloorView) : Type 0 where
   pub floor : now ≡ floor_after capacity (before ++ es)
   pub answered : answers capacity (before ++ es) ≡ answers capacity before ++ told
   pub watchers : WatchersFollow capacity (before ++ es)
 
--- events were done on a floor: so it is, whatever events had led to it from one with nothing done
+-- events were done on a floor: this holds whatever events had led to it from one on which nothing
+-- was done
 abbrev pub HeadlineHolds : FloorView → List Event → List (Result Answer Fault) → FloorView → Type 0
 HeadlineHolds old es told now = (capacity : ℕ) (before : List Event) → old ≡ floor_after capacity before → IsHeadlined capacity before es told now
 
@@ -184,6 +186,7 @@ pub record IsGivenInOrder (capacity : ℕ) (es : List Event) (at key : ℕ) (o :
   pub run : IsRun o (given_since capacity es at key)
   pub tables : TellTables capacity es o (given_since capacity es at key)
 
--- so it is of every list of events and every watcher that began in it, up to its close and behind it
+-- this holds for every list of events and every watcher that began in it, up to its close and after
+-- it
 abbrev pub GivenInOrder : Type 0
 GivenInOrder = (capacity : ℕ) (es : List Event) (at key : ℕ) (o : Opening) → slice_get (answers capacity es) at ≡ Some (Ok (Opened key o)) → IsGivenInOrder capacity es at key o

@@ -22,12 +22,12 @@ pub record IsTold (capacity : ℕ) (es : List Event) (at key : ℕ) : Type 0 whe
 abbrev pub MeetingsTell : Type 0
 MeetingsTell = (capacity : ℕ) (es : List Event) (at key : ℕ) (o : Opening) → slice_get (answers capacity es) at ≡ Some (Ok (Opened key o)) → IsTold capacity es at key
 
--- no two answers begin a watcher of one key
+-- no two answers begin a watcher with the same key
 abbrev pub KeysOnce : Type 0
 KeysOnce =
     (capacity : ℕ) (es : List Event) (i j key : ℕ) (o p : Opening) → slice_get (answers capacity es) i ≡ Some (Ok (Opened key o)) → slice_get (answers capacity es) j ≡ Some (Ok (Opened key p)) → i ≡ j
 
--- events in two lists leave the floor and give the answers that they do in one
+-- events in two lists leave the same floor and give the same answers as in one
 pub record RunsJoin : Type 0 where
   pub state : (s : FloorView) (xs ys : List Event) → (run s (xs ++ ys)).0 ≡ (run (run s xs).0 ys).0
   pub told : (s : FloorView) (xs ys : List Event) → (run s (xs ++ ys)).1 ≡ (run s xs).1 ++ (run (run s xs).0 ys).1

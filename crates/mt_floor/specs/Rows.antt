@@ -26,7 +26,7 @@ pub record FloorRowView : Type 0 where
 abbrev pub new_floor_row : ℕ → Scope → ℕ → ℕ → FloorRowView
 new_floor_row key scope since capacity = record { key = key; scope = scope; since = since; taken = 0; waiting = []; room = capacity; phase = IsOpen }
 
--- a row with a post more
+-- a row with one more post
 abbrev pub with_post : FloorRowView → PostView → FloorRowView
 with_post r p = record r { waiting = r.waiting ++ p ∷ []; room = r.room - 1 }
 

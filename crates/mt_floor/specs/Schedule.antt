@@ -36,7 +36,7 @@ pub record FloorView : Type 0 where
 abbrev pub Stepped : Type 0
 Stepped = FloorView × Result Answer Fault
 
--- a floor with nothing done
+-- a floor on which nothing was done
 abbrev pub empty_floor : ℕ → FloorView
 empty_floor capacity = record { capacity = capacity; journal = []; next_key = 1; stopped = false; watchers = []; due = [] }
 
@@ -49,12 +49,12 @@ abbrev pub unless : Option Fault → FloorView → Stepped → Stepped
 unless None s done = done
 unless (Some f) s done = (s, Err f)
 
--- an event that is put off where a post is due
+-- an event that is put off if a post is due
 abbrev pub if_idle : List Due → FloorView → Stepped → Stepped
 if_idle [] s done = done
 if_idle (d ∷ ds) s done = (s, Ok NotNow)
 
--- where a post is due, each event is put off but those that send and take posts
+-- if a post is due, each event is put off except those that send and take posts
 abbrev pub is_put_off : List Due → Event → Bool
 is_put_off due PostNext = false
 is_put_off due (Take k) = false
@@ -82,7 +82,7 @@ sent_to s d ds false r = (changed (record s { due = ds }) (record r { sent = r.s
 abbrev pub has_open : ℕ → FloorView → Bool
 has_open key s = option_map_or (λ (r : Watcher). is_open r.phase) (row_at watcher_key key s.watchers) false
 
--- a queue is full where so many more posts were sent than taken
+-- a queue is full if this many more posts were sent than taken
 abbrev pub is_full : ℕ → Watcher → Bool
 is_full capacity r = nat_le (length r.taken + capacity) (length r.sent)
 
@@ -100,11 +100,11 @@ replied s c (Err f) = (s, Err f)
 abbrev pub command_refusal : FloorView → Option Fault
 command_refusal s = first_fault (refuse_if s.stopped Stopped ∷ refuse_if (nat_le command_limit (length s.journal)) JournalFull ∷ [])
 
--- a command is refused where none is accepted, and then by its own refusals
+-- a command is refused if none is accepted, and otherwise by its own refusals
 abbrev pub applied : FloorView → Command → Stepped
 applied s c = unless (command_refusal s) s (replied s c (step (after s.journal) c))
 
--- a watcher more, where there is room for it and a key is left
+-- one more watcher, if there is room for it and a key is left
 abbrev pub too_many_watchers : FloorView → Bool
 too_many_watchers s = nat_le watcher_limit (length s.watchers) || nat_le (2 ^ 64) s.next_key
 
@@ -123,7 +123,7 @@ opened s scope =
       Ok (Opened s.next_key (opening_of s.journal scope)),
     )
 
--- the answer where nothing is left to be taken
+-- the answer if nothing is left to be taken
 abbrev pub nothing_left : Phase → Result Answer Fault
 nothing_left IsOpen = Ok (Took None)
 nothing_left Lagged = Err WasLagged
@@ -173,7 +173,7 @@ takes_memory (Apply c) = true
 takes_memory (Open scope) = true
 takes_memory e = false
 
--- an event met want of memory, and was not done
+-- an event found no memory, and was not done
 abbrev pub lacked : Event → Result Answer Fault → Bool
 lacked e (Err NoMemory) = takes_memory e
 lacked e a = false

@@ -39,11 +39,11 @@ pub record IsFloor (s : FloorView) : Type 0 where
   -- nothing is due to a key without an open watcher
   pub idle : (key : ℕ) → has_open key s ≡ false → due_for key s.due ≡ []
 
--- a floor with nothing done is well-formed, and each event keeps this
+-- a floor on which nothing was done is well-formed, and each event keeps it so
 pub record FloorsStay : Type 0 where
   pub begins : (capacity : ℕ) → IsFloor (empty_floor capacity)
   pub stays : (s : FloorView) (e : Event) → IsFloor s → IsFloor (floor_step s e).0
 
--- no list of a watcher is longer than a number of 64 bits tells
+-- no list of a watcher is longer than a number of 64 bits can tell
 abbrev pub ListsAreShort : Type 0
 ListsAreShort = (s : FloorView) (key : ℕ) (r : Watcher) → IsFloor s → row_at watcher_key key s.watchers ≡ Some r → (length r.taken ≤ length r.sent) × (length r.sent ≤ 2 ^ 40)

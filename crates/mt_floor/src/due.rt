@@ -46,7 +46,7 @@ impl DuePost {
     }
 }
 
-/// Appends what is due of a post to a watcher, if it follows the post. Refused as `NoMemory` alone.
+/// Appends what is due of a post to a watcher, if it follows the post.
 fn push_due(due: &mut Vec<DuePost>, post: &Arc<Post>, row: &FloorRow) -> Result<(), Fault>
     ensures due { OnOk result (due.new.items ≡ due.old.items ++ due_if (arc_value post.now) row.now) }
     ensures memory { IsOkUnless result Fault.NoMemory }
@@ -61,7 +61,7 @@ fn push_due(due: &mut Vec<DuePost>, post: &Arc<Post>, row: &FloorRow) -> Result<
     Ok(())
 }
 
-/// Appends what is due of a post, by keys. Refused as `NoMemory` alone.
+/// Appends what is due of a post, by keys.
 fn push_post(due: &mut Vec<DuePost>, post: &Arc<Post>, rows: &[FloorRow]) -> Result<(), Fault>
     ensures due { OnOk result (due.new.items ≡ due.old.items ++ flat_map (due_if (arc_value post.now)) rows.now) }
     ensures memory { IsOkUnless result Fault.NoMemory }
@@ -72,7 +72,7 @@ fn push_post(due: &mut Vec<DuePost>, post: &Arc<Post>, rows: &[FloorRow]) -> Res
     Ok(())
 }
 
-/// What is due of posts, by posts and then by keys. Refused as `NoMemory` alone.
+/// What is due of posts, by posts and then by keys.
 pub(crate) fn due_of(
     alloc: Global,
     posts: &[Arc<Post>],

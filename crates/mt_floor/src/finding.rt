@@ -15,7 +15,7 @@ use std::alloc::Global;
 /// The most watchers at once.
 pub const MOST_WATCHERS: usize = 64;
 
-/// Whether the one namespace of a scope is not there. Where the scope names all namespaces, it is not missing.
+/// Whether the one namespace of a scope is not there. If the scope names all namespaces, none is missing.
 fn is_missing(book: &Book, scope: Scope) -> bool
     ensures { result ≡ is_missing book.now.journal scope }
 {
@@ -25,8 +25,9 @@ fn is_missing(book: &Book, scope: Scope) -> bool
     }
 }
 
-/// Why no watcher of this scope begins at a floor, or at a desk, with this book and so many watchers, of which the last
-/// one to begin got this key, and which has stopped or not: `NoNamespace`, else `TooManyWatchers`, else `Stopped`.
+/// Why no watcher of this scope begins at a floor, or at a desk, with this book and this many watchers, of which the
+/// last one to begin got this key, and which may have stopped: `NoNamespace`, otherwise `TooManyWatchers`, otherwise
+/// `Stopped`.
 pub fn opening_refusal(
     book: &Book,
     scope: Scope,
@@ -48,7 +49,7 @@ pub fn opening_refusal(
     None
 }
 
-/// Appends the number and the table of a namespace, if it is there and followed. Refused as `NoMemory` alone.
+/// Appends the number and the table of a namespace, if it is there and followed.
 fn push_part(parts: &mut Vec<Part>, book: &Book, scope: Scope, space: SpaceId) -> Result<(), Fault>
     ensures part { OnOk result (parts.new.items ≡ parts.old.items ++ part_if book.now.journal scope space) }
     ensures memory { IfErr result (λ fault. fault ≢ Fault.NoMemory → ⊥) }
@@ -68,7 +69,7 @@ fn push_part(parts: &mut Vec<Part>, book: &Book, scope: Scope, space: SpaceId) -
     Ok(())
 }
 
-/// The numbers and the tables of those of these namespaces that are there and followed. Refused as `NoMemory` alone.
+/// The numbers and the tables of those of these namespaces that are there and followed.
 fn parts_of(
     alloc: Global,
     book: &Book,
@@ -86,7 +87,7 @@ fn parts_of(
 }
 
 /// What a watcher of this scope finds in a book now: the number and the table of each namespace that is there and that
-/// the scope names, by rising namespace. Refused as `NoMemory` alone.
+/// the scope names, by rising namespace.
 pub fn found(alloc: Global, book: &Book, scope: Scope) -> Result<Opening, Fault>
     ensures opening { IfOk result (λ opening. opening ≡ opening_of book.now.journal scope) }
     ensures memory { IfErr result (λ fault. fault ≢ Fault.NoMemory → ⊥) }

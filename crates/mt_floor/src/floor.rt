@@ -46,7 +46,7 @@ impl Model for Floor {
     ghost invariant = { λ f. IsKeptFloor f.capacity f.book.journal f.last_key f.stopped f.rows.items f.due.items };
 }
 
-/// The answer where nothing is left to be taken: `Took(None)` of an open watcher, or why there will be no more.
+/// The answer if nothing is left to be taken: `Took(None)` for an open watcher, or why there will be no more.
 fn nothing_left(phase: Phase) -> Result<Answer, Fault>
     ensures { result ≡ nothing_left phase }
 {
@@ -58,8 +58,8 @@ fn nothing_left(phase: Phase) -> Result<Answer, Fault>
 }
 
 impl Floor {
-    /// A floor with nothing done. The queue of each watcher may hold this many posts, 1 to 1,024. Memory will come from
-    /// `alloc`, and none is taken yet.
+    /// A floor on which nothing was done. The queue of each watcher may hold this many posts, 1 to 1,024. Memory will
+    /// come from `alloc`, and none is taken yet.
     pub fn new(alloc: Global, capacity: usize) -> Floor
         requires { (0 < capacity) × (capacity ≤ 1024) }
         ensures { result ≡ empty_floor capacity }
@@ -82,7 +82,7 @@ impl Floor {
         &self.book
     }
 
-    /// How many posts were sent to a watcher and not taken: none where the key has no watcher.
+    /// How many posts were sent to a watcher and not taken: none if the key has no watcher.
     pub fn waiting_count(&self, key: WatchKey) -> usize
         ensures { result ≡ length (waiting self.now key) }
     {
@@ -132,7 +132,7 @@ impl Floor {
         Ok(Answer::Replied(reply))
     }
 
-    /// Sends the first due post to the watcher that it is due to first.
+    /// Sends the first due post to the first watcher to which it is due.
     fn post_next(&mut self) -> Answer
         ensures done { floor_step self.old Event.PostNext ≡ (self.new, Ok result) }
         ensures fewer { length self.new.due ≤ length self.old.due - 1 }
@@ -233,8 +233,8 @@ impl Floor {
         Answer::Halted
     }
 
-    /// The event `Apply` of a command that is lent, done or refused as [`step`](Floor::step) does or refuses it, so that
-    /// a command which the caller has need not be copied. Where a post is due, it is answered `NotNow`.
+    /// The event `Apply` of a command that is lent, done or refused as [`step`](Floor::step) does or refuses it, so
+    /// that a command that the caller has need not be copied. If a post is due, the answer is `NotNow`.
     pub fn apply(&mut self, command: &Command) -> Result<Answer, Fault>
         ensures done { IfOk result (λ answer. floor_step self.old (Event.Apply command.now) ≡ (self.new, Ok answer)) }
         ensures refused { IfErr result (λ fault. fault ≢ Fault.NoMemory → floor_step self.old (Event.Apply command.now) ≡ (self.new, Err fault)) }
@@ -246,16 +246,16 @@ impl Floor {
         self.apply_idle(command)
     }
 
-    /// Does what an event says. Where a post is due, each event but `PostNext` and `Take` is answered `NotNow`, before
-    /// any refusal, and so is `PostNext` where none is; then nothing has changed.
+    /// Does what an event says. If a post is due, each event except `PostNext` and `Take` is answered `NotNow`, before
+    /// any refusal, and so is `PostNext` if none is due; then nothing has changed.
     ///
     /// Refused, with nothing changed:
     ///
-    /// - `Apply` as `Stopped` after a stop, as `JournalFull` after 1,048,576 accepted commands, else with the first of
-    ///   the command's own refusals that holds, and as `NoMemory`;
-    /// - `Open` as `NoNamespace` where its one namespace is not there, as `TooManyWatchers` where there are 64 watchers
-    ///   or all keys were given out, as `Stopped` after a stop, and as `NoMemory`;
-    /// - `Take`, `Meet` and `Close` as `NoWatcher` where the key has no watcher;
+    /// - `Apply` as `Stopped` after a stop, as `JournalFull` after 1,048,576 accepted commands, otherwise with the
+    ///   first of the command's own refusals that holds, and as `NoMemory`;
+    /// - `Open` as `NoNamespace` if its one namespace is not there, as `TooManyWatchers` if there are 64 watchers or
+    ///   all keys were given out, as `Stopped` after a stop, and as `NoMemory`;
+    /// - `Take`, `Meet` and `Close` as `NoWatcher` if the key has no watcher;
     /// - `Take` from an empty queue as `Lagged` or as `Stopped`, if the watcher lags or was ended by a stop.
     ///
     /// `PostNext`, `Take`, `Meet`, `Close` and `Stop` take no memory.
@@ -289,13 +289,13 @@ impl Floor {
         }
     }
 
-    /// Does events one after another, and answers each as `step` does, also those that it refuses. The answers and the
-    /// floor are those of the events without the ones that met want of memory, which were not done. Refused as
-    /// `NoMemory` alone, where there is no room for the answers, and then nothing has changed.
+    /// Does events one after another, and answers each as `step` does, including those that it refuses. The answers and
+    /// the floor are those of the events without those that found no memory, which were not done. The call itself is
+    /// refused only where there is no room for the answers.
     ///
     /// The events that a watcher has taken are a prefix of those posted for the namespaces it follows since its
     /// opening, each once and in order, none posted after its close or lag; applied to its opening tables they give
-    /// each namespace's table as of its last taken number (`headline`). So it is of every watcher that began on this
+    /// each namespace's table as of its last taken number (`headline`). This holds for every watcher that began on this
     /// floor, in this call or before it, whatever was done on it since it was new.
     pub fn run(&mut self, events: Vec<Event>) -> Result<Vec<Result<Answer, Fault>>, Fault>
         ensures schedule { IfOk result (λ answers. run self.old (done_events events.items answers.items) ≡ (self.new, done_answers events.items answers.items)) }

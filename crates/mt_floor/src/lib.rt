@@ -1,4 +1,4 @@
-//! Commands, watchers and their posts in one order: what all schedules of sessions come down to.
+//! Commands, watchers and their posts in one order, to which all schedules of sessions come down.
 //!
 //! [`floor`] has the calls, and [`event`] what can happen and what is answered. [`watch`] has what is told of a
 //! watcher, and [`finding`] what the book shows to one that begins. Inside, [`row`] and [`rows`] have what is kept

@@ -40,7 +40,7 @@ impl Model for FloorRow {
 }
 
 impl FloorRow {
-    /// A watcher that begins now, with room for this many posts. Refused as `NoMemory` alone.
+    /// A watcher that begins now, with room for this many posts.
     pub(crate) fn new(
         alloc: Global,
         key: WatchKey,
@@ -69,7 +69,7 @@ impl FloorRow {
         self.key
     }
 
-    /// Whether it is still posted to.
+    /// Whether posts are still sent to it.
     pub(crate) fn phase(&self) -> Phase
         ensures { result ≡ self.now.phase }
     {
@@ -113,14 +113,14 @@ impl FloorRow {
         self.queue.push_back_reserved(post);
     }
 
-    /// Sends it nothing any more, since its queue is full.
+    /// Sends it nothing more, since its queue is full.
     pub(crate) fn lag(&mut self)
         ensures { self.new ≡ lagged self.old }
     {
         self.phase = Phase::Lagged;
     }
 
-    /// Sends it nothing any more, since the server has stopped.
+    /// Sends it nothing more, since the server has stopped.
     pub(crate) fn end(&mut self)
         ensures { self.new ≡ row_after_stop self.old }
     {

@@ -21,7 +21,7 @@ pub(crate) fn place_of(rows: &[FloorRow], key: WatchKey) -> Option<usize>
     rows.iter().position(|row| row.key() == key)
 }
 
-/// The watcher at this place is sent nothing any more, since its queue is full.
+/// The watcher at this place is sent nothing more, since its queue is full.
 pub(crate) fn lag_at(rows: &mut Vec<FloorRow>, place: usize)
     requires { place < length rows.old.items }
     ensures { (row : FloorRowView) → slice_get rows.old.items place ≡ Some row → rows.new.items ≡ set rows.old.items place (lagged row) }
@@ -40,8 +40,8 @@ pub(crate) fn push_at(rows: &mut Vec<FloorRow>, place: usize, post: Arc<Post>)
     row.push(post);
 }
 
-/// Sends the first due post to the watcher at this place, which is the one of the key that it is due to. Where its
-/// queue holds this many posts, it lags, and nothing is due to it any more. Answers whether it does. Takes no memory.
+/// Sends the first due post to the watcher at this place, the one with the key to which it is due. If its queue holds
+/// this many posts, it lags, and nothing is due to it any more. Answers whether it lags. Takes no memory.
 pub(crate) fn post_at(
     rows: &mut Vec<FloorRow>,
     place: usize,
@@ -78,7 +78,7 @@ pub(crate) fn take_at(rows: &mut Vec<FloorRow>, place: usize) -> Option<Arc<Post
     row.take()
 }
 
-/// All watchers are sent nothing any more, since the server has stopped.
+/// All watchers are sent nothing more, since the server has stopped.
 pub(crate) fn end_all(rows: &mut Vec<FloorRow>)
     ensures { rows.new.items ≡ map row_after_stop rows.old.items }
 {

@@ -1,4 +1,4 @@
--- Commands, and the words of one, appended one behind the other.
+-- Commands, and the words of one, appended one after the other.
 use Rattle.std.proofs.Common.{◌≡◌, ℕ, List, [], ◌++◌, Option, Some, codes, sym, ap, ◌∙◌, append_assoc}
 use Rattle.std.specs.BTreeMap.{BTreeMap}
 use Rattle.mt_import.specs.declared.groups.Group.{Group}

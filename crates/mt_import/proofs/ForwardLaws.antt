@@ -11,7 +11,7 @@ use Rattle.mt_import.specs.Script.{IsScript}
 use Rattle.mt_import.specs.Spaces.{spaces_text, AreMade}
 use Rattle.mt_import.specs.Telling.{tree_rows, space_comments, HasMakingOrder}
 
--- a script of its parts, one behind the other
+-- a script of its parts, one after the other
 pub imported : (groups : BTreeMap ℕ Group) (spaces : List Space) (s0 s1 s2 s3 s4 front : List ℕ) → s0 ≡ [] → s1 ≡ s0 ++ flat_map tree_rows spaces
     → s2 ≡ s1 ++ flat_map space_comments spaces → AllByRecursion HasMakingOrder spaces → is_sound groups spaces ≡ true → StandsInFront groups spaces front → s3 ≡ s2 ++ front → AreMade groups spaces s3 s4
     → IsScript s4 → IsImport (map (λ (s : Space). s.tree.rows) spaces) s4

@@ -20,7 +20,7 @@ use Rattle.mt_import.specs.RowReading.{RowsAreTold}
 words_of_line : (r : Row) → IsRow r → words (line r) ≡ line_words r
 words_of_line r h = pieces_joined 32 (decimal r.id) _ (words-lack r h)
 
--- an optional field that stands first is read, and the words behind it are left
+-- an optional field that stands first is read, and the words after it are left
 shared_taken : (m v : Option ℕ) (u : Bool) (o : Option ℕ) (rest : List (List ℕ)) → ForSome o (λ g. g < 2 ^ 64)
     → fields_in (record { shared = None; master = m; via = v; unbindable = u }) (tag (codes "shared:") o ++ rest) ≡ fields_in (record { shared = o; master = m; via = v; unbindable = u }) rest
 shared_taken m v u None rest fits = refl

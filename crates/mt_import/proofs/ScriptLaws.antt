@@ -5,14 +5,14 @@ use Rattle.std.proofs.lemmas.List.Folds.{list_all-append}
 use Rattle.std.specs.List.{flat_map, list_all}
 use Rattle.mt_import.specs.Script.{is_script_line, IsScript}
 
--- the text of lines and of others behind them
+-- the text of lines and of others after them
 text_more : (lines others : List (List ℕ)) → flat_map (λ l. l ++ 10 ∷ []) (lines ++ others) ≡ flat_map (λ l. l ++ 10 ∷ []) lines ++ flat_map (λ l. l ++ 10 ∷ []) others
 text_more [] others = refl
 text_more (l ∷ ls) others =
     ap (λ x. (l ++ 10 ∷ []) ++ x) (text_more ls others)
     ∙ sym (append_assoc (l ++ 10 ∷ []) (flat_map (λ l. l ++ 10 ∷ []) ls) (flat_map (λ l. l ++ 10 ∷ []) others))
 
--- a script with another one behind it is one
+-- a script with another one after it is one
 pub both_scripts : (old more new : List ℕ) → IsScript old → IsScript more → new ≡ old ++ more → IsScript new
 both_scripts old more new (lines, text, all) (others, behind, rest) e = (
   lines ++ others,

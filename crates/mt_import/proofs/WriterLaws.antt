@@ -4,7 +4,7 @@ use Rattle.std.proofs.lemmas.List.{append-nil}
 use Rattle.std.specs.List.{flat_map, join_with_byte}
 use Rattle.mt_import.specs.Script.{line_text, group_comment}
 
--- words of which the first stands alone and the others each behind the byte between
+-- words of which the first stands alone and the others each preceded by the byte between
 behind : (first : List ℕ) (words : List (Bor (List ℕ))) → join_with_byte 32 (first ∷ map (λ word. word.now) words) ≡ first ++ flat_map (λ word. 32 ∷ word.now) words
 behind first [] = sym (append-nil first)
 behind first (word ∷ words) = ap (λ rest. first ++ 32 ∷ rest) (behind word.now words)

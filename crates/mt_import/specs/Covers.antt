@@ -1,5 +1,5 @@
--- The mounts at the root of a namespace: the root mount, and those that stand on its root, one on the other. No path leads there, so each one becomes the
--- root of the namespace (pivot_root(2)), and the one before it is put on it, or back.
+-- The mounts at the root of a namespace: the root mount, and those that stand on its root, one on the other. No path leads there, so
+-- each one becomes the root of the namespace in turn (pivot_root(2)), and the one before it is put on it, or back.
 use Rattle.std.specs.Prelude.{ℕ, Bool, true, false, ◌&&◌, ◌==◌, nat_lt, if◌then◌else◌, List, [], ◌∷◌, ◌++◌, slice_get, Option, Some, None, is_some, codes}
 use Rattle.std.specs.BTreeMap.{BTreeMap}
 use Rattle.std.specs.Option.{option_map_or}

@@ -1,5 +1,5 @@
--- What stands in front of the namespaces: filesystems and their directories, the first namespace, and what is staged in it.
--- A word with no source is this project's rule.
+-- What comes before the namespaces: filesystems and their directories, the first namespace, and what is staged in it. A word with no
+-- source is this project's rule.
 use Rattle.std.specs.Prelude.{◌≡◌, ◌⊎◌, ℕ, false, List, [], ◌∷◌, ◌++◌, Option, Some, None, codes, decimal}
 use Rattle.std.specs.BTreeMap.{BTreeMap, get}
 use Rattle.std.specs.List.{flat_map, list_any}
@@ -32,7 +32,7 @@ member_text number group =
 unfoldable pub stage_text : BTreeMap ℕ Group → ℕ → List ℕ
 stage_text groups number = option_map_or (member_text number) (get nat_cmp groups number) []
 
--- what stands in front, of filesystems, directories, and what is staged of devices and groups
+-- what comes before them: filesystems, directories, and what is staged of devices and groups
 unfoldable pub front_text : BTreeMap ℕ Group → List ℕ → List ℕ → List (List ℕ) → List ℕ → List ℕ
 front_text groups filesystems directories devices staged =
     ((((filesystems ++ command_text (codes "mkfs" ∷ codes "import" ∷ codes "import" ∷ codes "none" ∷ []))
@@ -45,6 +45,6 @@ abbrev pub IsFronted : BTreeMap ℕ Group → List ℕ → List ℕ → Type 0
 IsFronted groups old new =
     (filesystems : List ℕ) × (directories : List ℕ) × (devices : List (List ℕ)) × (staged : List ℕ) × (new ≡ old ++ front_text groups filesystems directories devices staged)
 
--- it stands there where a namespace is made
+-- it is there if a namespace is made
 abbrev pub StandsInFront : BTreeMap ℕ Group → List Space → List ℕ → Type 0
 StandsInFront groups spaces front = ((list_any is_shown spaces ≡ false) × (front ≡ [])) ⊎ IsFronted groups [] front

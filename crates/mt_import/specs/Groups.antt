@@ -10,12 +10,12 @@ use Rattle.mt_import.specs.declared.groups.Group.{Group}
 abbrev pub is_staged : Group → Bool
 is_staged group = group.is_needed || nat_lt 1 group.members
 
--- a group, if others get what is mounted on a member
+-- a group, if others receive what is mounted on a member
 abbrev pub receiving_in : Option Group → Option ℕ → Option ℕ
 receiving_in None shared = None
 receiving_in (Some group) shared = if is_staged group then shared else None
 
--- the group of a mount, if others get what is mounted on it
+-- the group of a mount, if others receive what is mounted on it
 unfoldable pub receiving : BTreeMap ℕ Group → Option ℕ → Option ℕ
 receiving groups None = None
 receiving groups (Some number) = receiving_in (get nat_cmp groups number) (Some number)
@@ -24,7 +24,7 @@ receiving groups (Some number) = receiving_in (get nat_cmp groups number) (Some 
 abbrev pub source_group : BTreeMap ℕ Group → Option ℕ → Option ℕ → Option ℕ
 source_group groups shared master = option_or (receiving groups shared) master
 
--- the group of a mount that is alone in it, so that no other gets what is mounted on it
+-- the group of a mount that is alone in it, so that no other receives what is mounted on it
 unfoldable pub lone_group : BTreeMap ℕ Group → Option ℕ → Option ℕ
 lone_group groups shared = if is_some (receiving groups shared) then None else shared
 

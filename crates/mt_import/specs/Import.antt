@@ -12,9 +12,10 @@ use Rattle.mt_import.specs.Script.{IsScript}
 use Rattle.mt_import.specs.Spaces.{spaces_text}
 use Rattle.mt_import.specs.Telling.{tree_rows, space_comments, HasMakingOrder}
 
--- Each row of each table has a mount in the tree of its table, where it stands as the row says, or is told, with a reason. Each mount of a tree is told, with a reason, or made at its turn. In
--- front of the turns the filesystems are made and what is staged, and between them the namespace that keeps masters. What is planned is what the tables tell, and
--- each line that is no comment is one that the server reads as a command.
+-- Each row of each table has a mount in the tree of its table, where it stands as the row says, or is told, with a reason. Each mount
+-- of a tree is told, with a reason, or made at its turn. Before the turns, the filesystems are made and what is staged, and between
+-- them the namespace that keeps masters. What is planned is what the tables tell, and each line that is not a comment is one that the
+-- server reads as a command.
 pub record IsImport (tables : List (List ToldMount)) (script : List ℕ) : Type 0 where
   pub groups : BTreeMap ℕ Group
   pub spaces : List Space

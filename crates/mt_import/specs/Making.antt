@@ -1,5 +1,4 @@
--- How a mount is made, where nothing propagates.
--- A word with no source is this project's rule.
+-- How a mount is made where nothing propagates. A word with no source is this project's rule.
 use Rattle.std.specs.Prelude.{ℕ, Bool, true, false, ◌&&◌, not, if◌then◌else◌, List, [], ◌∷◌, ◌++◌, Option, Some, None, is_some, codes}
 use Rattle.std.specs.BTreeMap.{BTreeMap}
 use Rattle.mt_import.specs.declared.groups.Group.{Group}
@@ -30,7 +29,7 @@ unfoldable pub made_text : List ℕ → List ℕ → Option ℕ → List ℕ →
 made_text space at None device root path = own_text space at device root path
 made_text space at (Some group) device root path = bind_text space (group_path at group root) path
 
--- how the propagation of a mount changes that was just made: not where it is a member of its group then
+-- how the propagation of a mount that was just made changes: not at all if it is already a member of its group
 abbrev pub kind_made : Option ℕ → Option ℕ → Bool → Option (List ℕ)
 kind_made (Some group) master unbindable = None
 kind_made None (Some group) unbindable = Some (codes "prop=slave")
@@ -40,7 +39,7 @@ kind_made None None false = None
 unfoldable pub first_kind : BTreeMap ℕ Group → ToldMount → Option (List ℕ)
 first_kind groups row = kind_made (receiving groups row.shared) row.master row.unbindable
 
--- the options of a mount that is alone in its group and no slave wait until it is made shared
+-- the options of a mount that is alone in its group and is not a slave wait until it is made shared
 unfoldable pub waits : BTreeMap ℕ Group → ToldMount → Bool
 waits groups row = is_some (lone_group groups row.shared) && not (is_some row.master)
 

@@ -5,7 +5,7 @@ use Rattle.std.specs.List.{list_any, list_all}
 use Rattle.std.specs.Str.{bytes_eq}
 use Rattle.mt_lines.specs.Words.{pieces}
 
--- the options that are set alone
+-- the options that are set by themselves
 abbrev pub flags : List (List ℕ)
 flags = codes "ro" ∷ codes "nosuid" ∷ codes "nodev" ∷ codes "noexec" ∷ codes "nodiratime" ∷ codes "nosymfollow" ∷ []
 
@@ -61,6 +61,6 @@ abbrev pub with_kind : Option (List ℕ) → List ℕ → List ℕ
 with_kind None text = text
 with_kind (Some kind) text = (text ++ codes " ") ++ kind
 
--- the words for the options of a row and for its propagation, each behind a space
+-- the words for the options of a row and for its propagation, each preceded by a space
 unfoldable pub options_text : List ℕ → Option (List ℕ) → List ℕ
 options_text options kind = with_kind kind (with_times (times_of options) (with_flags options [] flags))

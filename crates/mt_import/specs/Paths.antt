@@ -1,5 +1,5 @@
--- Paths as a mountinfo has them, of which that of a root is empty here.
--- A word with no source is this project's rule.
+-- Paths as a mountinfo has them; here the path of a root is empty. A word with no source is this
+-- project's rule.
 use Rattle.std.specs.Prelude.{ℕ, Bool, true, false, not, nat_eq, nat_le, nat_lt, ◌==◌, ◌&&◌, ◌||◌, if◌then◌else◌, List, [], ◌∷◌, length, drop, Option, Some, None, codes}
 use Rattle.std.specs.List.{filter, list_all, list_any, starts_with}
 use Rattle.std.specs.Option.{option_map_or}
@@ -7,7 +7,7 @@ use Rattle.std.specs.Str.{bytes_eq}
 use Rattle.mt_skel.specs.Escapes.{unescaped}
 use Rattle.mt_lines.specs.Words.{pieces}
 
--- a path without its slash, where that is all it is
+-- a path without its slash, if that is all it is
 abbrev pub below_root : List ℕ → List ℕ
 below_root word = if bytes_eq word (codes "/") then [] else word
 
@@ -26,12 +26,12 @@ says_name piece =
     option_map_or (λ bytes. nat_le 1 (length bytes) && nat_le (length bytes) 255) (unescaped piece) false
     && list_all (λ b. not (b == 0)) piece && not (bytes_eq piece (codes ".")) && not (bytes_eq piece (codes ".."))
 
--- a path that the script can name: of at most 4,000 bytes, each name of it behind a slash
+-- a path that the script can name: of at most 4,000 bytes, each name of it after a slash
 unfoldable pub can_be_named : List ℕ → Bool
 can_be_named [] = true
 can_be_named (b ∷ text) = b == 47 && nat_le (length (b ∷ text)) 4000 && list_all says_name (pieces 47 text)
 
--- what stands behind a path in one that is below it, or is the same
+-- what comes after a path in one that is below it, or is the same
 abbrev pub names_behind : List ℕ → Option (List ℕ)
 names_behind [] = Some []
 names_behind (b ∷ rest) = if b == 47 then Some (b ∷ rest) else None

@@ -31,8 +31,8 @@ pub record IsRootMount (row : ToldMount) (mount : Mount) : Type 0 where
   pub level : mount.level ≡ 0
   pub base : mount.base ≡ 0
 
--- of the next mount of a number, at these names on another one, the lowest of its stack, and the names to that: it is in the stack of the other one where there
--- are no names
+-- of the next mount of a number, at these names on another one, the lowest of its stack, and the names to that: it is in the stack of
+-- the other one if there are no names
 abbrev pub stack_on : Mount → List ℕ → ℕ → ℕ × List ℕ
 stack_on parent [] here = (parent.lowest, parent.names.now)
 stack_on parent (b ∷ names) here = (here, b ∷ names)
@@ -42,7 +42,7 @@ abbrev pub level_on : Mount → List ℕ → ℕ
 level_on parent [] = parent.level
 level_on parent (b ∷ names) = min (parent.level + 1) (2 ^ 64 - 1)
 
--- how many a mount of a level stands on at the root of the namespace, if they may be so many
+-- how many a mount of a level stands on at the root of the namespace, if they may be this many
 abbrev pub base_on : Mount → ℕ → Option ℕ
 base_on parent level = if level == 0 then (if nat_lt parent.base 32 then Some (parent.base + 1) else None) else Some parent.base
 

@@ -51,7 +51,7 @@ rows_made_from ways number (mount ∷ mounts) = if is_made ways number then moun
 abbrev pub rows_made : Space → List ToldMount
 rows_made of = rows_made_from of.ways.items 0 of.tree.mounts
 
--- whether a number is told, and whether both or none are, the same one
+-- whether a number is told, and whether both are told and are the same, or neither is told
 abbrev pub is_number : Option ℕ → ℕ → Bool
 is_number told number = option_map_or (λ (n : ℕ). n == number) told false
 
@@ -76,7 +76,7 @@ abbrev pub is_grouped : BTreeMap ℕ Group → List ToldMount → ToldMount → 
 is_grouped groups rows row =
     option_map_or (λ number. option_map_or (λ (group : Group). is_group_of group rows row number) (get nat_cmp groups number) false) row.shared true
 
--- all rows that are made are in their groups, whatever table they are of
+-- all rows that are made are in their groups, whichever table they are from
 abbrev pub are_grouped : BTreeMap ℕ Group → List ToldMount → Bool
 are_grouped groups rows = list_all (is_grouped groups rows) rows
 

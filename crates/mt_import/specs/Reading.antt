@@ -7,7 +7,7 @@ use Rattle.std.specs.Str.{bytes_eq}
 use Rattle.mt_lines.specs.Words.{pieces, words, number_in_text}
 use Rattle.mt_import.specs.declared.read.Fields.{Fields}
 
--- what a line tells of a mount: the line itself, words as they stand there, and numbers
+-- what a line tells of a mount: the line itself, words as they are there, and numbers
 pub record ToldMount : Type 0 where
   pub line : List ℕ
   pub id : ℕ
@@ -27,7 +27,7 @@ pub record ToldMount : Type 0 where
 abbrev pub no_fields : Fields
 no_fields = record { shared = None; master = None; via = None; unbindable = false }
 
--- with one more optional field; none where no number stands behind a name that has one, and no other name matters
+-- with one more optional field; none if no number comes after a name that has one; other names do not matter
 -- (proc_pid_mountinfo(5), field 7)
 abbrev pub with_field : Fields → List ℕ → Option Fields
 with_field fields field =
@@ -37,7 +37,7 @@ with_field fields field =
     else (if starts_with nat_eq field (codes "propagate_from:") then option_map (λ n. record fields { via = Some n }) (number_in_text (drop 15 field))
     else Some fields)))
 
--- the optional fields up to a dash, and the words behind it (proc_pid_mountinfo(5), fields 7 and 8)
+-- the optional fields up to a dash, and the words after it (proc_pid_mountinfo(5), fields 7 and 8)
 abbrev pub fields_in : Fields → List (List ℕ) → Option (Fields × List (List ℕ))
 fields_in fields [] = None
 fields_in fields (word ∷ words) =
@@ -51,7 +51,7 @@ are_numbers pieces = false
 abbrev pub is_device : List ℕ → Bool
 is_device word = are_numbers (pieces 58 word)
 
--- the type and the source stand behind the dash, and one word of super options behind them, whatever they are
+-- the type and the source come after the dash, and one word of super options after them, whatever it is
 -- (proc_pid_mountinfo(5), fields 9 to 11)
 abbrev pub end_in : List (List ℕ) → Option (List ℕ × List ℕ)
 end_in (kind ∷ source ∷ super ∷ []) = Some (kind, source)

@@ -27,7 +27,7 @@ apart_path at level = slot at (codes "/apart-") (level - 1) []
 abbrev pub cover_path : List ℕ → ℕ → List ℕ
 cover_path at base = slot at (codes "/cover-") base []
 
--- names behind the path of what the lowest mount of a stack stands on: one of the level below, or at the root of the namespace
+-- names after the path of what the lowest mount of a stack stands on: one of the level below, or at the root of the namespace
 abbrev pub path_from : List ℕ → ℕ → ℕ → List ℕ → List ℕ
 path_from at level base names =
     if nat_lt 1 level then slot at (codes "/apart-") (level - 2) names

@@ -14,12 +14,12 @@ use Rattle.mt_import.specs.Slots.{stage}
 use Rattle.mt_import.specs.Telling.{is_made, is_shown}
 use Rattle.mt_import.specs.Turns.{turns_from}
 
--- the numbers of those that pass a test, where that of the first is this one
+-- the numbers of those that pass a test, if that of the first is this one
 abbrev pub numbers_where : {X : Type 0} → (ℕ → X → Bool) → ℕ → List X → List ℕ
 numbers_where test number [] = []
 numbers_where test number (x ∷ xs) = if test number x then number ∷ numbers_where test (suc number) xs else numbers_where test (suc number) xs
 
--- the mounts that are made on the root of the root mount, or of one that stands so
+-- the mounts that are made on the root of the root mount, or of another mount that is
 abbrev pub is_cover : List Way → ℕ → Mount → Bool
 is_cover ways number mount = mount.level == 0 && nat_lt 0 mount.base && is_made ways number
 
@@ -29,7 +29,7 @@ mounts_made groups space at of =
     (turns_from groups space at of [] 0 of.tree.mounts ++ covered groups space at of.tree.mounts (numbers_where (is_cover of.ways.items) 0 of.tree.mounts))
     ++ finished groups space at of.tree.mounts
 
--- in a copy of the first namespace, but for that itself
+-- in a copy of the first namespace, except for that itself
 abbrev pub copied_if : Bool → List ℕ
 copied_if true = copy_text (codes "1")
 copied_if false = []
@@ -42,7 +42,7 @@ space_text groups of =
 abbrev pub made_if_shown : BTreeMap ℕ Group → Space → List ℕ
 made_if_shown groups of = if is_shown of then space_text groups of else []
 
--- the first one last, behind what else is made
+-- the first one last, after what else is made
 abbrev pub spaces_text : BTreeMap ℕ Group → List Space → List ℕ → List ℕ
 spaces_text groups [] between = []
 spaces_text groups (of ∷ others) between =

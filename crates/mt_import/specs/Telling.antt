@@ -1,5 +1,5 @@
--- What a script tells of the rows of which it makes no mount, or another one than they tell.
--- A word with no source is this project's rule.
+-- What a script tells of the rows for which it makes no mount, or another one than they tell. A
+-- word with no source is this project's rule.
 use Rattle.std.specs.Prelude.{ℕ, Bool, true, false, not, List, [], ◌∷◌, ◌++◌, Option, Some, is_some, slice_get, codes}
 use Rattle.std.specs.Option.{option_map_or}
 use Rattle.mt_import.specs.declared.mount.Mount.{Mount}
@@ -41,6 +41,6 @@ is_shown space = is_made space.ways.items 0
 abbrev pub space_comments : Space → List ℕ
 space_comments space = mounts_text space.tree.table space.tree.mounts space.ways.items ++ rootless_text (is_shown space) space.tree.table
 
--- a table has a tree, each mount behind the one that it stands on
+-- a table has a tree, each mount after the one that it stands on
 abbrev pub HasMakingOrder : Space → Type 0
 HasMakingOrder space = IsMakingOrder space.tree.rows space.tree.mounts space.tree.left

@@ -47,7 +47,7 @@ pub record IsNextMount (rows : List ToldMount) (mounts : List Mount) (number : �
   pub within : mount.above ≤ length mounts - 1
   pub stands : StandsThere rows mounts (length mounts) mount
 
--- Each mount stands where its row says, behind the one that it stands on. Each row that has a mount has one, and no other row has.
+-- Each mount stands where its row says, after the one that it stands on. Each row that has a mount has one, and no other row has.
 pub record IsMakingOrder (rows : List ToldMount) (mounts : List Mount) (left : List (Option Reason)) : Type 0 where
   pub order : stand_on_earlier 0 (map (λ (m : Mount). m.above) mounts) ≡ true
   pub stands : (number : ℕ) (mount : Mount) → slice_get mounts number ≡ Some mount → StandsThere rows mounts number mount

@@ -1,5 +1,5 @@
--- The mounts of a table are made, each once: it is begun behind what it stands on, and comes to its place when all stands on it that does.
--- A word with no source is this project's rule.
+-- The mounts of a table are made, each once: it is begun after what it stands on, and gets to its place once everything that belongs
+-- on it stands on it. A word with no source is this project's rule.
 use Rattle.std.specs.Prelude.{ℕ, suc, ◌-◌, ◌==◌, ◌||◌, Bool, if◌then◌else◌, List, [], ◌∷◌, ◌++◌, drop, take, length, is_some, Option, Some, None, slice_get, map}
 use Rattle.std.specs.List.{flat_map}
 use Rattle.std.specs.Option.{option_and_then}
@@ -15,7 +15,7 @@ use Rattle.mt_import.specs.Hook.{hooked_text}
 use Rattle.mt_import.specs.Making.{bare_text, share_text}
 use Rattle.mt_import.specs.Slots.{group_path, apart_path, path_from}
 
--- the group of what a mount stands on, if others get what is mounted there
+-- the group of what a mount stands on, if others receive what is mounted there
 unfoldable pub hooked_by : BTreeMap ℕ Group → List Mount → Mount → Option ℕ
 hooked_by groups mounts mount = option_and_then (λ (parent : Mount). receiving groups parent.row.now.shared) (slice_get mounts mount.above)
 
@@ -25,7 +25,7 @@ settle_text groups space at apart mount place =
     if apart then move_text space (apart_path at mount.level) place
     else bare_text groups space at mount place ++ share_text groups space mount.row.now place
 
--- which is isolated meanwhile, if others would get it
+-- which is isolated in the meantime, if others would receive it
 abbrev pub placed_at : Option ℕ → BTreeMap ℕ Group → List ℕ → List ℕ → Way → Mount → List ℕ → List ℕ
 placed_at None groups space at way mount place = settle_text groups space at way.apart mount place
 placed_at (Some group) groups space at way mount place =
@@ -59,8 +59,8 @@ ended_in groups space at mounts way mount = []
 abbrev pub ended_at : BTreeMap ℕ Group → List ℕ → List ℕ → Space → ℕ → List ℕ
 ended_at groups space at of number = ended_in groups space at of.tree.mounts (slice_get of.ways.items number) (slice_get of.tree.mounts number)
 
--- The mounts from one of a number on, behind those that are open, which wait for their end, the last one first: as many stay open as the level of the next one
--- says, the others are ended, and it is open then too. Behind the last one all are ended.
+-- The mounts from one of a number on, after those that are open, which wait for their end, the last one first: as many stay open as
+-- the level of the next one says, the others are ended, and then that one is open too. After the last one all are ended.
 abbrev pub turns_from : BTreeMap ℕ Group → List ℕ → List ℕ → Space → List ℕ → ℕ → List Mount → List ℕ
 turns_from groups space at of opened number [] = flat_map (ended_at groups space at of) opened
 turns_from groups space at of opened number (mount ∷ mounts) =

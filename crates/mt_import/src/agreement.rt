@@ -1,4 +1,4 @@
-//! What the rows of all tables tell of peer groups, brought together; and whether they tell the same.
+//! What the rows of all tables tell of peer groups, put together; and whether they agree.
 
 use crate::groups::{Group, Groups, MOST_CHAIN};
 use crate::host_mount::HostMount;
@@ -7,8 +7,8 @@ use crate::writer::Done;
 use std::alloc::Global;
 use std::collections::BTreeSet;
 
-/// Whether a mount can be in peer groups as its row tells: only one in none is unbindable, and only a slave gets from a group
-/// above its master, which is another one (proc_pid_mountinfo(5), optional fields).
+/// Whether a mount can be in peer groups as its row tells: only a mount in no group is unbindable, and only a slave
+/// receives from a group above its master, which is another group (proc_pid_mountinfo(5), optional fields).
 fn is_possible(row: &HostMount) -> bool {
     let is_alone = row.shared.is_none() && row.master.is_none();
     (is_alone || !row.unbindable) && (row.via.is_none() || row.via != row.master)
@@ -22,8 +22,8 @@ impl<'a> Groups<'a> {
             .is_none_or(|group| group.device == device)
     }
 
-    /// Whether a mount may be a member of a group: the others have its master, and the group does not come to have itself above
-    /// it.
+    /// Whether a mount may be a member of a group: the others have its master, and the group does not end up above
+    /// itself.
     fn may_join(&self, row: &HostMount, number: u64) -> bool {
         let has_master = self
             .get(number)
@@ -31,7 +31,7 @@ impl<'a> Groups<'a> {
         has_master && !self.leads_to(row.master, number) && !self.leads_to(row.via, number)
     }
 
-    /// Whether what a row tells of groups can be beside what others told.
+    /// Whether what a row tells of groups agrees with what others told.
     pub(crate) fn may_add(&self, row: &HostMount) -> bool {
         let device = row.device.as_slice();
         is_possible(row)
@@ -44,8 +44,9 @@ impl<'a> Groups<'a> {
                 .is_none_or(|number| !self.leads_to(row.via, number))
     }
 
-    /// Whether the groups are as the row of a table tells them. A slave gets from the nearest group at or above its master that
-    /// has a member in the table, which is told unless it is the master (proc_pid_mountinfo(5), `propagate_from`).
+    /// Whether the groups are as the row of a table tells them. A slave receives from the nearest group at or above its
+    /// master that has a member in the table, which is told unless it is the master (proc_pid_mountinfo(5),
+    /// `propagate_from`).
     fn agrees(&self, row: &HostMount, table: usize) -> bool {
         let nearest = self
             .upwards(row.master)
@@ -54,7 +55,7 @@ impl<'a> Groups<'a> {
         told == row.via && self.may_add(row) && row.shared.is_none_or(|number| self.is_seen(number))
     }
 
-    /// Why the mount of a row of a table cannot be made by its peer groups, if it cannot.
+    /// Why the mount of a row of a table cannot be made because of its peer groups, if it cannot.
     pub(crate) fn why_groupless(&self, row: &HostMount, table: usize) -> Why {
         if self.height(row.shared.or(row.master)) > MOST_CHAIN {
             return Some(Reason::TooLow);
@@ -65,7 +66,8 @@ impl<'a> Groups<'a> {
         None
     }
 
-    /// Adds a group that a row names: as the one of its mount, or as one that others come from, which has a member staged.
+    /// Adds a group that a row names: as that of its mount, or as one from which others come, which has a member
+    /// staged.
     fn add_group(&mut self, number: u64, row: &'a HostMount, is_member: bool) -> Done {
         let new = Group {
             master: None,
@@ -84,7 +86,7 @@ impl<'a> Groups<'a> {
         Ok(())
     }
 
-    /// Adds what the row of a table tells, unless that cannot be beside what others before it told.
+    /// Adds what the row of a table tells, unless that disagrees with what earlier ones told.
     pub(crate) fn add(&mut self, row: &'a HostMount, table: usize) -> Done {
         if !self.may_add(row) {
             return Ok(());
@@ -111,8 +113,8 @@ impl<'a> Groups<'a> {
         }
     }
 
-    /// Brings a group above another one: at the end of those above it, if no row is a member of that end. Whether it is above
-    /// then.
+    /// Puts a group above another one, at the end of those above it, if no row is a member of the group at that end.
+    /// Answers whether it is above afterwards.
     fn join(&mut self, low: u64, high: u64) -> bool {
         if self.leads_to(Some(low), high) {
             return true;
@@ -125,7 +127,8 @@ impl<'a> Groups<'a> {
         true
     }
 
-    /// Brings a group above one of which no row is a member: above all that is above that one, or else between both.
+    /// Puts a group above one of which no row is a member: above everything that is above that one, or else between the
+    /// two.
     fn bring_above(&mut self, low: u64, high: u64) {
         if self.is_seen(low) || self.join(low, high) {
             return;

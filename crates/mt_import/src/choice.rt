@@ -1,7 +1,7 @@
-//! Which mounts are made beside each other: those that agree on their peer groups, and stand on others that are made.
+//! Which mounts are made together: those that agree on their peer groups, and stand on others that are made.
 //!
-//! At first all are tried, and those that do not agree are left out, again and again, until all others agree. Of those that
-//! were left out beside one that is gone too, some can be made after all: they are brought back.
+//! At first all are tried, and those that do not agree are left out, again and again, until all others agree. Of those
+//! that were left out because of one that is now gone too, some can be made after all: they are brought back.
 
 use crate::groups::Groups;
 use crate::host_mount::HostMount;
@@ -12,8 +12,8 @@ use crate::tree::Tree;
 use crate::writer::{Allocated, Done};
 use std::alloc::Global;
 
-/// The most bytes of a directory that is shown at the root of a namespace and of the stages below it, so that a path of the
-/// server has them with the number of a group and the names of two stages.
+/// The most bytes of a directory that is shown at the root of a namespace and of the stages below it, so that a path of
+/// the server can have them together with the number of a group and the names of two stages.
 const MOST_AT_ROOT: usize = 4_066;
 
 /// How often mounts are brought back at most, as many at a time as there are.
@@ -32,7 +32,7 @@ pub(crate) struct Candidate<'t, 'a> {
     pub(crate) mount: &'t Mount<'a>,
     /// What it stands on, the root mount on itself.
     pub(crate) below: &'t Mount<'a>,
-    /// The number of that.
+    /// The number of what it stands on.
     above: usize,
 }
 
@@ -121,7 +121,8 @@ fn note_why(left: &mut [Why], number: usize, why: Why) {
     }
 }
 
-/// Why a mount is left out beside the others, if it is: what it stands on is, by its groups, or at the root of the namespace.
+/// Why a mount is left out, given the others, if it is: because what it stands on is, because of its groups, or at the
+/// root of the namespace.
 fn why_left(groups: &Groups<'_>, candidate: &Candidate<'_, '_>, left: &[Why]) -> Why {
     if let Some(why) = groups.why_groupless(candidate.row, candidate.table) {
         return Some(why);
@@ -141,7 +142,7 @@ fn why_left(groups: &Groups<'_>, candidate: &Candidate<'_, '_>, left: &[Why]) ->
     None
 }
 
-/// Why a mount that is left out is, beside the others: as noted, unless it disagrees with these, or stands on none.
+/// Why a mount that is left out is, given the others: as noted, unless it disagrees with these, or stands on none.
 fn why_out(
     groups: &Groups<'_>,
     candidate: &Candidate<'_, '_>,
@@ -160,7 +161,7 @@ fn why_out(
 /// A choice of the mounts that are made.
 #[derive(Drop)]
 pub(crate) struct Choice<'t, 'a> {
-    /// Why mounts are left out, by their numbers: those of which this is None are made.
+    /// Why mounts are left out, by their numbers: those for which this is `None` are made.
     pub(crate) left: Vec<Why>,
     /// The others.
     pub(crate) made: Vec<Candidate<'t, 'a>>,
@@ -169,7 +170,7 @@ pub(crate) struct Choice<'t, 'a> {
 }
 
 impl<'t, 'a> Choice<'t, 'a> {
-    /// The choice of those of these mounts of which no reason is told.
+    /// The choice of those of these mounts for which no reason is given.
     fn of(alloc: Global, all: &[Candidate<'t, 'a>], left: &[Why]) -> Allocated<Choice<'t, 'a>> {
         let left = Vec::from_slice(alloc, left)?;
         let mut made = Vec::from_slice(alloc, all)?;
@@ -178,7 +179,8 @@ impl<'t, 'a> Choice<'t, 'a> {
         Ok(Choice { left, made, groups })
     }
 
-    /// Notes why mounts cannot be made beside the others: whether there are any.
+    /// Notes why mounts cannot be made together with the others, and answers whether there are any
+    /// such.
     fn judge(&mut self) -> bool {
         let mut is_refused = false;
         for candidate in self.made.iter() {
@@ -189,8 +191,8 @@ impl<'t, 'a> Choice<'t, 'a> {
         is_refused
     }
 
-    /// Which of these mounts may come back beside those that are made: none of them disagrees with these, and each stands on one
-    /// that is made, or comes back.
+    /// Which of these mounts may come back to those that are made: none of them disagrees with these, and each stands
+    /// on one that is made or comes back.
     fn returning(
         &self,
         alloc: Global,
@@ -207,7 +209,8 @@ impl<'t, 'a> Choice<'t, 'a> {
         Ok(returning)
     }
 
-    /// The choice with some mounts too, and whether they are refused: one that is made cannot be beside the others then.
+    /// The choice with some more mounts, and whether they are refused because one that is made would then disagree with
+    /// the others.
     fn with(
         &self,
         alloc: Global,
@@ -223,7 +226,8 @@ impl<'t, 'a> Choice<'t, 'a> {
         Ok((choice, is_refused))
     }
 
-    /// The choice with mounts that were left out beside others that are gone: all of them, or else those of each half.
+    /// The choice with mounts that were left out because of others that are gone: all of them, or else those of each
+    /// half.
     fn with_returning(self, alloc: Global, all: &[Candidate<'t, 'a>]) -> Allocated<Choice<'t, 'a>> {
         let others = self.returning(alloc, all)?;
         let (mut choice, mut parts) = (self, Vec::new(alloc));
@@ -248,7 +252,7 @@ impl<'t, 'a> Choice<'t, 'a> {
         Ok(choice)
     }
 
-    /// Notes why a mount cannot come back, by the choice with it alone.
+    /// Notes why a mount cannot come back, by the choice with only this one added.
     fn note_alone(&mut self, more: &Choice<'_, '_>, number: usize) {
         let why = match more.left.get(number) {
             Some(Some(why)) => *why,
@@ -257,7 +261,7 @@ impl<'t, 'a> Choice<'t, 'a> {
         note_why(self.left.as_mut_slice(), number, Some(why));
     }
 
-    /// Tells why the mounts that are left out are, beside those that are made.
+    /// Says why the mounts that are left out are, given those that are made.
     fn settle(&mut self, all: &[Candidate<'_, '_>]) {
         for candidate in all {
             if let Some(Some(why)) = self.left.get(candidate.number).copied() {
@@ -268,7 +272,7 @@ impl<'t, 'a> Choice<'t, 'a> {
     }
 }
 
-/// Whether a mount that is left out may come back beside those that are made.
+/// Whether a mount that is left out may come back to those that are made.
 fn may_return(groups: &Groups<'_>, candidate: &Candidate<'_, '_>, left: &[Why]) -> bool {
     let is_out = match left.get(candidate.number) {
         Some(Some(why)) => !matches!(why, Reason::NoRoom),
@@ -279,7 +283,7 @@ fn may_return(groups: &Groups<'_>, candidate: &Candidate<'_, '_>, left: &[Why]) 
         && groups.may_add(candidate.row)
 }
 
-/// Chooses which of the first mounts are made, so many at most: the others have no room.
+/// Chooses which of the first mounts are made, this many at most: the others have no room.
 pub(crate) fn choose<'t, 'a>(
     alloc: Global,
     all: &[Candidate<'t, 'a>],

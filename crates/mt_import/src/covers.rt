@@ -1,5 +1,5 @@
-//! The mounts at the root of a namespace: the root mount, and those that stand on its root, one on the other. No path leads
-//! there, so each one becomes the root of the namespace, and the one before it is put on it, or back.
+//! The mounts at the root of a namespace: the root mount, and those that stand on its root, one on the other. No path
+//! leads there, so each one becomes the root of the namespace in turn, and the one before it is put on it, or back.
 
 ghost use Rattle.std.specs.Prelude.{◌≡◌, ◌++◌, IfOk, OnOk};
 ghost use Rattle.mt_import.specs.Covers.{shelf_text, rise_text, base_text, shelve_text, unshelve_text, lower_text, covered, finished};
@@ -14,7 +14,7 @@ use crate::space::{Way, is_made};
 use crate::writer::{Allocated, Written, command, one_behind};
 use std::alloc::Global;
 
-/// Whether a mount is made on the root of the root mount, or of one that stands so.
+/// Whether a mount is made on the root of the root mount, or of another mount that is.
 fn is_cover(ways: &[Way], number: usize, mount: &Mount<'_>) -> bool
     ensures { result ≡ is_cover ways.now number mount.now }
 {
@@ -35,8 +35,8 @@ pub(crate) fn covers_of(alloc: Global, mounts: &[Mount<'_>], ways: &[Way]) -> Al
 }
 
 impl<'s, 'a> Site<'s, 'a> {
-    /// Makes the place without group on which the old root is put, where others get what is mounted on a mount, or one above the
-    /// root mount is to be shared.
+    /// Makes the place, in no group, on which the old root is put, if others receive what is mounted on a mount, or one
+    /// above the root mount is to be shared.
     fn shelve(self, script: &mut Script, mount: &Mount<'_>, path: &[u8]) -> Written
         ensures { OnOk result (script.new ≡ script.old ++ shelf_text (receiving self.entry.groups.now.all mount.now.row.now.shared) self.entry.space.now self.entry.stage.now mount.now path.now) }
     {
@@ -95,7 +95,7 @@ impl<'s, 'a> Site<'s, 'a> {
         Ok(())
     }
 
-    /// Puts it back on the one below it, and takes away its peer, which is at a path then.
+    /// Puts it back on the one below it, and takes away its peer, which then has a path.
     #[tactic(auto, unfolding(crate::specs::Covers::unshelve_text))]
     fn lower_shared(self, script: &mut Script, peer: &[u8]) -> Written
         ensures { OnOk result (script.new ≡ script.old ++ unshelve_text self.entry.space.now peer.now) }
@@ -160,7 +160,8 @@ impl<'s, 'a> Site<'s, 'a> {
         Ok(())
     }
 
-    /// Takes what is staged away, and makes the root mount, if there is one, a member of its group, if it is alone in that.
+    /// Takes away what is staged, and makes the root mount, if there is one, a member of its group, if it is alone in
+    /// that.
     #[tactic(auto, unfolding(crate::specs::Covers::finish_text))]
     pub(crate) fn finish(self, script: &mut Script, mounts: &[Mount<'_>]) -> Written
         ensures { OnOk result (script.new ≡ script.old ++ finished self.entry.groups.now.all self.entry.space.now self.entry.stage.now mounts.now) }

@@ -1,5 +1,6 @@
-//! What a script makes in front of the namespaces: filesystems, one for each device, their directories, and what is staged: a
-//! mount of each filesystem of which directories are bound, and a member of each peer group from which mounts are bound.
+//! What a script makes before the namespaces: filesystems, one for each device, with their directories, and what is
+//! staged: a mount of each filesystem of which directories are bound, and a member of each peer group from which mounts
+//! are bound.
 ghost use Rattle.std.specs.Prelude.{◌≡◌, ◌++◌, map, IfOk, OnOk};
 ghost use Rattle.std.specs.List.{flat_map};
 ghost use Rattle.mt_import.specs.Front.{plain_text, member_path, stage_below_text, member_text, stage_text, IsFronted};
@@ -19,7 +20,7 @@ use crate::writer::{
 use std::alloc::Global;
 use std::collections::BTreeSet;
 
-/// The directories of what is staged, each behind its filesystem: the slots of root mounts, of what hooks spare, and of groups.
+/// The directories of what is staged, each after its filesystem: the slots of root mounts, of what hooks spare, and of groups.
 pub(crate) fn slots_of(alloc: Global, staged: &Staged) -> Allocated<BTreeSet<Vec<u8>>> {
     let mut slots = BTreeSet::new(alloc);
     slots.insert(one_behind(alloc, STAGE_FS, NEW)?)?;
@@ -75,7 +76,8 @@ impl<'a> Plan<'a> {
         self.add_directory(STAGE_FS, &[b"/", device])
     }
 
-    /// Adds what the root mount needs, or one that comes to the root of the namespace: where the old root stands meanwhile.
+    /// Adds what the root mount needs, or one that comes to the root of the namespace: where the old root stands in the
+    /// meantime.
     fn add_base(&mut self, device: &[u8], root: &[u8], base: usize) -> Done {
         self.add_directory(device, &[root, STAGE])?;
         if base == 0 {
@@ -100,8 +102,8 @@ impl<'a> Plan<'a> {
         self.add_base(device, mount.root, mount.base)
     }
 
-    /// What makes the filesystems of the mounts, and tells the rows that tell another type or source than the first one of their
-    /// device.
+    /// What makes the filesystems of the mounts, and tells the rows that have another type or source than the first one
+    /// of their device.
     fn filesystems_made(&self) -> Result<Script, Unmade> {
         let mut script = Script::new(self.alloc);
         for (before, first) in self.filesystems.values().enumerate() {
@@ -116,7 +118,7 @@ impl<'a> Plan<'a> {
         Ok(script)
     }
 
-    /// What makes the directories, each behind those above it.
+    /// What makes the directories, each after those above it.
     fn directories_made(&self) -> Result<Script, Unmade> {
         let mut script = Script::new(self.alloc);
         for directory in self.directories.iter() {
@@ -146,7 +148,7 @@ impl<'a> Plan<'a> {
         Ok(members)
     }
 
-    /// Makes all that stands in front of the namespaces.
+    /// Makes everything that comes before the namespaces.
     pub(crate) fn make_front(&self, script: &mut Script) -> Written
         ensures { OnOk result (IsFronted self.now.groups.all script.old script.new) }
     {
@@ -163,7 +165,8 @@ impl<'a> Plan<'a> {
         Ok(())
     }
 
-    /// Unmounts the staged members of groups in a namespace, but of those of which no table has one.
+    /// Unmounts the staged members of groups in a namespace, except those of groups of which no
+    /// table has a member.
     fn unstage_groups(&self, script: &mut Script, space: &[u8]) -> Written {
         for staged in self.staged.iter() {
             if self.groups.is_seen(staged.1) {
@@ -183,8 +186,8 @@ impl<'a> Plan<'a> {
         Ok(())
     }
 
-    /// What makes one more namespace than those of the first table and these, which keeps members of groups of which no table has
-    /// one, if there are any.
+    /// What makes one more namespace, beside that of the first table and these, which keeps members of groups of which
+    /// no table has one, if there are any.
     pub(crate) fn keeper_of(&self, others: &[Space<'_>]) -> Result<Script, Unmade> {
         let mut script = Script::new(self.alloc);
         if !self.has_unseen() {
@@ -262,7 +265,7 @@ fn stage_member(script: &mut Script, groups: &Groups<'_>, number: u64, group: &G
     Ok(())
 }
 
-/// Has a member of a group come from that of its master, as a slave, or else from its filesystem.
+/// Makes a member of a group from that of its master, as a slave, or else from its filesystem.
 fn stage_below(script: &mut Script, group: &Group<'_>, path: &[u8]) -> Written
     ensures { OnOk result (script.new ≡ script.old ++ stage_below_text group.now.master group.now.device.now path.now) }
 {
@@ -300,7 +303,8 @@ fn source_word(alloc: Global, source: &[u8]) -> Text {
     Ok(word)
 }
 
-/// Appends the command that makes a filesystem, if the server would read it: whether it would.
+/// Appends the command that makes a filesystem, if the server would read it, and answers whether it
+/// would.
 fn push_mkfs(script: &mut Script, device: &[u8], kind: &[u8], source: &[u8]) -> Allocated<bool> {
     let line = spaced(script.alloc(), &[b"mkfs", device, kind, source])?;
     script.push(line.as_slice())
@@ -324,8 +328,8 @@ fn make_device(script: &mut Script, table: usize, row: &HostMount) -> Written {
     command(script, &[b"mkfs", device, b"none", b"none"])
 }
 
-/// Makes the filesystem of a row, the one of a number here. Its super options are told with its first mount, if they are
-/// others than `rw`: they are the last word of a line.
+/// Makes the filesystem of a row, the one of a number here. Its super options are told with its first mount, if they
+/// are not `rw`: they are the last word of a line.
 fn make_filesystem(script: &mut Script, table: usize, row: &HostMount, here: usize) -> Written {
     let (device, here) = (
         row.device.as_slice(),

@@ -10,7 +10,7 @@ use crate::writer::{Allocated, Done};
 use std::alloc::Global;
 use std::collections::{BTreeMap, BTreeSet};
 
-/// The most groups in a row of which mounts are made, each the master of the one before.
+/// The longest row of groups of which mounts are made, each group the master of the one before.
 pub(crate) const MOST_CHAIN: usize = 65;
 
 /// What rows tell of a peer group.
@@ -22,10 +22,10 @@ pub(crate) struct Group<'a> {
     pub(crate) device: &'a [u8],
     /// How many rows are members.
     pub(crate) members: u64,
-    /// Whether one is staged in any case: a row has it as its master, or as the group that it gets from, or a member has
-    /// another mount on its root.
+    /// Whether a member is staged in any case: a row has the group as its master, or as the group from which it
+    /// receives, or a member has another mount on its root.
     pub(crate) is_needed: bool,
-    /// The number that the server gives it, once that is found out.
+    /// The number that the server gives it, once that is known.
     pub(crate) here: u64,
 }
 
@@ -38,7 +38,8 @@ impl<'a> Group<'a> {
     }
 }
 
-/// The groups of which a member is staged, each behind how many are above it, itself among them.
+/// The groups of which a member is staged, each after the count of those above it, including
+/// itself.
 pub(crate) type Staged = BTreeSet<(usize, u64)>;
 
 /// Counts of groups, by their numbers.
@@ -50,7 +51,7 @@ pub(crate) struct Groups<'a> {
     pub(crate) all: BTreeMap<u64, Group<'a>>,
     /// In which tables a group has a member.
     pub(crate) inside: BTreeSet<(u64, usize)>,
-    /// Which group slaves of a group get from by way of it.
+    /// From which group slaves of a group receive by way of it.
     pub(crate) beyond: BTreeSet<(u64, u64)>,
 }
 
@@ -79,7 +80,7 @@ impl<'g, 'a> Iterator for Upwards<'g, 'a> {
 }
 
 impl<'a> Groups<'a> {
-    /// The groups that no rows name: none.
+    /// No groups, as no rows name any.
     pub(crate) fn new(alloc: Global) -> Groups<'a> {
         Groups {
             all: BTreeMap::new(alloc),
@@ -100,7 +101,7 @@ impl<'a> Groups<'a> {
         self.get(number).and_then(|group| group.master)
     }
 
-    /// A group, if it is one, and those above it: no more than one more than those of which mounts are made.
+    /// A group, if there is one, and those above it: at most one more than those of which mounts are made.
     pub(crate) fn upwards(&self, first: Option<u64>) -> Upwards<'_, 'a> {
         Upwards {
             groups: self,
@@ -109,7 +110,7 @@ impl<'a> Groups<'a> {
         }
     }
 
-    /// Counts so many more for a group, if for one, and for each above it.
+    /// Counts this many more for a group, if for one, and for each above it.
     pub(crate) fn count_up(&self, counts: &mut Counts, first: Option<u64>, count: usize) -> Done {
         for number in self.upwards(first) {
             let old = counts.get(&number).copied().unwrap_or(0);
@@ -118,17 +119,17 @@ impl<'a> Groups<'a> {
         Ok(())
     }
 
-    /// Whether a group is this one, or has it above.
+    /// Whether a group is this one, or has it above itself.
     pub(crate) fn leads_to(&self, first: Option<u64>, group: u64) -> bool {
         self.upwards(first).any(|number| number == group)
     }
 
-    /// How many groups are above one, itself among them; `MOST_CHAIN` and 1 where there are more.
+    /// How many groups are above one, including itself; `MOST_CHAIN` plus 1 if there are more.
     pub(crate) fn height(&self, first: Option<u64>) -> usize {
         self.upwards(first).count()
     }
 
-    /// The group of a mount, if it is in one and others get what is mounted on it.
+    /// The group of a mount, if it is in one and others receive what is mounted on it.
     #[tactic(auto, unfolding(crate::specs::Groups::receiving))]
     pub(crate) fn receiving(&self, shared: Option<u64>) -> Option<u64>
         ensures { result ≡ receiving self.now.all shared }
@@ -137,7 +138,7 @@ impl<'a> Groups<'a> {
         if group.is_staged() { shared } else { None }
     }
 
-    /// The group of a mount that is alone in it, so that no other gets what is mounted on it.
+    /// The group of a mount that is alone in it, so that no other receives what is mounted on it.
     #[tactic(auto, unfolding(crate::specs::Groups::lone_group))]
     pub(crate) fn lone_group(&self, shared: Option<u64>) -> Option<u64>
         ensures { result ≡ lone_group self.now.all shared }
@@ -172,7 +173,7 @@ impl<'a> Groups<'a> {
         }
     }
 
-    /// Whether a mount gets what is mounted on one of a group: it is of this group, or of one that has it above.
+    /// Whether a mount receives what is mounted on one of a group: it is in this group, or in one that has it above.
     pub(crate) fn gets_from(&self, row: &HostMount, group: u64) -> bool {
         self.leads_to(row.shared.or(row.master), group)
     }
@@ -182,7 +183,7 @@ impl<'a> Groups<'a> {
         self.get(number).is_some_and(|group| group.members > 0)
     }
 
-    /// Has a member of a group staged, if rows name it.
+    /// Notes that a member of a group is staged, if rows name the group.
     pub(crate) fn stage(&mut self, number: u64) {
         if let Some(group) = self.all.get_mut(&number) {
             group.is_needed = true;

@@ -2,7 +2,7 @@
 
 use std::marker::Model;
 
-/// A line of a mountinfo, as proc_pid_mountinfo(5) has it: words as they stand there, numbers read.
+/// A line of a mountinfo, as proc_pid_mountinfo(5) has it: words as they are there, numbers read.
 #[derive(Drop)]
 pub struct HostMount {
     /// The line itself, without its line end.
@@ -23,7 +23,7 @@ pub struct HostMount {
     pub shared: Option<u64>,
     /// The number of the master group, if the mount is a slave.
     pub master: Option<u64>,
-    /// The nearest group above the master that has a mount in sight.
+    /// The nearest group above the master that has a visible mount.
     pub via: Option<u64>,
     /// Whether the mount cannot be bound.
     pub unbindable: bool,

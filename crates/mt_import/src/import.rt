@@ -24,7 +24,7 @@ fn are_same(left: &[HostMount], right: &[HostMount]) -> bool {
         && left.iter().zip(right).all(|(row, other)| row.line.as_slice() == other.line.as_slice())
 }
 
-/// How often rows that are left out make room for others at most.
+/// How often, at most, rows that are left out make room for others.
 const MOST_ROUNDS: usize = 64;
 
 /// The trees of tables.
@@ -46,8 +46,8 @@ fn trees_of<'a>(
     Ok(trees)
 }
 
-/// The trees of tables, and what is planned of them. Where a row stands in the place of one that is left out, it is tried in that
-/// place.
+/// The trees of tables, and what is planned of them. If a row stands in the place of one that is left out, it is tried
+/// in that place.
 fn planned<'a>(alloc: Global, tables: &'a [Vec<HostMount>]) -> Allocated<(Vec<Tree<'a>>, Plan<'a>)>
     ensures rows { IfOk result (λ (trees, plan). map (λ tree. tree.rows) trees.items ≡ map (λ rows. rows.items) tables.now) }
 {
@@ -111,7 +111,7 @@ fn counting(alloc: Global, plan: &Plan<'_>, spaces: &[Space<'_>]) -> Result<Scri
     Ok(counted)
 }
 
-/// The script that makes the namespaces of tables, unless a line of it is none that the server reads.
+/// The script that makes the namespaces of tables, unless a line of it is not one that the server reads.
 fn made_script(alloc: Global, tables: &[Vec<HostMount>]) -> Result<Script, Unmade>
     ensures { IfOk result (IsImport (map (λ rows. rows.items) tables.now)) }
 {
@@ -123,12 +123,13 @@ fn made_script(alloc: Global, tables: &[Vec<HostMount>]) -> Result<Script, Unmad
     Ok(script)
 }
 
-/// The script that makes the namespaces of which these are the tables, each with its rows. Refused as `NoMemory` alone.
+/// The script that makes the namespaces of which these are the tables, each with its rows.
 ///
-/// A server that was just started makes a namespace of each table, numbered as they are, with a table that tells what the rows
-/// tell, up to the numbers of mounts, groups and devices; peer groups and masters that tables have in common are common there
-/// too. Where a peer group has slaves among the rows and no member, one more namespace has one. What cannot be made is told in
-/// comments: all rows are, if a line that makes them is none that the server reads, of which no table is known.
+/// A newly started server makes a namespace of each table, numbered as they are, with a table that tells what the rows
+/// tell, up to the numbers of mounts, groups and devices; peer groups and masters that tables have in common are common
+/// there too. If a peer group has slaves among the rows but no member, one more namespace has one. What cannot be made
+/// is told in comments: all rows are, if a line that makes them is not one that the server reads; no table is known
+/// that leads to this.
 pub fn script_of(alloc: Global, tables: &[Vec<HostMount>]) -> Result<Script, Fault>
     ensures made { IfOk result (IsImport (map (λ rows. rows.items) tables.now)) }
     ensures memory { IsOkUnless result Fault.NoMemory }

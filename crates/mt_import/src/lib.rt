@@ -4,15 +4,15 @@
 //!
 //! - Each table becomes a [`tree`] of mounts, in the order in which they are made: [`mount`] finds where each one stands. A row
 //!   that has no mount in it is left out for a [`reason`].
-//! - [`plan`] leaves out the mounts that do not agree on their peer groups ([`groups`], [`agreement`], [`choice`]), and those for
-//!   which a server has no room. [`space`] says how the others come to their places.
+//! - [`plan`] leaves out the mounts that do not agree on their peer groups ([`groups`], [`agreement`], [`choice`]), and
+//!   those for which a server has no room. [`space`] says how the others get to their places.
 //! - The script tells what is left out ([`telling`]), makes filesystems and directories and stages what others are bound from
 //!   ([`front`]), and makes the namespaces one after another ([`spaces`]): each mount at its [`turns`], at a place that a hook
 //!   isolates where others would get it, and those at the root of the namespace by pivots ([`covers`]). It is made twice: the
 //!   first time the groups are counted to which the server gives [`numbers`].
 //!
 //! What is planned is made only if it is what the tables tell ([`soundness`]), and each line of a command is one that the server
-//! reads; else all rows are told, and nothing is made ([`unmade`]).
+//! reads; otherwise all rows are told, and nothing is made ([`unmade`]).
 //!
 //! A [`script::Script`] has only comments and lines that the server reads as commands.
 #![tactic(auto)]

@@ -1,4 +1,4 @@
-//! How a mount is made, where nothing propagates.
+//! How a mount is made where nothing propagates.
 ghost use Rattle.std.specs.Prelude.{◌≡◌, ◌++◌, OnOk};
 ghost use Rattle.std.specs.Option.{option_map};
 ghost use Rattle.mt_import.specs.Making.{attributes_text, made_text, first_kind, waits, bare_text, late_options, share_text};
@@ -15,7 +15,7 @@ use crate::writer::{Written, group_comment, joined, push_command};
 /// The options that are those of a new mount.
 const UNCHANGED: &[u8] = b"relatime";
 
-/// How the propagation of a mount that was just made is to change: not where it is a member of its group then.
+/// How the propagation of a mount that was just made has to change: not at all if it is already a member of its group.
 #[tactic(auto, unfolding(crate::specs::Making::first_kind))]
 fn first_kind(groups: &Groups<'_>, row: &HostMount) -> Kind
     ensures { option_map (λ word. word.now) result ≡ first_kind groups.now.all row.now }
@@ -62,8 +62,8 @@ impl<'s, 'a> Site<'s, 'a> {
         push_command(script, line.as_slice())
     }
 
-    /// Binds a directory of the staged member of a group, if of one, or of a filesystem, or else mounts that: its directory is
-    /// empty for the root.
+    /// Binds a directory of the staged member of a group, if there is a group, or of a filesystem, or else mounts the
+    /// filesystem: the directory is empty for the root.
     #[tactic(auto, unfolding(crate::specs::Making::made_text))]
     fn make(
         self,

@@ -30,11 +30,12 @@ pub(crate) struct Mount<'a> {
     pub(crate) place: Vec<u8>,
     /// Which mount is the lowest of the stack that it is in: its own number, unless it stands on the root of another.
     pub(crate) lowest: usize,
-    /// The names from the mount point of what the lowest of its stack stands on down to its own.
+    /// The names from the mount point of what the lowest mount of its stack stands on down to its
+    /// own mount point.
     pub(crate) names: &'a [u8],
-    /// How many stacks it stands on, one on the other; none if it is the root mount, or in the stack of that.
+    /// How many stacks it stands on, one on the other; none if it is the root mount, or in the stack of the root mount.
     pub(crate) level: usize,
-    /// Which one at the root place of the namespace it stands on, or is: the root mount is 0.
+    /// Which mount at the root place of the namespace it stands on, or is: the root mount is 0.
     pub(crate) base: usize,
 }
 
@@ -109,7 +110,7 @@ fn stack_on<'a>(parent: &Mount<'a>, names: &'a [u8], here: usize) -> (usize, &'a
     (here, names, parent.level.saturating_add(1))
 }
 
-/// How many a mount of a level stands on at the root of the namespace, if they may be so many.
+/// How many a mount of a level stands on at the root of the namespace, if they may be this many.
 fn base_on(parent: &Mount<'_>, level: usize) -> Option<usize>
     ensures { result ≡ base_on parent.now level }
 {

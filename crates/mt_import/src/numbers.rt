@@ -1,7 +1,7 @@
-//! The numbers that a server gives the peer groups which a script makes: each new group gets the next one, from 1.
+//! The numbers that a server gives the peer groups that a script makes: each new group gets the next number, from 1.
 //!
-//! A group is made where a mount in none is made shared, and where a mount is put on a member of a group: it is in a new group
-//! then, and so are its copies at each group below that has a mount which shows the place.
+//! A group is made when a mount in none is made shared, and when a mount is put on a member of a group: it is then in a
+//! new group, and so are its copies at each group below that has a mount that shows the place.
 ghost use Rattle.std.specs.Prelude.{◌≡◌, OnOk};
 
 use crate::groups::Groups;
@@ -35,7 +35,7 @@ impl Script {
         Ok(())
     }
 
-    /// Counts those of mounts that are put so many times at a place on a member of a group.
+    /// Counts the groups of mounts that are put this many times at a place on a member of a group.
     pub(crate) fn count_mounts(&mut self, groups: &Groups<'_>, group: u64, place: &[u8], times: u64)
         ensures { self.new ≡ self.old }
     {
@@ -52,8 +52,9 @@ impl Script {
             .saturating_add(made.saturating_mul(times));
     }
 
-    /// Counts those of a hook for a mount on a member of a group, which is taken away at so many paths, each time by one more
-    /// mount on all others. The one that covers the mount itself is the only one of its group if the mount is.
+    /// Counts the groups of a hook for a mount on a member of a group, which is taken away at this many paths, each
+    /// time by one more mount on all others. The one that covers the mount itself is the only one of its group if the
+    /// mount is.
     pub(crate) fn count_hook(
         &mut self,
         groups: &Groups<'_>,

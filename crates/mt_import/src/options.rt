@@ -12,7 +12,7 @@ use std::alloc::Global;
 /// The word of `setattr` for a propagation, if it is set.
 pub(crate) type Kind = Option<&'static [u8]>;
 
-/// The options that are set alone.
+/// The options that are set by themselves.
 const FLAGS: [&[u8]; 6] = [
     b"ro",
     b"nosuid",
@@ -123,7 +123,7 @@ fn push_times(text: &mut Vec<u8>, options: &[u8]) -> Done
     Ok(())
 }
 
-/// Appends a word behind a space, if there is one.
+/// Appends a word after a space, if there is one.
 fn push_kind(text: &mut Vec<u8>, kind: Kind) -> Done
     ensures { OnOk result (text.new.items ≡ with_kind (option_map (λ word. word.now) kind.entry) text.old.items) }
 {
@@ -135,8 +135,8 @@ fn push_kind(text: &mut Vec<u8>, kind: Kind) -> Done
     Ok(())
 }
 
-/// The words behind a path in a `setattr` line, each behind a space: those for the options of a row, none where they are those
-/// of a new mount, and one for its propagation.
+/// The words after a path in a `setattr` line, each preceded by a space: those for the options of a row, none if they
+/// are those of a new mount, and one for its propagation.
 pub(crate) fn options_of(alloc: Global, options: &[u8], kind: Kind) -> Text
     ensures { IfOk result (λ text. text.items ≡ options_text options.now (option_map (λ word. word.now) kind.entry)) }
 {

@@ -1,5 +1,5 @@
 //! Paths as a mountinfo has them, each name with its escapes. The path of a root is empty here: then a path and one
-//! below it are joined by writing one behind the other.
+//! below it are joined by writing one after the other.
 ghost use Rattle.std.specs.Prelude.{◌≡◌, nat_le, ◌&&◌, ◌==◌, not, false, length};
 ghost use Rattle.std.specs.List.{list_all};
 ghost use Rattle.std.specs.Option.{option_copied, option_map_or};
@@ -22,7 +22,7 @@ pub(crate) const MOST_NAMES: usize = 31;
 /// The most bytes of a path, so that two names of the script may stand below it.
 pub(crate) const MOST_BYTES: usize = 4_000;
 
-/// A path without its slash, where that is all it is.
+/// A path without its slash, if that is all it is.
 pub(crate) fn below_root(word: &[u8]) -> &[u8]
     ensures { result.now ≡ below_root word.now }
 {
@@ -100,7 +100,7 @@ fn is_script_name(piece: &[u8]) -> bool
     piece == b".import".as_slice() || piece == b".import2".as_slice()
 }
 
-/// What stands behind a path in one below it, or None where it is not below.
+/// What comes after a path in one below it, or `None` if that is not below.
 #[tactic(auto, unfolding(crate::specs::Paths::path_behind))]
 pub(crate) fn path_behind<'a>(path: &'a [u8], above: &[u8]) -> Option<&'a [u8]>
     ensures { option_copied result ≡ path_behind path.now above.now }
@@ -111,7 +111,7 @@ pub(crate) fn path_behind<'a>(path: &'a [u8], above: &[u8]) -> Option<&'a [u8]>
     names_behind(&path[above.len()..])
 }
 
-/// What stands behind a path, if it is nothing or begins with a slash.
+/// What comes after a path, if it is nothing or begins with a slash.
 fn names_behind(rest: &[u8]) -> Option<&[u8]>
     ensures { option_copied result ≡ names_behind rest.now }
 {
@@ -122,7 +122,7 @@ fn names_behind(rest: &[u8]) -> Option<&[u8]>
     }
 }
 
-/// A path as a word, a slash alone for the root.
+/// A path as a word; only a slash for the root.
 pub(crate) fn path_word(path: &[u8]) -> &[u8]
     ensures { result.now ≡ path_word path.now }
 {

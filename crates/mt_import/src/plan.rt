@@ -1,4 +1,5 @@
-//! Which mounts of the trees are made, and what they need: as many as agree on their peer groups, and as a server has room for.
+//! Which mounts of the trees are made, and what they need: those that agree on their peer groups, as many as a server
+//! has room for.
 
 use crate::choice::{Candidate, Choice, candidates_of, choose};
 use crate::front::slots_of;
@@ -14,7 +15,7 @@ use std::collections::{BTreeMap, BTreeSet};
 /// The most mounts of a server, those of all namespaces.
 const MOST_MOUNTS: usize = 4_096;
 
-/// The most directories of a server, the roots of filesystems among them.
+/// The most directories of a server, including the roots of filesystems.
 const MOST_DIRECTORIES: usize = 16_384;
 
 /// The most filesystems of a server.
@@ -23,19 +24,19 @@ const MOST_FILESYSTEMS: usize = 256;
 /// Which mounts are made, and what they need.
 pub(crate) struct Plan<'a> {
     pub(crate) alloc: Global,
-    /// Why mounts are left out, by their numbers: those of which this is None are made.
+    /// Why mounts are left out, by their numbers: those for which this is `None` are made.
     pub(crate) left: Vec<Why>,
     /// The peer groups of the others.
     pub(crate) groups: Groups<'a>,
     /// Their filesystems, by their devices: which row told each first, of which table.
     pub(crate) filesystems: BTreeMap<&'a [u8], (usize, &'a HostMount)>,
-    /// The rows that tell another type or source than the first one of their device, each with its table.
+    /// The rows that have another type or source than the first one of their device, each with its table.
     pub(crate) others: Vec<(usize, &'a HostMount)>,
     /// The devices of filesystems of which directories are bound without a group.
     pub(crate) plains: BTreeSet<&'a [u8]>,
     /// The groups of which a member is staged.
     pub(crate) staged: Staged,
-    /// The directories, each behind its filesystem.
+    /// The directories, each after its filesystem.
     pub(crate) directories: BTreeSet<Vec<u8>>,
 }
 
@@ -55,7 +56,7 @@ impl<'a> Drop for Plan<'a> {
 }
 
 impl<'a> Plan<'a> {
-    /// What is needed where so many mounts are made, from the first, and whether a server has room for that.
+    /// What is needed if this many mounts are made, from the first on, and whether a server has room for that.
     fn of(alloc: Global, all: &[Candidate<'_, 'a>], most: usize) -> Allocated<(Plan<'a>, bool)> {
         let Choice { left, made, groups } = choose(alloc, all, most)?;
         let staged = groups.staged(alloc)?;
@@ -100,7 +101,7 @@ impl<'a> Plan<'a> {
             .any(|(_, group)| !self.groups.is_seen(*group))
     }
 
-    /// How many mounts get what is mounted on one of a staged group, at most, where so many stages are there.
+    /// How many mounts, at most, receive what is mounted on one of a staged group, if there are this many stages.
     fn most_receivers(&self, made: &[Candidate<'_, '_>], stages: usize) -> Allocated<usize> {
         let (mut counts, groups) = (BTreeMap::new(self.alloc), &self.groups);
         for candidate in made {
@@ -114,9 +115,9 @@ impl<'a> Plan<'a> {
         Ok(counts.values().copied().max().unwrap_or(0))
     }
 
-    /// How many mounts there are at a time, at most: those that are made, those that are staged, and three for each that gets
-    /// what is mounted on one of a group: a mount that isolates its place, and what spares it. The first namespace alone has
-    /// what is staged, or beside it the copy that is made.
+    /// How many mounts there are at a time, at most: those that are made, those that are staged, and three for each
+    /// that receives what is mounted on one of a group: a mount that isolates its place, and what spares it. Only the
+    /// first namespace has what is staged, or beside it the copy that is being made.
     fn mounts_at_once(&self, made: &[Candidate<'_, '_>]) -> Allocated<usize> {
         let roots = made.iter().filter(|candidate| candidate.is_root()).count();
         let stages = if roots > 1 || self.has_unseen() { 2 } else { 1 };
@@ -151,7 +152,7 @@ fn place_of(row: &HostMount) -> (u64, &[u8]) {
     (row.parent, below_root(row.point.as_slice()))
 }
 
-/// Where rows of a table stand that are left out since others stand there.
+/// Where the rows of a table stand that are left out because others stand there.
 fn wanted_places<'a>(alloc: Global, tree: &Tree<'a>) -> Allocated<BTreeSet<(u64, &'a [u8])>> {
     let mut wanted = BTreeSet::new(alloc);
     for (row, left) in tree.rows.iter().zip(tree.left.as_slice()) {
@@ -162,7 +163,7 @@ fn wanted_places<'a>(alloc: Global, tree: &Tree<'a>) -> Allocated<BTreeSet<(u64,
     Ok(wanted)
 }
 
-/// Refuses a row for a reason of its own: not for want of room, nor for what it stands on.
+/// Refuses a row for a reason of its own: not for want of room, nor because of what it stands on.
 fn refuse_one(refused: &mut Refused, row: (usize, usize), why: Reason) -> Done {
     if !matches!(why, Reason::NoRoom | Reason::ParentLeftOut) {
         refused.insert(row, why)?;
@@ -170,7 +171,7 @@ fn refuse_one(refused: &mut Refused, row: (usize, usize), why: Reason) -> Done {
     Ok(())
 }
 
-/// How many mounts find room, from the first: more of them are tried by half as many in each step.
+/// For how many mounts there is room, from the first on: each step tries half as many more.
 fn fitting(alloc: Global, all: &[Candidate<'_, '_>]) -> Allocated<usize> {
     let (mut count, mut step) = (0_usize, MOST_MOUNTS);
     for _halving in 0..13_usize {
@@ -183,7 +184,7 @@ fn fitting(alloc: Global, all: &[Candidate<'_, '_>]) -> Allocated<usize> {
     Ok(count)
 }
 
-/// What is needed where as many mounts are made as find room, from the first.
+/// What is needed if as many mounts are made, from the first on, as there is room for.
 pub(crate) fn plan_with_room<'a>(alloc: Global, trees: &[Tree<'a>]) -> Allocated<Plan<'a>> {
     let all = candidates_of(alloc, trees)?;
     let (plan, fits) = Plan::of(alloc, all.as_slice(), all.len())?;

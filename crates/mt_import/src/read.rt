@@ -17,8 +17,8 @@ struct Fields {
 }
 
 impl Fields {
-    /// These fields with one more, or `None` where it has a name that is known and no number behind it. A field that
-    /// is not known changes nothing.
+    /// These fields with one more, or `None` if it has a name that is known and no number after it. A field that is not
+    /// known changes nothing.
     fn with(self, field: &[u8]) -> Option<Fields>
         ensures { result ≡ with_field self field.now }
     {
@@ -44,8 +44,7 @@ impl Fields {
     }
 }
 
-/// Takes the optional fields up to the dash, and the dash too. None where there is no dash, and for a field that is
-/// none.
+/// Takes the optional fields up to the dash, and the dash too. `None` if there is no dash, or a field is not one.
 fn read_fields(words: &mut Words<'_>) -> Option<Fields>
     ensures { MatchOption result (fields_in no_fields words.old ≡ None) (λ fields. fields_in no_fields words.old ≡ Some (fields, words.new)) }
 {
@@ -75,8 +74,8 @@ fn is_device(word: &[u8]) -> bool
     number(major).is_some() && number(minor).is_some()
 }
 
-/// The type and the source, which stand behind the dash. None where one word of super options is not all that stands
-/// behind them.
+/// The type and the source, which come after the dash. `None` unless exactly one word of super options comes after
+/// them.
 fn read_end<'a>(words: &mut Words<'a>) -> Option<(&'a [u8], &'a [u8])>
     ensures { MatchOption result (end_in words.old ≡ None) (λ (kind, source). end_in words.old ≡ Some (kind.now, source.now)) }
 {
@@ -93,7 +92,7 @@ fn read_end<'a>(words: &mut Words<'a>) -> Option<(&'a [u8], &'a [u8])>
 
 /// The row that a line of a mountinfo tells, without its line end.
 ///
-/// Refused as `BadLine` exactly where it is no such line, and else as `NoMemory` alone.
+/// Refused as `BadLine` exactly if it is not such a line, and otherwise only as `NoMemory`.
 #[tactic(auto, unfolding(crate::specs::Reading::mount_in))]
 pub fn read_mount(alloc: Global, line: &[u8]) -> Result<HostMount, Fault>
     ensures row { IfOk result (λ row. mount_in line.now ≡ Some row) }

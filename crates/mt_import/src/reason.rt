@@ -11,7 +11,7 @@ pub(crate) enum Reason {
     NoParent,
     ParentLeftOut,
     Ring,
-    /// Its root or its mount point is no path of names, or too long.
+    /// Its root or its mount point is not a path of names, or too long.
     NoDirectory,
     Elsewhere,
     AtRoot,
@@ -22,14 +22,15 @@ pub(crate) enum Reason {
     ScriptName,
     /// The path of the directory that it shows, or of that on which it stands, has too many names, or too many bytes.
     TooDeep,
-    /// A row tells another device or master of a group, or a group would have itself above it; the group that it gets from by
-    /// way of its master is not the nearest above that has a member among the rows of its table; or it is unbindable.
+    /// A row tells another device or master of a group, or a group would be above itself; the group from which it
+    /// receives by way of its master is not the nearest above that has a member among the rows of its table; or it is
+    /// unbindable.
     NoSuchGroups,
     TooLow,
     SamePlace,
     /// Or for what comes with it while it is made.
     NoRoom,
-    /// A line of the script would be none that the server reads, or what is planned not what the tables tell.
+    /// A line of the script would not be one that the server reads, or what is planned is not what the tables tell.
     Unmade,
 }
 

@@ -85,7 +85,7 @@ impl Script {
         self.text.as_slice()
     }
 
-    /// Appends a line with a line end, if it is a comment or a command: whether it is.
+    /// Appends a line with a line end, if it is a comment or a command, and answers whether it is.
     #[tactic(auto, unfolding(crate::specs::Script::line_text))]
     pub(crate) fn push(&mut self, line: &[u8]) -> Allocated<bool>
         ensures told { IfOk result (λ is. is ≡ is_script_line line.now) }
@@ -108,7 +108,7 @@ impl Script {
         Ok(())
     }
 
-    /// What its memory comes from.
+    /// Where its memory comes from.
     pub(crate) fn alloc(&self) -> Global {
         *self.text.allocator()
     }

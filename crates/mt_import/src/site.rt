@@ -1,5 +1,5 @@
-//! A namespace of which the script makes the mounts, and the paths where mounts stand there that are taken away again, or are
-//! not at their places yet.
+//! A namespace whose mounts the script makes, and the paths there of mounts that are taken away again, or are not at
+//! their places yet.
 ghost use Rattle.std.specs.Prelude.{◌≡◌, ◌∷◌, ◌++◌, [], IfOk, OnOk};
 ghost use Rattle.mt_import.specs.Commands.{umount_text};
 ghost use Rattle.mt_import.specs.Script.{command_text};
@@ -26,25 +26,26 @@ pub(crate) const STAGE_FS: &[u8] = b"import";
 /// Where the root mount of a namespace is made.
 pub(crate) const NEW: &[u8] = b"/new";
 
-/// Where a peer stands of a mount at the root of a namespace.
+/// Where the peer of a mount at the root of a namespace stands.
 pub(crate) const PEER: &[u8] = b"/peer";
 
 /// Where a mount stands on one that isolates a place, and spares it.
 pub(crate) const SPARED: &[u8] = b"/spared";
 
-/// How the slots begin at which mounts of a level are made with all that stands on them.
+/// How the names of the slots begin at which mounts of a level are made with all that stands on
+/// them.
 pub(crate) const APART: &[u8] = b"/apart-";
 
-/// Those of mounts that come to the root of a namespace.
+/// The names of those for mounts that come to the root of a namespace.
 pub(crate) const COVER: &[u8] = b"/cover-";
 
-/// And those of members of groups.
+/// And of those for members of groups.
 pub(crate) const GROUP: &[u8] = b"/";
 
-/// What the parts of a script have in common that make a namespace.
+/// What the parts of a script that make a namespace have in common.
 #[derive(Clone, Copy)]
 pub(crate) struct Site<'s, 'a> {
-    /// What memory comes from.
+    /// Where memory comes from.
     pub(crate) alloc: Global,
     /// The peer groups of all tables.
     pub(crate) groups: &'s Groups<'a>,

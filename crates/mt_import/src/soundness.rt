@@ -1,4 +1,4 @@
-//! Whether what is planned of tables is what they tell: a script is made only where it is.
+//! Whether what is planned of tables is what they tell: a script is made only if it is.
 ghost use Rattle.std.specs.Prelude.{◌≡◌, ◌++◌, map, IfOk, OnOk};
 ghost use Rattle.std.specs.List.{flat_map, list_all};
 ghost use Rattle.mt_import.specs.Plans.{are_numbered, level_of, is_apart, stand_on_made, is_well_ordered, rows_made_from, rows_made, is_number, is_same, count_members, has_slave, is_group_of, is_grouped, are_grouped, is_sound, is_founded, comes_first};
@@ -70,7 +70,7 @@ fn comes_first(
         || is_apart(ways, above)
 }
 
-/// Whether each of these mounts stands on one that is made, and comes behind that.
+/// Whether each of these mounts stands on one that is made, and comes after that.
 fn stand_on_made(mounts: &[Mount<'_>], ways: &[Way]) -> bool
     ensures { result ≡ stand_on_made mounts.now ways.now 0 mounts.now }
 {
@@ -129,7 +129,7 @@ fn is_number(told: Option<u64>, number: u64) -> bool
     }
 }
 
-/// Whether both numbers are told, the same one, or none is.
+/// Whether both numbers are told and are the same, or neither is told.
 fn is_same(one: Option<u64>, other: Option<u64>) -> bool
     ensures { result ≡ is_same one other }
 {

@@ -35,7 +35,7 @@ pub(crate) fn is_made(ways: &[Way], number: usize) -> bool
     }
 }
 
-/// The group of what a mount stands on, if others get what is mounted there.
+/// The group of what a mount stands on, if others receive what is mounted there.
 #[tactic(auto, unfolding(crate::specs::Turns::hooked_by))]
 pub(crate) fn hooked_by(groups: &Groups<'_>, mounts: &[Mount<'_>], mount: &Mount<'_>) -> Option<u64>
     ensures { result ≡ hooked_by groups.now.all mounts.now mount.now }
@@ -47,7 +47,8 @@ pub(crate) fn hooked_by(groups: &Groups<'_>, mounts: &[Mount<'_>], mount: &Mount
     groups.receiving(row.shared)
 }
 
-/// Where a hook would hide the place of a mount that is stacked on another: the names from the mount below the stack to there.
+/// Where a hook would hide the place of a mount that is stacked on another: the names from the mount below the stack to
+/// that place.
 fn names_to_hiding<'m, 'a>(
     groups: &Groups<'_>,
     mounts: &'m [Mount<'a>],
@@ -69,9 +70,9 @@ fn names_to_hiding<'m, 'a>(
 }
 
 impl<'s, 'a> Site<'s, 'a> {
-    /// How the mount of a number comes to its place, if it is not left out: apart if another one stands on it, not at its root,
-    /// as the next one in the order does then, or if the hook for it would come to what it is bound from. The hook is taken
-    /// away where it would hide the place, and where it covers the mount itself.
+    /// How the mount of a number gets to its place, if it is not left out: apart if another one stands on it, not at
+    /// its root, in which case the next one in the order does, or if the hook for it would reach what it is bound from.
+    /// The hook is taken away where it would hide the place, and where it covers the mount itself.
     fn way_of(
         self,
         mounts: &[Mount<'_>],
@@ -120,7 +121,7 @@ impl<'s, 'a> Site<'s, 'a> {
 /// A table, and the namespace that is made of it.
 #[derive(Drop)]
 pub(crate) struct Space<'a> {
-    /// The number of the namespace, if the root mount is made: else that of the next one.
+    /// The number of the namespace, if the root mount is made: otherwise that of the next one.
     pub(crate) number: usize,
     /// The mounts of the table.
     pub(crate) tree: Tree<'a>,

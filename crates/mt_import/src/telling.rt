@@ -1,4 +1,4 @@
-//! What a script tells of the rows of which it makes no mount, or another one than they tell.
+//! What a script tells of the rows for which it makes no mount, or another one than they tell.
 ghost use Rattle.std.specs.Prelude.{◌≡◌, ◌++◌, OnOk};
 ghost use Rattle.std.specs.List.{flat_map, AllByRecursion};
 ghost use Rattle.mt_import.specs.Script.{left_row_text, mount_comment};

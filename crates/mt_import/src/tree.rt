@@ -19,9 +19,9 @@ pub(crate) struct Tree<'a> {
     pub(crate) table: usize,
     /// Its rows.
     pub(crate) rows: &'a [HostMount],
-    /// The mounts, each behind the one that it stands on.
+    /// The mounts, each after the one that it stands on.
     mounts: Vec<Mount<'a>>,
-    /// Why rows have no mount: those of which this is None have one.
+    /// Why rows have no mount: those for which this is `None` have one.
     pub(crate) left: Vec<Why>,
     /// Where mounts stand: on which mount, and at which path.
     places: BTreeSet<(usize, &'a [u8])>,
@@ -76,7 +76,7 @@ impl<'a> Tree<'a> {
         })
     }
 
-    /// The mounts, each behind the one that it stands on.
+    /// The mounts, each after the one that it stands on.
     pub(crate) fn mounts(&self) -> &[Mount<'a>]
         ensures mounts { result.now ≡ self.now.mounts }
         ensures kept { IsMakingOrder self.now.rows self.now.mounts self.now.left }
@@ -84,7 +84,7 @@ impl<'a> Tree<'a> {
         self.mounts.as_slice()
     }
 
-    /// Leaves a row out of which the turn has not come; nothing where it has.
+    /// Leaves out a row whose turn has not come; does nothing if it has.
     fn leave_out(&mut self, number: usize, why: Reason)
         ensures { self.new.rows ≡ self.old.rows }
     {
@@ -139,8 +139,8 @@ impl<'a> Tree<'a> {
         Ok(None)
     }
 
-    /// Takes the turn of a row, unless it has come before: its mount is added, or it is left out. Those that stand on it wait for
-    /// theirs then, the last one first.
+    /// Takes the turn of a row, unless it has come before: its mount is added, or it is left out. Then those that stand
+    /// on it wait for their turns, the last one first.
     fn take(&mut self, next: Waiting, below: &[Below], waiting: &mut Vec<Waiting>) -> Done
         ensures { OnOk result (self.new.rows ≡ self.old.rows) }
     {
@@ -197,8 +197,8 @@ struct Below {
     left: Why,
 }
 
-/// Rows that are left out in any case, each by the number of its table and its own, and why: they have no place that another one
-/// could have.
+/// Rows that are left out in any case, each by the number of its table and its own number, and why: they take no place
+/// from another row.
 pub(crate) type Refused = BTreeMap<(usize, usize), Reason>;
 
 /// Of the rows that stand on others, those that stand on this one.
@@ -210,7 +210,7 @@ fn below_of<'b>(below: &'b [Below], row: &HostMount) -> &'b [Below] {
     &behind[..end]
 }
 
-/// Has these rows wait for their turns, the last one first.
+/// Makes these rows wait for their turns, the last one first.
 fn wait_for(waiting: &mut Vec<Waiting>, rows: &[Below], on: On) -> Done {
     for row in rows {
         let number = row.number;
@@ -223,7 +223,7 @@ fn wait_for(waiting: &mut Vec<Waiting>, rows: &[Below], on: On) -> Done {
     Ok(())
 }
 
-/// The numbers of the mounts that rows tell. Rows of which the mount is told before are left out.
+/// The numbers of the mounts that rows tell. Rows whose mount was told before are left out.
 fn ids_of(tree: &mut Tree<'_>) -> Allocated<BTreeSet<u64>>
     ensures { OnOk result (tree.new.rows ≡ tree.old.rows) }
 {
@@ -246,8 +246,9 @@ fn root_of(ids: &BTreeSet<u64>, rows: &[HostMount]) -> Option<usize> {
     rows.iter().position(|row| is_top(ids, row) && row.point.as_slice() == b"/".as_slice())
 }
 
-/// The rows that stand on others, by the numbers of these, and by how many names lead to where they stand. Those that stand on
-/// none wait to be left out, but for that of the root mount; and all do where there is none.
+/// The rows that stand on others, by the numbers of these, and by how many names lead to where they stand. Those that
+/// stand on none wait to be left out, except for that of the root mount; and all of them wait for that if there is
+/// none.
 fn sorted(
     tree: &Tree<'_>,
     ids: &BTreeSet<u64>,
@@ -284,8 +285,8 @@ fn sorted(
     Ok(below)
 }
 
-/// The mounts that the rows of the table of a number tell, each with its place, and why the others have none: all are left out
-/// where a table before it tells the same, and those that are refused.
+/// The mounts that the rows of the table of a number tell, each with its place, and why the others have none: all are
+/// left out if a table before it tells the same, and so are those that are refused.
 pub(crate) fn tree_of<'a>(
     alloc: Global,
     table: usize,

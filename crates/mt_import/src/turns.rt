@@ -1,11 +1,11 @@
-//! The mounts of a table, one after another: each is begun behind what it stands on, and comes to its place when all stands on it
-//! that does.
+//! The mounts of a table, one after another: each is begun after what it stands on, and gets to its place once
+//! everything that belongs on it stands on it.
 //!
-//! A hook isolates the place on a mount of a peer group, so that what is mounted there comes to no other. A mount on the staged
-//! member of the group comes to each mount that gets from it and shows the place, below what is there. The one at the place
-//! itself is made private: it is left alone with what it stands on, and what is mounted there stands on its root, from where
-//! nothing propagates. The unmount of the one on the staged member takes each other away with it, and what stood on its root
-//! slides back (sharedsubtree, mount_namespaces(7)).
+//! A hook isolates the place on a mount of a peer group, so that what is mounted there reaches no other. A mount on the
+//! staged member of the group comes to each mount that receives from it and shows the place, below what is there. The
+//! one at the place itself is made private, so that it is tied only to what it stands on; what is then mounted there
+//! stands on its root, from where nothing propagates. The unmount of the one on the staged member takes all the others
+//! away with it, and what stood on the root of the private one slides back (sharedsubtree, mount_namespaces(7)).
 ghost use Rattle.std.specs.Prelude.{◌≡◌, ◌++◌, if◌then◌else◌, [], map, slice_get, OnOk};
 ghost use Rattle.std.specs.List.{flat_map};
 ghost use Rattle.mt_import.specs.Hook.{release_text, isolate_text};
@@ -20,8 +20,8 @@ use crate::space::{Space, Way, hooked_by};
 use crate::writer::{Written, one_behind};
 
 impl<'s, 'a> Site<'s, 'a> {
-    /// Takes away the mount of a hook at a path, where it would hide what is to be reached, and leaves all others: a mount inside
-    /// of these spares them.
+    /// Takes away the mount of a hook at a path, where it would hide what has to be reached, and leaves all others: a
+    /// mount inside these spares them.
     #[tactic(auto, unfolding(crate::specs::Hook::release_text))]
     fn release(self, script: &mut Script, hook: &[u8], path: &[u8]) -> Written
         ensures { OnOk result (script.new ≡ script.old ++ release_text self.entry.space.now hook.now path.now) }
@@ -76,7 +76,7 @@ impl<'s, 'a> Site<'s, 'a> {
         Ok(())
     }
 
-    /// Brings a mount to its place, which is isolated if others get what is mounted there.
+    /// Brings a mount to its place, which is isolated if others receive what is mounted there.
     #[tactic(auto, unfolding(crate::specs::Turns::placed_text))]
     fn place(
         self,
@@ -138,8 +138,8 @@ impl<'s, 'a> Site<'s, 'a> {
         self.make_bare(script, mount, path.as_slice())
     }
 
-    /// Ends the mount of a number, on which all stands that does: it comes to its place, unless it is left out, or at the root of
-    /// the namespace.
+    /// Ends the mount of a number, once everything that belongs on it stands on it: it gets to its place, unless it is
+    /// left out, or is at the root of the namespace.
     #[tactic(auto, unfolding(crate::specs::Turns::ended_text))]
     fn end(self, script: &mut Script, space: &Space<'_>, number: usize) -> Written
         ensures { OnOk result (script.new ≡ script.old ++ ended_at self.entry.groups.now.all self.entry.space.now self.entry.stage.now space.now number) }

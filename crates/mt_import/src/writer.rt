@@ -11,20 +11,21 @@ use std::alloc::{AllocError, AllocFailed, Global};
 /// How many bytes of a row a comment tells.
 const MOST_TOLD: usize = 8_000;
 
-/// What a call answers that fails for want of memory alone.
+/// What a call answers that can fail only for want of memory.
 pub(crate) type Allocated<T> = Result<T, AllocError>;
 
-/// The same of a call that makes nothing.
+/// The same for a call that makes nothing.
 pub(crate) type Done = Allocated<()>;
 
-/// The same of one that makes a text.
+/// The same for one that makes a text.
 pub(crate) type Text = Allocated<Vec<u8>>;
 
 /// Why a part of a script is not made.
 #[derive(Clone, Copy)]
 pub(crate) enum Unmade {
     NoMemory,
-    /// A line that is to be a command is none that the server reads, or what is planned is not what the tables tell.
+    /// A line that should be a command is not one that the server reads, or what is planned is not what the tables
+    /// tell.
     Refused,
 }
 
@@ -40,10 +41,10 @@ impl<T: Drop> From<AllocFailed<T>> for Unmade {
     }
 }
 
-/// What a call answers that makes a part of a script.
+/// What a call that makes a part of a script answers.
 pub(crate) type Written = Result<(), Unmade>;
 
-/// Texts, one behind the other.
+/// Texts, one after the other.
 pub(crate) fn joined(alloc: Global, texts: &[&[u8]]) -> Text
     ensures { IfOk result (λ all. all.items ≡ flat_map (λ text. text.now) texts.now) }
 {
@@ -54,7 +55,7 @@ pub(crate) fn joined(alloc: Global, texts: &[&[u8]]) -> Text
     Ok(all)
 }
 
-/// A text, and one behind it.
+/// A text, and one after it.
 pub(crate) fn one_behind(alloc: Global, first: &[u8], second: &[u8]) -> Text
     ensures { IfOk result (λ all. all.items ≡ first.now ++ second.now) }
 {
@@ -71,7 +72,7 @@ pub(crate) fn digits_of(alloc: Global, number: u64) -> Text
     Vec::from_slice(alloc, buffer.format(number).as_bytes())
 }
 
-/// Appends words, each behind a space.
+/// Appends words, each preceded by a space.
 fn push_words(line: &mut Vec<u8>, words: &[&[u8]]) -> Done
     ensures { OnOk result (line.new.items ≡ line.old.items ++ flat_map (λ word. 32 ∷ word.now) words.now) }
 {
@@ -95,7 +96,7 @@ pub(crate) fn spaced(alloc: Global, words: &[&[u8]]) -> Text
     Ok(line)
 }
 
-/// Appends a line that is to be a command, which is refused unless the server reads it as one.
+/// Appends a line that should be a command, and is refused unless the server reads it as one.
 #[tactic(auto, unfolding(crate::specs::Script::line_text, crate::specs::Script::command_line))]
 pub(crate) fn push_command(script: &mut Script, line: &[u8]) -> Written
     ensures { OnOk result (script.new ≡ script.old ++ command_line line.now) }
@@ -115,7 +116,7 @@ pub(crate) fn command(script: &mut Script, words: &[&[u8]]) -> Written
     push_command(script, line.as_slice())
 }
 
-/// The first bytes of a text, so many at most.
+/// The first bytes of a text, this many at most.
 fn first_bytes(text: &[u8], most: usize) -> &[u8]
     ensures { result.now ≡ take most text.now }
 {
@@ -144,7 +145,7 @@ pub(crate) fn table_comment(script: &mut Script, table: usize, text: &[u8], last
     comment(script, &[b"# table ", table.as_slice(), text, last])
 }
 
-/// Tells which group of the tables is which one of the server.
+/// Tells which group of the server stands for which one of the tables.
 #[tactic(auto, unfolding(crate::specs::Script::group_comment))]
 pub(crate) fn group_comment(script: &mut Script, there: u64, here: u64) -> Done
     ensures { OnOk result (script.new ≡ script.old ++ group_comment there here) }

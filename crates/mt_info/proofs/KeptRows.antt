@@ -1,4 +1,4 @@
--- A row is as it was but for the mounts that were touched, and those below one that was touched and moved.
+-- A row is as it was except for the mounts that were touched, and those below one that was touched and moved.
 use Rattle.std.proofs.Common.{◌≡◌, ℕ, zero, suc, Bool, true, false, not, ◌&&◌, ◌==◌, eqb, eqb-true, eq-eqb, List, map, length, Option, Some, None, refl, sym, ap, ◌∙◌, arith}
 use Rattle.std.specs.List.{list_any}
 use Rattle.std.specs.Option.{unwrap_or}

@@ -1,4 +1,4 @@
--- The numbers of trees put one behind the other.
+-- The numbers of trees put one after the other.
 use Rattle.std.proofs.Common.{◌≡◌, ℕ, ◌≤◌, Bool, true, false, cond, ◌&&◌, ◌||◌, List, [], ◌∷◌, ◌++◌, length, drop, append-nil, refl, sym, ap, ◌∙◌}
 use Rattle.std.specs.Prelude.{nat_eq}
 use Rattle.std.specs.List.{list_any, flat_map}
@@ -15,7 +15,7 @@ among-each t f (i ∷ ids) j = list_any-append (λ k. nat_eq k j) (cond (t i) (f
     here true = refl
     here false = refl
 
--- all numbers of a list were gone over, and the lists of those that pass put behind it
+-- all numbers of a list were gone over, and the lists of those that pass put after it
 pub among-all : (t : ℕ → Bool) (f : ℕ → List ℕ) (ids rows : List ℕ) (k : ℕ) → length ids ≤ k
     → rows ++ flat_map (λ i. cond (t i) (f i) []) (drop k ids) ≡ ids ++ flat_map (λ i. cond (t i) (f i) []) ids → (j : ℕ) → among rows j ≡ (among ids j || list_any (λ i. t i && among (f i) j) ids)
 among-all t f ids rows k l e j =

@@ -53,7 +53,7 @@ from_end next P last step (suc n) x e = go (next x) refl e (λ y. from_end next 
     go (Some y) at e ih = step x y at (ih y e)
 
 module _ (w : WorldView) where
-  -- where a mount stands: the names that it adds, behind the point of its parent if it has one
+  -- where a mount stands: the names that it adds, after the point of its parent if it has one
   pub below_parent : (i p : ℕ) → IsWellFormed w → parent w.forest i ≡ Some p → mount_point w i ≡ mount_point w p ++ own_names w i
   below_parent i p h e =
       let above = chain (parent w.forest) (length w.forest) p in
@@ -78,7 +78,7 @@ module _ (w : WorldView) where
   pub point_of_root : (i : ℕ) (m : Mount) → mount_at w.forest i ≡ Some m → m.place ≡ None → mount_point w i ≡ []
   point_of_root i m e at = below_none i (parent_at i m e ∙ ap (option_map (λ (p : Place). p.mount)) at) ∙ own_names_root w i m e at
 
-  -- and so has that of a mount behind so many steps that there can be no more
+  -- and so has that of a mount after so many steps that there can be no more
   pub point_of_last : (i : ℕ) (m : Mount) → mount_at w.forest i ≡ Some m → ends (parent w.forest) 0 i ≡ true → mount_point w i ≡ []
   point_of_last i m e last = point_of_root i m e (nowhere m.place (ap is_none (sym (parent_at i m e)) ∙ last))
     where

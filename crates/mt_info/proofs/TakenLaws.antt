@@ -16,7 +16,7 @@ pub first_if : (w : List ℕ) (b : Bool) (rest : List (List ℕ)) → is_first_w
 first_if w true rest h = (bytes_decides w w).1 refl
 first_if w false rest h = h
 
--- one that may stand first was taken: it is told whether it was set, and what stands behind it is left
+-- one that may stand first was taken: it is told whether it was set, and what stands after it is left
 pub took : (w : List ℕ) (old rest new : List (List ℕ)) (b r : Bool) → old ≡ word_if b w ++ rest → is_first_word w rest ≡ false → r ≡ is_first_word w old → old ≡ word_if r w ++ new → (r ≡ b) × (new ≡ rest)
 took w old rest new b r is other here taken =
     let same : r ≡ b = here ∙ ap (is_first_word w) is ∙ first_if w b rest other in
@@ -41,7 +41,7 @@ pub record TagTaken (name : List ℕ) (old new : List (List ℕ)) (g : Option �
   pub taken : old ≡ tag name g ++ new
   pub none : g ≡ None → begins name old ≡ false
 
--- it is the one that stood there, and what stands behind it is left
+-- it is the one that stood there, and what stands after it is left
 pub tag_took : (name : List ℕ) (old rest new : List (List ℕ)) (o g : Option ℕ) → ForSome o (λ n. n < 2 ^ 64) → old ≡ tag name o ++ rest → begins name rest ≡ false → TagTaken name old new g → (g ≡ o) × (new ≡ rest)
 tag_took name old rest new None None low is other t = (refl, sym t.taken ∙ is)
 tag_took name old rest new None (Some g) low is other t =
@@ -58,7 +58,7 @@ pub no_tag : (name : List ℕ) (old rest : List (List ℕ)) (o : Option ℕ) →
 no_tag name old rest None low is other here none = let h : begins name rest ≡ true = ap (begins name) (sym is) ∙ here in cc
 no_tag name old rest (Some n) low is other here none = none n rest (low n refl) is
 
--- the words of a tail behind its tags
+-- the words of a tail after its tags
 abbrev pub past_via : Tail → List (List ℕ)
 past_via t = word_if t.unbindable (codes "unbindable") ++ end_words t.kind t.source
 
@@ -68,7 +68,7 @@ past_master t = tag (codes "propagate_from:") t.via ++ past_via t
 abbrev pub past_shared : Tail → List (List ℕ)
 past_shared t = tag (codes "master:") t.master ++ past_master t
 
--- no word behind a tag begins as it does
+-- no word after a tag begins as it does
 pub behind_via : (b : Bool) (kind source : List ℕ) → begins (codes "propagate_from:") (word_if b (codes "unbindable") ++ end_words kind source) ≡ false
 behind_via true kind source = refl
 behind_via false kind source = refl

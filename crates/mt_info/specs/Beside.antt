@@ -1,5 +1,5 @@
--- The group above its master that a row may tell, and that a mount's is such a one.
--- A word with no source is this project's rule.
+-- Which group above its master a row may tell, and that the one of a mount is such a group. A word
+-- with no source is this project's rule.
 use Rattle.std.specs.Prelude.{◌≡◌, ℕ, Bool, true, false, not, cond, ◌==◌, Option, Some, None, IsTrue, refl}
 use Rattle.std.specs.Option.{option_and_then}
 use Rattle.mt_propagate.specs.World.{WorldView, state_of, space_of}

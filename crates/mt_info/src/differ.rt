@@ -1,4 +1,4 @@
-//! What tells two rows of a mount apart before either is made.
+//! What tells two rows of a mount apart before either of them is made.
 ghost use Rattle.std.specs.Prelude.{◌≡◌, false, Some, IsTrue};
 ghost use Rattle.mt_mounts.specs.declared.mount.Mount.{Mount as AnyMount};
 ghost use Rattle.mt_mounts.specs.Forest.{mount_at};
@@ -11,7 +11,7 @@ use mt_mounts::mount::{Mount, MountId};
 use mt_peers::state::State;
 use mt_propagate::world::{World, state_of};
 
-/// Whether two states have the same group and master, and both or neither is unbindable.
+/// Whether two states have the same group and master, and are both unbindable or both not.
 fn same_state(left: State, right: State) -> bool
     ensures { result ≡ state_eq left right }
 {
@@ -28,8 +28,8 @@ fn is_alike(before: &World, after: &World, old: &Mount, new: &Mount) -> bool
         && same_state(state_of(before, old.id), state_of(after, new.id))
 }
 
-/// Whether a mount that is in both worlds has other attributes or another state in one than in the other, so that its rows
-/// differ, which need not be made to see that. Where this is false they may differ too. Takes no memory.
+/// Whether a mount that is in both worlds has different attributes or states in them, so that its rows differ, without
+/// making these rows. If this is false, they may still differ. Takes no memory.
 pub fn is_other(before: &World, after: &World, id: MountId) -> bool
     ensures other { result ≡ is_other (world_view before.now) (world_view after.now) id }
     ensures rows { IsTrue result → (m n : AnyMount) → mount_at before.now.forest.mounts id ≡ Some m → mount_at after.now.forest.mounts id ≡ Some n → row_eq (row_of (world_view before.now) m) (row_of (world_view after.now) n) ≡ false }

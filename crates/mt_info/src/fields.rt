@@ -17,8 +17,8 @@ use std::alloc::Global;
 
 /// The number that a word is in decimal digits.
 ///
-/// Refused as `BadLine` exactly where no number below 2^64 is written so: the empty word, one with another
-/// byte than a digit, with a zero in front of other digits, or of too great a number.
+/// Refused as `BadLine` exactly where no number below 2^64 is written like this: an empty word, one with a byte that is
+/// not a digit, one with a zero before other digits, or one of too great a number.
 pub fn read_number(word: &[u8]) -> Result<u64, Fault>
     ensures number { IfOk result (λ n. word.now ≡ decimal n) }
     ensures small { IfOk result (λ n. n < 2 ^ 64) }
@@ -42,7 +42,7 @@ pub(crate) fn read_minor(word: &[u8]) -> Result<FsId, Fault>
     }
 }
 
-/// Whether no byte is one that a line writes as an escape: space, tab and newline.
+/// Whether there is no byte that a line writes as an escape: space, tab or newline.
 fn is_bare(word: &[u8]) -> bool
     ensures { result ≡ list_all is_bare word.now }
 {

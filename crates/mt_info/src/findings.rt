@@ -1,4 +1,4 @@
-//! What was found in a world for the rows that were made of it.
+//! What was found in a world while its rows were made.
 ghost use Rattle.std.specs.Prelude.{◌≡◌, ◌++◌, Some, IfOk, OnOk, IsOkUnless};
 ghost use Rattle.mt_skel.specs.Front.{IsFront};
 ghost use Rattle.mt_mounts.specs.Forest.{mount_at};
@@ -17,8 +17,8 @@ use mt_skel::fault::Fault;
 use mt_skel::names::Names;
 use std::marker::Model;
 
-/// A world, and what was found in it for the rows of its mounts: the groups that are seen in their namespaces, and where
-/// mounts above them stand. So what many rows of one world need is looked for once.
+/// A world, and what was found in it for the rows of its mounts: the groups that are seen in their namespaces, and
+/// where mounts above them stand. So what many rows of one world need is looked for only once.
 pub struct Findings<'a> {
     groups: SeenGroups<'a>,
     points: Points<'a>,
@@ -37,7 +37,6 @@ impl<'a> Model for Findings<'a> {
     ghost invariant = { λ f. f.points ≡ f.groups };
 }
 
-// Written out, so that whoever owns what was found lets it go as one thing.
 impl<'a> Drop for Findings<'a> {
     fn drop(self) {
         let Findings {
@@ -67,8 +66,7 @@ impl<'a> Findings<'a> {
         self.groups.world()
     }
 
-    /// The group that the tag `propagate_from` of a mount in this state names, if it has one. Refused as `NoMemory`
-    /// alone.
+    /// The group that the tag `propagate_from` of a mount in this state names, if it has one.
     pub(crate) fn from_group(
         &mut self,
         id: MountId,
@@ -85,7 +83,7 @@ impl<'a> Findings<'a> {
         self.groups.from_group(id)
     }
 
-    /// Where a mount stands, from the root of its namespace down. Refused as `NoMemory` alone.
+    /// Where a mount stands, from the root of its namespace down.
     pub(crate) fn point(&mut self, mount: &Mount) -> Result<Names, Fault>
         requires well_formed { IsWellFormed (world_view self.old) }
         requires there { mount_at self.old.forest.mounts mount.now.id ≡ Some mount.now }
@@ -96,7 +94,7 @@ impl<'a> Findings<'a> {
         self.points.point(&mut self.way, mount)
     }
 
-    /// Appends the path where a mount stands, from the root of its namespace down. Refused as `NoMemory` alone.
+    /// Appends the path where a mount stands, from the root of its namespace down.
     pub(crate) fn push_point(&mut self, text: &mut Vec<u8>, mount: &Mount) -> Result<(), Fault>
         requires well_formed { IsWellFormed (world_view self.old) }
         requires there { mount_at self.old.forest.mounts mount.now.id ≡ Some mount.now }

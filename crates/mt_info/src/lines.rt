@@ -1,6 +1,6 @@
-//! The lines of a table, printed from the world: no row is made, and a list of names on a long way alone.
+//! The lines of a table, printed from the world: no row is made, and a list of names only on a long way.
 //!
-//! Where memory is wanting, what stood in the text stays in front.
+//! If there is not enough memory, what stood in the text stays in it.
 ghost use Rattle.std.specs.Prelude.{◌≡◌, ◌++◌, Some, IsTrue, OnOk, IsOkUnless};
 ghost use Rattle.std.specs.List.{flat_map};
 ghost use Rattle.mt_skel.specs.Front.{IsFront};
@@ -21,11 +21,10 @@ use mt_skel::fault::Fault;
 use mt_skel::skel::{Dir, Skel};
 use std::alloc::AllocError;
 
-/// How many bytes a line is expected to have, for which room is made at once.
+/// How many bytes a line is expected to have; room for these is made at once.
 const LINE_ROOM: usize = 64;
 
-/// Appends the lines of the table of a namespace, each with its line end; none where there is no such namespace.
-/// Refused as `NoMemory` alone.
+/// Appends the lines of the table of a namespace, each with its line end; none if there is no such namespace.
 pub fn push_table(text: &mut Vec<u8>, world: &World, space: SpaceId) -> Result<(), Fault>
     requires well_formed { IsWellFormed (world_view world.now) }
     ensures lines { OnOk result (text.new.items ≡ text.old.items ++ flat_map whole_line (table_of (world_view world.now) space)) }
@@ -42,7 +41,7 @@ pub fn push_table(text: &mut Vec<u8>, world: &World, space: SpaceId) -> Result<(
     Ok(())
 }
 
-/// Appends the line of a mount of the world, without its line end. Refused as `NoMemory` alone.
+/// Appends the line of a mount of the world, without its line end.
 fn push_line(text: &mut Vec<u8>, seen: &mut Findings<'_>, mount: &Mount) -> Result<(), Fault>
     requires well_formed { IsWellFormed (world_view seen.old) }
     requires there { mount_at seen.old.forest.mounts mount.now.id ≡ Some mount.now }
@@ -66,7 +65,7 @@ fn push_line(text: &mut Vec<u8>, seen: &mut Findings<'_>, mount: &Mount) -> Resu
     Ok(())
 }
 
-/// Appends the path of a directory from the root of its filesystem down. Fails for want of memory alone.
+/// Appends the path of a directory from the root of its filesystem down.
 fn push_dir(text: &mut Vec<u8>, skel: &Skel, dir: Dir) -> Result<(), AllocError>
     requires { IsTrue (is_directory skel.now dir) }
     ensures text { OnOk result (text.new.items ≡ text.old.items ++ path_text (directory skel.now dir).path) }

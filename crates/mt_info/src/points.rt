@@ -1,7 +1,7 @@
 //! Where mounts stand: their mount points, from those that are known above them.
 //!
-//! A mount's point is that of its parent, and the names from the parent's root down to the mount. So the way up from a
-//! mount ends where a point is known, and points along long ways are kept for the mounts to come.
+//! The point of a mount is that of its parent, followed by the names from the parent's root down to the mount. So the
+//! way up from a mount ends where a point is known, and points along long ways are kept for later mounts.
 ghost use Rattle.std.specs.Prelude.{◌≡◌, ◌++◌, ◌∷◌, ◌-◌, ℕ, List, length, drop, reverse, unwrap_or, option_copied, [], IfOk, OnOk, IsOkUnless, MatchOption, Some, IsTrue, ⊤};
 ghost use Rattle.std.specs.List.{flat_map, list_all};
 ghost use Rattle.mt_skel.specs.Front.{IsFront};
@@ -24,7 +24,7 @@ use mt_skel::skel::{Dir, Skel};
 use std::alloc::AllocError;
 use std::marker::Model;
 
-/// A way of more steps is long: the point in its middle is kept.
+/// A way with more steps is long: the point in its middle is kept.
 const LONG: usize = 8;
 
 /// A step down: from the root of a mount to the directory where another one stands on it.
@@ -55,7 +55,6 @@ impl<'a> Model for Points<'a> {
     ghost invariant = { λ p. ArePoints (world_view p.world.now) p.known };
 }
 
-// Written out, so that whoever owns what is known lets it go as one thing.
 impl<'a> Drop for Points<'a> {
     fn drop(self) {
         let Points {
@@ -67,7 +66,7 @@ impl<'a> Drop for Points<'a> {
 }
 
 impl<'a> Points<'a> {
-    /// No point is known. It takes memory where a way is long, and not before.
+    /// No point is known. It takes memory only once a way is long.
     pub(crate) fn new(world: &'a World) -> Self
         ensures { result ≡ world.now }
     {
@@ -86,7 +85,7 @@ impl<'a> Points<'a> {
     }
 
     /// The way up from a mount, to where a point is known, or to the root mount: its steps, the lowest first, and the
-    /// point, if one is known. Fails for want of memory alone.
+    /// point, if one is known.
     fn way_up(&self, way: &mut Vec<Step>, mount: &Mount) -> Result<Option<&Names>, AllocError>
         requires well_formed { IsWellFormed (world_view self.now) }
         requires there { mount_at self.now.forest.mounts mount.now.id ≡ Some mount.now }
@@ -126,7 +125,7 @@ impl<'a> Points<'a> {
         Ok(above)
     }
 
-    /// Where a mount stands; `way` has the way down to it then. Refused as `NoMemory` alone.
+    /// Where a mount stands; `way` has the way down to it then.
     fn made(&self, way: &mut Vec<Step>, mount: &Mount) -> Result<Names, Fault>
         requires well_formed { IsWellFormed (world_view self.now) }
         requires there { mount_at self.now.forest.mounts mount.now.id ≡ Some mount.now }
@@ -142,7 +141,7 @@ impl<'a> Points<'a> {
         point.copy()
     }
 
-    /// Appends the path where a mount stands; `way` has the way down to it then. Fails for want of memory alone.
+    /// Appends the path where a mount stands; `way` has the way down to it then.
     fn push_made(
         &self,
         text: &mut Vec<u8>,
@@ -161,7 +160,7 @@ impl<'a> Points<'a> {
         push_root(text, start)
     }
 
-    /// Keeps where a mount stands. Refused as `NoMemory` alone.
+    /// Keeps where a mount stands.
     fn learn(&mut self, id: MountId) -> Result<(), Fault>
         requires { IsWellFormed (world_view self.old) }
         ensures kept { self.new ≡ self.old }
@@ -176,8 +175,8 @@ impl<'a> Points<'a> {
         Ok(())
     }
 
-    /// Keeps the point in the middle of a way, where it is long and not the first such one, so that the next way there is
-    /// half as long. Refused as `NoMemory` alone.
+    /// Keeps the point in the middle of a way, if it is long and not the first such way, so that the next way there is
+    /// half as long.
     fn learn_from(&mut self, way: &[Step]) -> Result<(), Fault>
         requires { IsWellFormed (world_view self.old) }
         ensures kept { self.new ≡ self.old }
@@ -193,8 +192,8 @@ impl<'a> Points<'a> {
         self.learn(way[way.len() / 2].parent)
     }
 
-    /// Where a mount stands, from the root of its namespace down. What is in `way` goes: it is lent so that not each
-    /// point takes memory of its own. Refused as `NoMemory` alone.
+    /// Where a mount stands, from the root of its namespace down. What is in `way` is lost: it is lent so that not each
+    /// point takes memory of its own.
     pub(crate) fn point(&mut self, way: &mut Vec<Step>, mount: &Mount) -> Result<Names, Fault>
         requires well_formed { IsWellFormed (world_view self.old) }
         requires there { mount_at self.old.forest.mounts mount.now.id ≡ Some mount.now }
@@ -207,8 +206,7 @@ impl<'a> Points<'a> {
         Ok(point)
     }
 
-    /// Appends the path where a mount stands, from the root of its namespace down. What is in `way` goes. Refused as
-    /// `NoMemory` alone.
+    /// Appends the path where a mount stands, from the root of its namespace down. What is in `way` is lost.
     pub(crate) fn push_point(
         &mut self,
         text: &mut Vec<u8>,
@@ -240,7 +238,7 @@ fn count(skel: &Skel, step: Step) -> usize
     below.saturating_sub(outer)
 }
 
-/// A path with the names of a step at its end. Fails for want of memory alone.
+/// A path with the names of a step at its end.
 fn add_step(path: Names, skel: &Skel, step: Step) -> Result<Names, AllocError>
     requires { IsTrue (is_step skel.now step) }
     ensures { IfOk result (λ names. names ≡ path ++ step_names skel.now step) }
@@ -250,7 +248,7 @@ fn add_step(path: Names, skel: &Skel, step: Step) -> Result<Names, AllocError>
     Ok(names)
 }
 
-/// A path with the names of steps, one below the other, at its end. Fails for want of memory alone.
+/// A path with the names of steps, one below the other, at its end.
 fn add_steps(path: Names, skel: &Skel, way: &[Step]) -> Result<Names, AllocError>
     requires { IsTrue (list_all (is_step skel.now) way.now) }
     ensures { IfOk result (λ names. names ≡ path ++ flat_map (step_names skel.now) way.now) }
@@ -262,8 +260,7 @@ fn add_steps(path: Names, skel: &Skel, way: &[Step]) -> Result<Names, AllocError
     Ok(names)
 }
 
-/// Appends the names of a point, if there is one, each behind a slash and with its escapes. Fails for want of memory
-/// alone.
+/// Appends the names of a point, if there is one, each preceded by a slash and with its escapes.
 fn push_above(text: &mut Vec<u8>, above: Option<&Names>) -> Result<(), AllocError>
     ensures text { OnOk result (text.new.items ≡ text.old.items ++ flat_map (λ n. 47 ∷ escaped n) (unwrap_or (option_copied above.entry) [])) }
     ensures kept { IsFront text.old.items text.new.items }
@@ -275,7 +272,7 @@ fn push_above(text: &mut Vec<u8>, above: Option<&Names>) -> Result<(), AllocErro
     Ok(())
 }
 
-/// Appends the names of a step, each behind a slash and with its escapes. Fails for want of memory alone.
+/// Appends the names of a step, each preceded by a slash and with its escapes.
 fn push_step(text: &mut Vec<u8>, skel: &Skel, step: Step) -> Result<(), AllocError>
     requires { IsTrue (is_step skel.now step) }
     ensures text { OnOk result (text.new.items ≡ text.old.items ++ flat_map (λ n. 47 ∷ escaped n) (step_names skel.now step)) }
@@ -286,7 +283,7 @@ fn push_step(text: &mut Vec<u8>, skel: &Skel, step: Step) -> Result<(), AllocErr
     Ok(())
 }
 
-/// Appends the names of steps, one below the other. Fails for want of memory alone.
+/// Appends the names of steps, one below the other.
 fn push_steps(text: &mut Vec<u8>, skel: &Skel, way: &[Step]) -> Result<(), AllocError>
     requires { IsTrue (list_all (is_step skel.now) way.now) }
     ensures text { OnOk result (text.new.items ≡ text.old.items ++ flat_map (λ n. 47 ∷ escaped n) (flat_map (step_names skel.now) way.now)) }
@@ -298,8 +295,8 @@ fn push_steps(text: &mut Vec<u8>, skel: &Skel, way: &[Step]) -> Result<(), Alloc
     Ok(())
 }
 
-/// Makes the names of a path, each behind a slash, its text: where there is none, since the text is as long as it was
-/// when they began, a slash is appended. Fails for want of memory alone.
+/// Completes the text of a path after its names, each preceded by a slash: if there were none, so that the text is as
+/// long as it was before them, a slash is appended.
 pub(crate) fn push_root(text: &mut Vec<u8>, start: usize) -> Result<(), AllocError>
     ensures text { OnOk result ((front : List ℕ) (names : List (List ℕ)) → length front ≡ start → text.old.items ≡ front ++ flat_map (λ n. 47 ∷ escaped n) names → text.new.items ≡ front ++ path_text names) }
     ensures kept { IsFront text.old.items text.new.items }

@@ -47,7 +47,7 @@ fn take_word(words: &mut Words<'_>, word: &[u8]) -> bool
     true
 }
 
-/// The access time that the words of two options say; both do not stand together.
+/// The access time that the words of two options say; they never occur together.
 fn atime_of(noatime: bool, relatime: bool) -> Option<Atime>
     ensures { MatchOption result ((t : Atime) → is_noatime t ≡ noatime → is_relatime t ≡ relatime → ⊥) (λ t. (is_noatime t ≡ noatime) × (is_relatime t ≡ relatime)) }
 {
@@ -108,7 +108,7 @@ fn read_options(word: &[u8]) -> Result<Attrs, Fault>
     })
 }
 
-/// Takes the next word if it begins with a name, and answers the group behind it.
+/// Takes the next word if it begins with a name, and answers the group after it.
 fn take_tag(words: &mut Words<'_>, name: &[u8]) -> Result<Option<GroupId>, Fault>
     ensures tag { IfOk result (λ group. words.old ≡ tag name.now group ++ words.new) }
     ensures small { IfOk result (λ group. ForSome group (λ g. g < 2 ^ 64)) }
@@ -126,7 +126,7 @@ fn take_tag(words: &mut Words<'_>, name: &[u8]) -> Result<Option<GroupId>, Fault
     Ok(Some(group))
 }
 
-/// What stands behind the mount's own fields: the optional fields, and the filesystem.
+/// What stands after the mount's own fields: the optional fields, and the filesystem.
 #[derive(Drop)]
 struct Tail {
     shared: Option<GroupId>,
@@ -160,8 +160,8 @@ fn read_end(alloc: Global, words: &mut Words<'_>) -> Result<(Label, Label), Faul
     Ok((kind, source))
 }
 
-/// Whether a group may be told as the one that a mount gets from by way of this master: beside a
-/// master alone, and only where it is another group.
+/// Whether a group may be told as the one from which a mount receives by way of this master: only
+/// beside a master, and only if it is another group.
 fn fits_master(via: Option<GroupId>, master: Option<GroupId>) -> bool
     ensures { result ≡ fits_master via master }
 {
@@ -207,7 +207,7 @@ struct Head {
     attrs: Attrs,
 }
 
-/// The fields of a line in front of the optional ones.
+/// The fields of a line before the optional ones.
 fn read_head(alloc: Global, words: &mut Words<'_>) -> Result<Head, Fault>
     ensures head { IfOk result (λ head. words.old ≡ head_words head words.new) }
     ensures valid { IfOk result (λ head. IsHead head) }
@@ -235,7 +235,7 @@ fn read_head(alloc: Global, words: &mut Words<'_>) -> Result<Head, Fault>
 
 /// The row of which a text is the line, without its line end. No two rows have one line.
 ///
-/// Refused as `BadLine` exactly where it is the line of no row, and else as `NoMemory` alone.
+/// Refused as `BadLine` exactly where it is the line of no row, and otherwise only as `NoMemory`.
 pub fn read_row(alloc: Global, text: &[u8]) -> Result<Row, Fault>
     ensures row { IfOk result (λ row. text.now ≡ line row) }
     ensures valid { IfOk result (λ row. IsRow row) }

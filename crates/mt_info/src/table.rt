@@ -97,8 +97,8 @@ fn is_rising(rows: &[Row]) -> bool
     true
 }
 
-/// The row with this ID among rows of which the IDs strictly rise, found by halving the list; `None` where there
-/// is none. Takes no memory.
+/// The row with this ID among rows of which the IDs strictly rise, found by halving the list; `None` if there is none.
+/// Takes no memory.
 pub fn find_row(rows: &[Row], id: MountId) -> Option<&Row>
     requires { IsTrue (rises row_id rows.now) }
     ensures { MatchOption result (row_at row_id id rows.now ≡ None) (λ row. row_at row_id id rows.now ≡ Some row.now) }
@@ -127,7 +127,7 @@ fn same_rows(left: &[Row], right: &[Row]) -> bool
 
 /// The table of a namespace.
 ///
-/// Refused as `NoNamespace` where there is no such namespace, and else as `NoMemory` alone.
+/// Refused as `NoNamespace` if there is no such namespace, and otherwise only as `NoMemory`.
 pub fn table_of(world: &World, space: SpaceId) -> Result<Table, Fault>
     requires well_formed { IsWellFormed (world_view world.now) }
     ensures table { IfOk result (λ table. (is_space (world_view world.now) space ≡ true) × (table ≡ table_of (world_view world.now) space)) }
@@ -140,7 +140,7 @@ pub fn table_of(world: &World, space: SpaceId) -> Result<Table, Fault>
     table_or_empty(world, space)
 }
 
-/// The table of a namespace, which is empty where there is no such namespace.
+/// The table of a namespace, which is empty if there is no such namespace.
 fn table_or_empty(world: &World, space: SpaceId) -> Result<Table, Fault>
     requires well_formed { IsWellFormed (world_view world.now) }
     ensures table { IfOk result (λ table. table ≡ table_of (world_view world.now) space) }
@@ -155,7 +155,7 @@ fn table_or_empty(world: &World, space: SpaceId) -> Result<Table, Fault>
     Ok(Table { rows })
 }
 
-/// The row of the mount with this ID, which is there. Refused as `NoMemory` alone.
+/// The row of the mount with this ID, which is there.
 pub fn row_of(world: &World, id: MountId) -> Result<Row, Fault>
     requires well_formed { IsWellFormed (world_view world.now) }
     requires there { IsSome (mount_at world.now.forest.mounts id) }
@@ -165,8 +165,8 @@ pub fn row_of(world: &World, id: MountId) -> Result<Row, Fault>
     row_seen(&mut Findings::new(world), id)
 }
 
-/// What [`row_of`] answers of a mount, for whoever asks for several rows of one world: what is found of its groups
-/// and of the mounts above it is kept from row to row. Refused as `NoMemory` alone.
+/// What [`row_of`] answers for a mount, for callers that ask for several rows of one world: what is found of its groups
+/// and of the mounts above it is kept from row to row.
 pub fn row_seen(seen: &mut Findings<'_>, id: MountId) -> Result<Row, Fault>
     requires well_formed { IsWellFormed (world_view seen.old) }
     requires there { IsSome (mount_at seen.old.forest.mounts id) }
@@ -205,7 +205,7 @@ fn row_of_mount(seen: &mut Findings<'_>, mount: &Mount) -> Result<Row, Fault>
     })
 }
 
-/// The mount that a mount stands on; the mount itself where it is the root mount of its namespace.
+/// The mount that a mount stands on; the mount itself if it is the root mount of its namespace.
 pub(crate) fn parent_or_itself(mount: &Mount) -> MountId
     ensures { result ≡ option_map_or (λ (p : PlaceOf). p.mount) mount.now.place mount.now.id }
 {

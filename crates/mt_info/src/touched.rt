@@ -12,7 +12,7 @@ use mt_propagate::sorted::in_order;
 use mt_propagate::world::World;
 use mt_skel::fault::Fault;
 
-/// Whether a mount stands where it stood, or nowhere before and after.
+/// Whether a mount stands where it stood, or nowhere both before and after.
 fn place_stays(before: Option<Place>, after: Option<Place>) -> bool
     ensures { result ≡ place_stays before after }
 {
@@ -59,8 +59,8 @@ fn moves_along(before: &World, after: &World, id: MountId) -> bool
     false
 }
 
-/// Appends the tree of a mount that moved, unless it stands on one that did, whose tree has it. Refused as `NoMemory`
-/// alone.
+/// Appends the tree of a mount that moved, unless it stands on one that moved too, whose tree
+/// contains it.
 fn push_moved(
     rows: &mut Vec<MountId>,
     before: &World,
@@ -77,9 +77,9 @@ fn push_moved(
     Ok(())
 }
 
-/// The mounts whose rows may differ between two worlds, by rising ID, where `touched` has those that changed, in any
-/// order: these, and all that are below one of them that moved. No other mount is looked at, but for those on the way up
-/// from one that moved. Refused as `NoMemory` alone.
+/// The mounts whose rows may differ between two worlds, by rising ID, given in `touched` those that changed, in any
+/// order: these, and all that are below one of them that moved. No other mount is looked at, except for those on the
+/// way up from one that moved.
 pub fn rows_touched(
     before: &World,
     after: &World,

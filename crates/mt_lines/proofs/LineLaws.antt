@@ -16,7 +16,7 @@ use Rattle.std.proofs.lemmas.Bool.{ne_eqb, eqb-true}
 use Rattle.std.proofs.lemmas.Bool.Decides.{nat_tests}
 use Rattle.mt_lines.specs.Lines.{Item, lines_of, Unbroken, slack, Text, TooLong, Unended, Endless, between_line_ends, items, cons_first, by_length, last_items}
 
--- a line of which so many bytes were seen, and as many kept as the limit allows
+-- a line of which this many bytes were seen, and as many kept as the limit allows
 pub record Consumed (limit seen : ℕ) (kept : List ℕ) (from to : Option (List ℕ)) : Type 0 where
   pub text : List ℕ
   pub count : seen ≡ length text
@@ -182,7 +182,7 @@ endless_known limit text None after kept u long split = tt
 endless_known limit text (Some xs) None kept u long split = absurd split
 endless_known limit text (Some xs) (Some ys) kept u long split = let e = lines_of-endless limit text ys u long in (e.0, rw split e.1)
 
--- the same of so many bytes, as a call took them of a reader whose input it left alone
+-- the same of this many bytes, as a call took them of a reader whose input it left alone
 pub ahead_taken : (n : ℕ) (ahead rest : List ℕ) (later later' : Option (List ℕ)) → rest ≡ drop n ahead → later' ≡ later → Consumes (prepend_known ahead later) (prepend_known rest later') (take n ahead)
 ahead_taken n ahead rest later later' e same = rw (same, e) (ahead_consumed (take n ahead) (drop n ahead) ahead later (sym (take-append-drop n ahead)))
 

@@ -25,7 +25,7 @@ next_is m d k h =
     let e = digit_value_digit d (low, high) in
     ((low, high), omega (arith, r.1, e), omega (arith, r.1, small))
 
--- digits that were read behind a number
+-- digits that were read after a number
 digits_read : (m n : ℕ) (ds : List ℕ) → m < 2 ^ 64 → number_from (Some m) ds ≡ Some n → AllDigits 10 ds × (digits_value_after 10 m ds ≡ n) × (n < 2 ^ 64)
 digits_read m n [] lt h = let e : m ≡ n = cc in (tt, e, subst (λ x. x < 2 ^ 64) e lt)
 digits_read m n (d ∷ ds) lt h = go (with_digit m d) refl h (digits_read (m * 10 + digit_value d) n ds)

@@ -42,7 +42,7 @@ first_piece separator text (Some k) h =
     let split : text ≡ take k text ++ separator ∷ drop (suc k) text = sym (take-append-drop k text) ∙ ap (λ x. take k text ++ x) (drop-at_separator separator text k before.high h.1) in
     (before.high, rw add-one (ap (pieces separator) split ∙ pieces-cut separator (take k text) (drop (suc k) text) u))
 
--- digits behind what is no number make none
+-- digits after what is no number make none
 pub number_from_none : (ds : List ℕ) → number_from None ds ≡ None
 number_from_none [] = refl
 number_from_none (d ∷ ds) = refl

@@ -12,8 +12,8 @@ use Rattle.mt_lines.specs.declared.stream.Input.{Ghosts}
 use Rattle.mt_lines.specs.declared.stream.StreamFault.{StreamFault}
 use Rattle.mt_lines.specs.Stream.{HasFailed, IsInterrupted, most_interruptions}
 
--- the bytes that the reader has still to serve, where what its input has left is known: those that it
--- has read ahead, and those that its input has left
+-- the bytes that the reader still has to serve, if what its input has left is known: those that it has read ahead, and
+-- those that its input has left
 abbrev pub known_left : {R : Type 0} {g : Ghosts R} → LineReader R g → Option (List ℕ)
 known_left {R} {g} r = prepend_known r.chunk (g.remaining r.reader)
 
@@ -33,7 +33,7 @@ limit_of r = r.limit
 abbrev pub fault_of : {R : Type 0} {g : Ghosts R} → LineReader R g → Option ReadFault
 fault_of r = r.fault
 
--- the bytes of the last line, if it was a text, and else none
+-- the bytes of the last line, if it was a text, and otherwise none
 abbrev pub last_line : {R : Type 0} {g : Ghosts R} → LineReader R g → List ℕ
 last_line r = if is_some r.fault then [] else r.line.items
 
@@ -41,7 +41,7 @@ last_line r = if is_some r.fault then [] else r.line.items
 abbrev pub line_room : {R : Type 0} {g : Ghosts R} → LineReader R g → ℕ
 line_room r = vec_capacity r.line
 
--- how many bytes a reader reserves for a line at most, this project's rule
+-- how many bytes a reader reserves for a line at most, by this project's rule
 abbrev pub most_reserved : ℕ
 most_reserved = 8192
 
@@ -75,7 +75,7 @@ LosesNoLine (Ok l) before after = ⊤
 LosesNoLine (Err fault.Endless) before after = ⊤
 LosesNoLine (Err e) before after = (part : List ℕ) × Unbroken part × Consumes before after part
 
--- how far the count of failed calls rose in a call that answered this fault: by one at least for
+-- how far the count of failed calls rose in a call that answered this fault: by at least one for
 -- Device, and by the most interruptions for Interrupted
 abbrev pub IsFaultCause : ReadFault → ℕ → ℕ → Type 0
 IsFaultCause fault.Device old new = old < new
@@ -88,7 +88,7 @@ abbrev pub IsReadCause : Result Line ReadFault → ℕ → ℕ → Type 0
 IsReadCause (Ok l) old new = old ≤ new
 IsReadCause (Err e) old new = IsFaultCause e old new
 
--- what the last calls of the input were where a call answered this fault, and had begun behind a call
+-- what the last calls of the input were when a call answered this fault, and had begun after a call
 -- that succeeded: one failure for Device, and as many interruptions as end a read for Interrupted
 abbrev pub IsFaultRun : ReadFault → List StreamFault → Type 0
 IsFaultRun fault.Device faults = HasFailed faults

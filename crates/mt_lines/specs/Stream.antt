@@ -11,13 +11,13 @@ use Rattle.mt_lines.specs.declared.memory.Faltering.{Faltering}
 use Rattle.mt_lines.specs.declared.memory.Sink.{Sink}
 
 -- 1 for a failed write, by this project's rule one that answers a fault or takes nothing where there is
--- something, and else 0
+-- something, and otherwise 0
 abbrev pub failed_writes : List ℕ → Result ℕ StreamFault → ℕ
 failed_writes bytes (Ok zero) = min (length bytes) 1
 failed_writes bytes (Ok (suc n)) = 0
 failed_writes bytes (Err e) = 1
 
--- 1 for a failed read, one that answers a fault, and else 0
+-- 1 for a failed read, one that answers a fault, and otherwise 0
 abbrev pub failed_reads : Result ℕ StreamFault → ℕ
 failed_reads (Ok n) = 0
 failed_reads (Err e) = 1
@@ -28,7 +28,7 @@ abbrev pub faults_after_read : List StreamFault → Result ℕ StreamFault → L
 faults_after_read faults (Ok n) = []
 faults_after_read faults (Err e) = e ∷ faults
 
--- the same after a write that took nothing of these bytes: it has failed unless there are none
+-- the same after a write that took none of these bytes: it has failed unless there are none
 abbrev pub faults_after_none : List ℕ → List StreamFault → List StreamFault
 faults_after_none [] faults = []
 faults_after_none (b ∷ bytes) faults = Failed ∷ faults
@@ -39,15 +39,15 @@ faults_after_write bytes faults (Ok zero) = faults_after_none bytes faults
 faults_after_write bytes faults (Ok (suc n)) = []
 faults_after_write bytes faults (Err e) = e ∷ faults
 
--- how many interruptions in succession end a read or a send, this project's rule
+-- how many interruptions in succession end a read or a send, by this project's rule
 abbrev pub most_interruptions : ℕ
 most_interruptions = 1000
 
--- so many interruptions in succession
+-- this many interruptions in succession
 abbrev pub interruptions : ℕ → List StreamFault
 interruptions n = replicate n Interrupted
 
--- the last call failed, behind fewer interruptions in succession than end a read or a send
+-- the last call failed, after fewer interruptions in succession than end a read or a send
 abbrev pub HasFailed : List StreamFault → Type 0
 HasFailed faults = (n : ℕ) × (n < most_interruptions) × (faults ≡ Failed ∷ interruptions n)
 

@@ -12,10 +12,10 @@ use std::marker::Model;
 /// How many bytes one read asks for at most.
 const CHUNK: usize = 4_096;
 
-/// How many bytes a reader reserves for a line at most, this project's rule.
+/// How many bytes a reader reserves for a line at most, by this project's rule.
 const MOST_RESERVED: usize = 8_192;
 
-/// How many bytes past the limit a line end is looked for, this project's rule.
+/// For how many bytes past the limit a line end is looked for, by this project's rule.
 const SLACK: usize = 1_048_576;
 
 /// What the next line is.
@@ -25,7 +25,7 @@ pub enum Line {
     Text,
     /// A line of more bytes than the limit. It was skipped, with its line end if it had one.
     TooLong,
-    /// Bytes behind the last line end, at most the limit. The input is at its end.
+    /// Bytes after the last line end, at most the limit. The input is at its end.
     Unended,
     /// There is no next line: the input is at its end.
     End,
@@ -72,7 +72,7 @@ impl Chunk {
         }
     }
 
-    /// The bytes that were read and not used yet.
+    /// The bytes that were read but not used yet.
     fn as_slice(&self) -> &[u8]
         ensures { result.now ≡ self.now }
     {
@@ -136,7 +136,7 @@ impl Chunk {
     }
 }
 
-/// Reads an input line by line. A line has at most so many bytes, its line end (byte 10) not
+/// Reads an input line by line. A line has at most this many bytes, its line end (byte 10) not
 /// counted.
 #[derive(Drop)]
 pub struct LineReader<R: Input + Drop> {
@@ -168,8 +168,8 @@ impl<R: Input + Drop> LineReader<R> {
 
     /// Takes the input, and the most bytes that a line may have.
     ///
-    /// Reserves the smaller of the limit and 8,192 bytes, and answers `AllocError` where there is
-    /// no memory for them. Reads nothing yet.
+    /// Reserves the smaller of the limit and 8,192 bytes, and answers `AllocError` if there is no
+    /// memory for them. Reads nothing yet.
     pub fn new(alloc: Global, reader: R, limit: u32) -> Result<LineReader<R>, AllocError>
         ensures known { IfOk result (λ r. known_left r ≡ R.remaining reader) }
         ensures failed { IfOk result (λ r. failed_calls r ≡ R.failed reader) }
@@ -189,8 +189,8 @@ impl<R: Input + Drop> LineReader<R> {
         })
     }
 
-    /// Lends the bytes of the last line, without its line end, if `next` answered `Line::Text`
-    /// last, and else no bytes.
+    /// Lends the bytes of the last line, without its line end, if the last answer of `next` was
+    /// `Line::Text`, and otherwise no bytes.
     pub fn line(&self) -> &[u8]
         ensures { result.now ≡ last_line self.now }
     {
@@ -203,15 +203,15 @@ impl<R: Input + Drop> LineReader<R> {
 
     /// Reads the next line.
     ///
-    /// The answers are the lines of the input's bytes, one a call. After a fault every later call
-    /// answers the same fault, and changes nothing.
+    /// The answers are the lines of the input's bytes, one per call. After a fault, every later
+    /// call answers the same fault, and changes nothing.
     pub fn next(&mut self) -> Result<Line, ReadFault>
         ensures known { IsNone (fault_of self.old)
             → IsNextKnown (limit_of self.old) (known_left self.old) result (last_line self.new) (known_left self.new) }
         ensures whole { IsNone (fault_of self.old)
             → LosesNoLine result (known_left self.old) (known_left self.new) }
 
-        // Nothing but a text leaves a line to lend.
+        // Only a text leaves a line to lend.
         ensures empty { result ≢ Ok Line.Text → last_line self.new ≡ [] }
 
         // When each fault comes: Device where the last call failed, Interrupted at the 1,000th
@@ -276,7 +276,7 @@ impl<R: Input + Drop> LineReader<R> {
         Err(ReadFault::Endless)
     }
 
-    /// Sees to it that the chunk has bytes: false at the end of the input.
+    /// Makes sure that the chunk has bytes: false at the end of the input.
     fn more(&mut self) -> Result<bool, ReadFault>
         ensures some { IfOk result
             (λ more. MatchBool more (0 < length self.new.chunk) (Unit {0})) }
@@ -299,7 +299,7 @@ impl<R: Input + Drop> LineReader<R> {
         }
     }
 
-    /// Reads into the empty chunk, over interruptions: false at the end of the input.
+    /// Reads into the empty chunk, again if it is interrupted: false at the end of the input.
     fn refill(&mut self) -> Result<bool, ReadFault>
         requires { self.old.chunk ≡ [] }
         ensures some { IfOk result
@@ -351,7 +351,7 @@ impl<R: Input + Drop> LineReader<R> {
         }
     }
 
-    /// What a whole line of this length is, behind its line end.
+    /// What a whole line of this length is, after its line end.
     fn judge(&mut self, seen: usize) -> Result<Line, ReadFault>
         ensures short { seen ≤ self.old.limit → (result ≡ Ok Line.Text)
             × (self.new.line.items ≡ self.old.line.items) }
@@ -373,7 +373,7 @@ impl<R: Input + Drop> LineReader<R> {
         }
     }
 
-    /// What so many bytes behind the last line end are.
+    /// What this many bytes after the last line end are.
     fn finish(&mut self, seen: usize) -> Line
         ensures end { seen ≡ 0 → result ≡ Line.End }
         ensures short { 0 < seen → seen ≤ self.old.limit → result ≡ Line.Unended }

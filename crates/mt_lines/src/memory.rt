@@ -1,11 +1,11 @@
-//! Streams in memory: bytes to read in pieces, a reader and a writer that fail for a while, and a sink
-//! that keeps what is written. Tests of sessions read and write them in the place of connections.
+//! Streams in memory: bytes to read in pieces, a reader and a writer that fail for a while, and a sink that keeps what
+//! is written. Tests of sessions use them in the place of connections.
 ghost use Rattle.std.specs.Prelude.{◌≡◌, ◌+◌, ◌<◌, ◌≤◌, ◌++◌, [], length, max, take, IfOk, Ok, vec_capacity, vec_len};
 
 use crate::stream::{Input, Output, StreamFault};
 use std::alloc::{AllocError, Global};
 
-/// Bytes in memory, read at most so many a call.
+/// Bytes in memory, read at most this many a call.
 ///
 /// As an `Input` its bytes are known, and it counts its failed calls, of which there are none.
 #[derive(Drop)]
@@ -77,7 +77,7 @@ impl Input for Portions<'_> {
     }
 }
 
-/// Bytes in memory, read at most so many a call, with some calls in succession that fail.
+/// Bytes in memory, read at most this many a call, with some calls in succession that fail.
 ///
 /// As an `Input` its bytes are known, and it counts its failed calls.
 #[derive(Drop)]
@@ -210,7 +210,7 @@ impl Output for Faltering {
 
     ghost faults = { faltering_faults };
 
-    /// Fails with its fault in the calls that it was made to fail, and takes all bytes in each other.
+    /// Fails with its fault in the calls that it was made to fail, and takes all bytes in every other call.
     fn write(&mut self, bytes: &[u8]) -> Result<usize, StreamFault>
         ensures bound { IfOk result (λ n. n ≤ length bytes.now) }
         ensures counted { faltering_failed self.new ≡ faltering_failed self.old + failed_writes bytes.now result }
@@ -229,10 +229,10 @@ impl Output for Faltering {
     }
 }
 
-/// Keeps what is written to it, at most so many bytes a call, until it is full.
+/// Keeps what is written to it, at most this many bytes a call, until it is full.
 ///
-/// As an `Output` its bytes are known, and it does not count its failed calls: a full sink fails for
-/// ever, which no number of the machine counts.
+/// As an `Output` its bytes are known, and it does not count its failed calls: a full sink fails
+/// forever, which no number of the machine can count.
 #[derive(Drop)]
 pub struct Sink {
     kept: Vec<u8>,
@@ -247,7 +247,7 @@ impl Sink {
     ghost use Rattle.mt_lines.specs.Stream.{sink_bytes, sink_most, sink_room};
 
     /// Takes the most bytes that one write takes (0 stands for 1), and how many bytes it keeps in
-    /// all, which it reserves. Answers `AllocError` where there is no memory for them.
+    /// all, which it reserves. Answers `AllocError` if there is no memory for them.
     pub fn new(alloc: Global, most: usize, room: usize) -> Result<Sink, AllocError>
         ensures bytes { IfOk result (λ s. sink_bytes s ≡ []) }
         ensures most { IfOk result (λ s. sink_most s ≡ max most 1) }

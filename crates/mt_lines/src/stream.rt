@@ -6,7 +6,8 @@ ghost use Rattle.mt_lines.specs.Stream.{failed_writes, failed_reads, faults_afte
 
 use std::io::{Error, ErrorKind, Read, Write};
 
-/// How many interrupted calls of a stream in succession end a read or a send, this project's rule.
+/// How many interrupted calls of a stream in succession end a read or a send, by this project's
+/// rule.
 pub const MOST_INTERRUPTIONS: u32 = 1_000;
 
 /// Why a call of a stream failed.
@@ -18,13 +19,12 @@ pub enum StreamFault {
     Failed,
 }
 
-/// What bytes come from.
+/// A source of bytes.
 ///
-/// `remaining` is what it has still to give, up to the end of the input, where that is known of the
-/// value, as std's `Read` has it: a stream over another one knows it where that one does. An
-/// implementation says of its type whether it `counts` its failed calls, and what is said here of calls
-/// is said of one that does. `failed` is how many of its calls have failed, and `faults` are the faults
-/// of its last calls, the latest first, back to the last call that succeeded.
+/// `remaining` is what it still has to give, up to the end of the input, if that is known of the value, as in std's
+/// `Read`: a stream over another one knows it if that one does. An implementation says of its type whether it `counts`
+/// its failed calls, and what is said here of calls holds for one that does. `failed` is how many of its calls have
+/// failed, and `faults` are the faults of its last calls, the latest first, back to the last call that succeeded.
 pub trait Input {
     ghost use Rattle.std.specs.Prelude.{Option};
     ghost use Rattle.std.specs.Io.KnownBytes.{ReadConsumes};
@@ -38,8 +38,8 @@ pub trait Input {
 
     ghost faults: { Self → List StreamFault };
 
-    /// Moves the next bytes to the front of the buffer, which is not empty, and answers how many:
-    /// 0 at the end of the input. Where what remains is known, a call that answers a fault moves nothing.
+    /// Moves the next bytes to the front of the buffer, which is not empty, and answers how many: 0 at the end of the
+    /// input. If what remains is known, a call that answers a fault moves nothing.
     fn read(&mut self, buffer: &mut [u8]) -> Result<usize, StreamFault>
         requires { 0 < length buffer.old }
         ensures bound { IfOk result (λ n. n ≤ length buffer.new) }
@@ -48,13 +48,13 @@ pub trait Input {
         ensures faults { IsTrue counts → faults self.new ≡ faults_after_read (faults self.old) result };
 }
 
-/// What bytes go to.
+/// A destination of bytes.
 ///
-/// `contents` is what it has taken so far where that is known of the value, as std's `Write` has it: a
-/// stream over another one knows it where that one does. An implementation says of its type whether it
-/// `counts` its failed calls, and what is said here of calls is said of one that does. `failed` is how
-/// many of its calls have failed, and `faults` are the faults of its last calls, the latest first, back
-/// to the last call that succeeded. A call that takes none of some bytes has failed.
+/// `contents` is what it has taken so far, if that is known of the value, as in std's `Write`: a stream over another
+/// one knows it if that one does. An implementation says of its type whether it `counts` its failed calls, and what is
+/// said here of calls holds for one that does. `failed` is how many of its calls have failed, and `faults` are the
+/// faults of its last calls, the latest first, back to the last call that succeeded. A call that is given bytes and
+/// takes none of them has failed.
 pub trait Output {
     ghost use Rattle.std.specs.Prelude.{Option};
     ghost use Rattle.std.specs.Io.KnownBytes.{WriteAppends};
@@ -68,9 +68,8 @@ pub trait Output {
 
     ghost faults: { Self → List StreamFault };
 
-    /// Takes some of the bytes, from the first one on, and answers how many. Where its contents are
-    /// known, a call that answers a fault takes nothing; of a real stream some may have gone out before a
-    /// call answers `Failed`.
+    /// Takes some of the bytes, from the first one on, and answers how many. If its contents are known, a call that
+    /// answers a fault takes nothing; on a real stream, some bytes may have gone out before a call answers `Failed`.
     fn write(&mut self, bytes: &[u8]) -> Result<usize, StreamFault>
         ensures bound { IfOk result (λ n. n ≤ length bytes.now) }
         ensures known { WriteAppends (contents self.old) (contents self.new) result bytes.now }
@@ -78,7 +77,7 @@ pub trait Output {
         ensures faults { IsTrue counts → faults self.new ≡ faults_after_write bytes.now (faults self.old) result };
 }
 
-/// A send went out in part.
+/// Only a part of a send went out.
 #[derive(Clone, Copy, Debug, PartialEq, Eq)]
 pub struct Cut {
     /// How many bytes went out, from the first one on: those of the writes that answered how many
@@ -86,7 +85,8 @@ pub struct Cut {
     pub sent: usize,
 }
 
-/// Writes once, and again while the write is interrupted: how many of the bytes went out.
+/// Writes once, and again as long as the write is interrupted, and answers how many of the bytes
+/// went out.
 ///
 /// Answers `Cut`, with no bytes sent, at a write that fails or takes nothing of some bytes, and at the 1,000th
 /// interrupted write in succession.
@@ -115,10 +115,9 @@ fn write_once<W: Output>(writer: &mut W, bytes: &[u8]) -> Result<usize, Cut>
 
 /// Sends all the bytes, in as many writes as it takes.
 ///
-/// Answers `Cut` at a write that fails or takes nothing, and, by this project's rule, at the
-/// 1,000th interrupted write in succession. Then only the bytes that it tells went out, fewer than
-/// all, where the output's contents are known; of a real stream some more may have, in the write that
-/// failed.
+/// Answers `Cut` at a write that fails or takes nothing, and, by this project's rule, at the 1,000th interrupted write
+/// in succession. Then only the bytes that it tells went out, fewer than all, if the output's contents are known; on a
+/// real stream some more may have gone out in the write that failed.
 pub fn send<W: Output>(writer: &mut W, bytes: &[u8]) -> Result<(), Cut>
     ensures appended { OnOk result (Appends (W.contents writer.old) (W.contents writer.new) bytes.now) }
 
@@ -127,7 +126,7 @@ pub fn send<W: Output>(writer: &mut W, bytes: &[u8]) -> Result<(), Cut>
     ensures appended_part { IfErr result (λ cut. Appends (W.contents writer.old) (W.contents writer.new) (take cut.sent bytes.now)) }
 
     // A cut comes only where a call failed: where the last call did, with fewer interruptions in
-    // succession before it than end a send, or where so many calls were interrupted in succession.
+    // succession before it than end a send, or where this many calls were interrupted in succession.
     ensures cause { OnErr result (IsTrue W.counts → W.failed writer.old < W.failed writer.new) }
     ensures counted { IsTrue W.counts → W.failed writer.old ≤ W.failed writer.new }
     ensures faults { OnErr result (IsTrue W.counts → W.faults writer.old ≡ []
@@ -145,7 +144,7 @@ pub fn send<W: Output>(writer: &mut W, bytes: &[u8]) -> Result<(), Cut>
     Ok(())
 }
 
-/// Finds out whether the other end still reads, by a write of no bytes, which a Unix socket fails whose other end is
+/// Finds out whether the other end still reads, by writing no bytes: on a Unix socket this fails if the other end is
 /// closed. An end that has only shut down its own writing still reads.
 ///
 /// Answers `Cut`, with no bytes sent, at a write that fails, and at the 1,000th interrupted write in succession.
@@ -175,8 +174,8 @@ fn stream_fault(error: &Error) -> StreamFault
     }
 }
 
-/// A reader of the standard library as an `Input`, which counts no failures. What remains is known where it is known
-/// of the reader.
+/// A reader of the standard library as an `Input`, which counts no failures. What remains is known if it is known of
+/// the reader.
 #[derive(Drop)]
 pub struct Reading<R> {
     inner: R,
@@ -185,7 +184,7 @@ pub struct Reading<R> {
 impl<R> Reading<R> {
     ghost use Rattle.mt_lines.specs.Stream.{reading_inner};
 
-    /// Takes the reader, as a socket or the standard input.
+    /// Takes the reader, such as a socket or the standard input.
     pub fn new(inner: R) -> Reading<R>
         ensures { reading_inner result ≡ inner }
     {
@@ -218,11 +217,11 @@ impl<R: Read + Drop> Input for Reading<R> {
     }
 }
 
-/// A writer of the standard library as an `Output`, which counts no failures. What it has taken is known where it is known
+/// A writer of the standard library as an `Output`, which counts no failures. What it has taken is known if it is known
 /// of the writer.
 ///
-/// Each write is flushed. Where that fails the bytes are taken all the same, so the call tells them, and every later call
-/// fails; [`Writing::end`] tells of a flush that failed in the last one.
+/// Each write is flushed. If the flush fails, the bytes are taken all the same, so the call reports them, and every
+/// later call fails; [`Writing::end`] reports a flush that failed in the last call.
 #[derive(Drop)]
 pub struct Writing<W> {
     inner: W,
@@ -233,7 +232,7 @@ impl<W> Writing<W> {
     ghost use Rattle.std.specs.Prelude.{false};
     ghost use Rattle.mt_lines.specs.Stream.{writing_inner, is_broken};
 
-    /// Takes the writer, as a socket or the standard output.
+    /// Takes the writer, such as a socket or the standard output.
     pub fn new(inner: W) -> Writing<W>
         ensures inner { writing_inner result ≡ inner }
         ensures whole { is_broken result ≡ false }
@@ -250,7 +249,7 @@ impl<W: Write + Drop> Writing<W> {
     ghost use Rattle.std.specs.Io.KnownBytes.{Keeps};
     ghost use Rattle.mt_lines.specs.Stream.{writing_inner, is_broken};
 
-    /// Answers `Failed` where a flush has failed, so that bytes which were taken may not have gone out.
+    /// Answers `Failed` if a flush has failed, so that bytes that were taken may not have gone out.
     pub fn end(self) -> Result<(), StreamFault>
         ensures { MatchBool (is_broken self) (result ≡ Err StreamFault.Failed) (result ≡ Ok tt) }
     {
@@ -261,7 +260,7 @@ impl<W: Write + Drop> Writing<W> {
         }
     }
 
-    /// Flushes, over interruptions, and remembers where that does not come through.
+    /// Flushes, again if it is interrupted, and remembers a failure.
     fn flush(&mut self)
         ensures { Keeps (W.contents (writing_inner self.old)) (W.contents (writing_inner self.new)) }
     {

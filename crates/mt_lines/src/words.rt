@@ -8,7 +8,7 @@ use std::marker::Model;
 /// The pieces of a text that are left, between single separators.
 ///
 /// There is one piece more than separators: the empty text is one piece, and so is what stands
-/// before a separator at the front, between two separators, or behind one at the end.
+/// before a separator at the front, between two separators, or after one at the end.
 #[derive(Drop)]
 pub struct Pieces<'a> {
     separator: u8,
@@ -57,7 +57,7 @@ impl<'a> Pieces<'a> {
         }
     }
 
-    /// The same pieces once more.
+    /// The same pieces again.
     pub fn again(&self) -> Pieces<'a>
         ensures { result ≡ self.entry.now }
     {
@@ -137,7 +137,7 @@ fn digits(word: &[u8]) -> Option<u64>
 
 /// The number that a word is: `0`, or digits without a leading zero.
 ///
-/// None where the word is anything else, and above the greatest `u64`.
+/// `None` if the word is anything else, or above the greatest `u64`.
 pub fn number(word: &[u8]) -> Option<u64>
     ensures number { result ≡ number_in_text word.now }
     ensures exact { MatchOption result ((n : ℕ) → n < 2 ^ 64 → word.now ≢ decimal n) (λ n. word.now ≡ decimal n) }

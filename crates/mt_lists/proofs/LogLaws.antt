@@ -17,7 +17,7 @@ pub not-only : (k i : ℕ) → among (k ∷ []) i ≡ false → i ≢ k
 not-only k i e h = false≢true (sym e ∙ ap (λ b. b || false) (eq-eqb k i (sym h)))
 
 module _ {A : Type 0} where
-  -- what was alike but for some is so but for these and more, where more changed
+  -- what was alike except for some is so except for these and more, where more changed
   pub alike-more : (xs ys : List ℕ) (f g h : ℕ → A) → AreAlikeBut xs f g → AreAlikeBut ys g h → AreAlikeBut (xs ++ ys) f h
   alike-more xs ys f g h a b i e = a i (not-first xs ys i e) ∙ b i (not-second xs ys i e)
 

@@ -172,7 +172,7 @@ pub ids-wider : (slots : List (Option Tie)) (n : ℕ) → ids_in (slots ++ repli
 ids-wider [] n = ids-none n
 ids-wider (x ∷ slots) n = ap (λ xs. id_of_tie x ∷ xs) (ids-wider slots n)
 
--- as many slots as before, or so many
+-- as many slots as before, or this many
 pub wide : (slots new : List (Option Tie)) (width length_t most : ℕ) → length_t ≡ length slots → most ≡ max length_t width → new ≡ take most slots ++ replicate (most - length_t) None → new ≡ slots ++ replicate (width - length slots) None
 wide slots new width length_t most l m e =
     e ∙ ap (λ xs. xs ++ replicate (most - length_t) None) (take_all most slots (omega (arith, l, m))) ∙ ap (λ n. slots ++ replicate n None) (omega (arith, l, m))

@@ -10,7 +10,7 @@ pub record ListRow : Type 0 where
   pub id : ℕ
   pub number : ℕ
 
--- what contracts see of `Lists`: the rows, and how many may be added with no more memory
+-- what contracts see of `Lists`: the rows, and how many may be added without more memory
 pub record ListsView : Type 0 where
   pub rows : List ListRow
   pub room : ℕ
@@ -31,7 +31,7 @@ ids rows n = map listed_id (filter (λ (r : ListRow). n == r.number) rows)
 abbrev pub without_row : ℕ → List ListRow → List ListRow
 without_row i rows = without (λ (r : ListRow). i == r.id) rows
 
--- an ID has this number from now on, or none
+-- from now on an ID has this number, or none
 abbrev pub with_number : ℕ → Option ℕ → List ListRow → List ListRow
 with_number i None rows = without_row i rows
 with_number i (Some n) rows = put listed_id (record { id = i; number = n }) rows

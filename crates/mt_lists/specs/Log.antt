@@ -1,14 +1,14 @@
--- What contracts see of a `Log`, and what such IDs say of two look-ups.
--- A word with no source is this project's rule.
+-- What contracts see of a `Log`, and what its IDs say about two look-ups. A word with no source is
+-- this project's rule.
 use Rattle.std.specs.Prelude.{◌≡◌, ℕ, false, List, [], ◌∷◌}
 use Rattle.mt_skel.specs.Keyed.{among}
 
--- the IDs that were noted, and how many more may be with no more memory
+-- the IDs that were noted, and how many more can be noted without more memory
 pub record LogView : Type 0 where
   pub ids : List ℕ
   pub room : ℕ
 
--- two look-ups answer alike of each ID that is not among these
+-- two look-ups answer alike for each ID that is not among these
 abbrev pub AreAlikeBut : {A : Type 0} → List ℕ → (ℕ → A) → (ℕ → A) → Type 0
 AreAlikeBut ids f g = (i : ℕ) → among ids i ≡ false → f i ≡ g i
 

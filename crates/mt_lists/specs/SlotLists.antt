@@ -4,7 +4,7 @@ use Rattle.std.specs.Prelude.{◌≡◌, ℕ, List, Option, None, Some, ◌-◌,
 use Rattle.std.specs.Option.{option_map}
 use Rattle.mt_lists.specs.Lists.{ListRow}
 
--- the rows by rising ID, the ID in each slot, and how many numbers may be new with no more memory
+-- the rows by rising ID, the ID in each slot, and how many numbers may be new without more memory
 pub record SlotListsView : Type 0 where
   pub rows : List ListRow
   pub slots : List (Option ℕ)
@@ -14,7 +14,7 @@ pub record SlotListsView : Type 0 where
 abbrev pub id_in : List (Option ℕ) → ℕ → Option ℕ
 id_in slots k = slice_index_or slots k None
 
--- at least so many slots; those that are new have no ID
+-- at least this many slots; those that are new have no ID
 abbrev pub lengthened : ℕ → List (Option ℕ) → List (Option ℕ)
 lengthened width slots = slots ++ replicate (width - length slots) None
 

@@ -1,4 +1,4 @@
--- How ties lie in a table of entries, each at its ID. No public clause cites this module, but for `Index`.
+-- How ties lie in a table of entries, each at its ID. No public clause cites this module, except for `Index`.
 -- A word with no source is this project's rule.
 use Rattle.std.specs.Prelude.{ℕ, List, [], ◌∷◌, Option, nat_eq}
 use Rattle.std.specs.Option.{option_map}

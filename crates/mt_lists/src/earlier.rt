@@ -1,12 +1,12 @@
-//! Values as they were.
+//! Earlier values.
 ghost use Rattle.std.specs.Prelude.{◌≡◌, [], ◌∷◌};
 
 use http_server::Log;
 
-/// A value as it was at some moment, for contracts alone: it has no bytes, and nothing is done at run time.
+/// A value as it was at some moment, only for contracts: it has no bytes, and nothing is done at run time.
 ///
-/// It is a history that only proofs read, with this one value in it, and not a snapshot of std's: whether a type may
-/// go to another thread is put together from its fields, and for a snapshot there is no such proof to take.
+/// It is a history that only proofs read, with this one value in it, and not a snapshot of std: whether a type may go
+/// to another thread is derived from its fields, and a snapshot offers no such proof.
 #[derive(Drop)]
 pub struct Earlier<T> {
     /// The value that was.

@@ -14,11 +14,11 @@ use std::marker::Model;
 
 /// IDs that have a number each. The IDs of one number form a list, by rising ID.
 ///
-/// A look-up takes the time of a look-up in a hash table, and a change that of a few: one for the ID, one for the list of
-/// its number and one for each neighbour there. An ID that comes among IDs of its number takes more: a new ID above all
-/// others is put behind them at once, and the place of any other is sought upwards from the ID that came last into their
-/// list, if that is still there and below, and else from the end. So IDs that come by rising ID pass each of those that
-/// are there once.
+/// A look-up takes the time of one look-up in a hash table, and a change that of a few: one for the ID, one for the
+/// list of its number and one for each neighbour there. An ID that comes among IDs of its number takes more: a new ID
+/// above all others is put after them at once, and the place of any other is sought upwards from the ID that came last
+/// into their list, if that is still there and below, and otherwise from the end. So IDs that come in rising order pass
+/// each of those that are there once.
 pub struct Lists {
     entries: IndexMap<usize, Entry>,
     tops: IndexMap<u64, Top>,
@@ -39,8 +39,6 @@ impl Model for Lists {
     ghost invariant = { λ s. IsTied (ties_of s.entries) (rows_of s.entries) s.tops };
 }
 
-// Written out, so that whoever owns lists lets each of them go as one thing: with the derived one each function that
-// lets a world go would be checked over every table in it.
 impl Drop for Lists {
     fn drop(self) {
         let Lists {
@@ -61,7 +59,7 @@ impl Lists {
         }
     }
 
-    /// The same rows. Refused as `NoMemory` alone.
+    /// The same rows.
     pub fn copy(&self) -> Result<Lists, Fault>
         ensures copy { IfOk result (λ lists. lists.rows ≡ self.now.rows) }
         ensures memory { IsOkUnless result Fault.NoMemory }
@@ -72,7 +70,7 @@ impl Lists {
         })
     }
 
-    /// Makes room for so many more rows, and changes none. Refused as `NoMemory` alone.
+    /// Makes room for this many more rows, and changes none.
     pub fn reserve(&mut self, additional: usize) -> Result<(), Fault>
         ensures room { OnOk result (additional ≤ self.new.room) }
         ensures memory { IsOkUnless result Fault.NoMemory }
@@ -84,7 +82,7 @@ impl Lists {
         Ok(())
     }
 
-    /// How many rows may come with no more memory.
+    /// How many more rows there can be without more memory.
     pub fn room(&self) -> usize
         ensures { result ≡ self.now.room }
     {
@@ -101,7 +99,7 @@ impl Lists {
         self.entries.len()
     }
 
-    /// The number of this ID, or `None` where it is not there.
+    /// The number of this ID, or `None` if it is not there.
     pub fn number(&self, id: u64) -> Option<u64>
         ensures number { result ≡ listed_number self.now.rows id }
         ensures rising { IsTrue (rises listed_id self.now.rows) }
@@ -110,7 +108,7 @@ impl Lists {
         Some(tie.number)
     }
 
-    /// The lowest ID of this number, or `None` where no ID has it.
+    /// The lowest ID of this number, or `None` if no ID has it.
     pub fn first(&self, number: u64) -> Option<u64>
         ensures first { result ≡ first (ids self.now.rows number) }
         ensures rising { IsTrue (rises listed_id self.now.rows) }
@@ -118,7 +116,7 @@ impl Lists {
         Some(top_of(&self.tops, number)?.top.first as u64)
     }
 
-    /// The next higher ID of the same number, or `None` where this ID is not there or is the last.
+    /// The next higher ID of the same number, or `None` if this ID is not there or is the last.
     pub fn after(&self, id: u64) -> Option<u64>
         ensures { result ≡ next_of self.now.rows id }
     {
@@ -135,7 +133,7 @@ impl Lists {
         }
     }
 
-    /// The IDs of this number, rising, in memory of `alloc`. Refused as `NoMemory` alone.
+    /// The IDs of this number, rising, in memory of `alloc`.
     pub fn ids(&self, alloc: Global, number: u64) -> Result<Vec<u64>, Fault>
         ensures ids { IfOk result (λ found. found.items ≡ ids self.now.rows number) }
         ensures memory { IsOkUnless result Fault.NoMemory }
@@ -169,7 +167,8 @@ impl Lists {
         untie(&mut self.entries, &mut self.tops, id as usize);
     }
 
-    /// Gives a number, or none, to an ID that is not there. Room for one row is needed for none too.
+    /// Gives a number, or none, to an ID that is not there. Room for one row is needed even for
+    /// none.
     pub fn enter(&mut self, id: u64, number: Option<u64>)
         requires room { 0 < self.old.room }
         requires absent { listed_number self.old.rows id ≡ None }
@@ -181,8 +180,8 @@ impl Lists {
         }
     }
 
-    /// Gives this ID this number, or none, whether it is there or not. Room for one row is needed also
-    /// where the ID is there.
+    /// Gives this ID this number, or none, whether it is there or not. Room for one row is needed even if the ID is
+    /// there.
     pub fn set(&mut self, id: u64, number: Option<u64>)
         requires room { 0 < self.old.room }
         ensures rows { self.new.rows ≡ with_number id number self.old.rows }

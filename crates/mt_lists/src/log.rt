@@ -1,11 +1,11 @@
-//! IDs of what was changed.
+//! The IDs of what was changed.
 ghost use Rattle.std.specs.Prelude.{◌≡◌, ◌+◌, ◌<◌, ◌≤◌, [], ◌∷◌, ◌++◌, OnOk, IsOkUnless};
 
 use mt_skel::fault::Fault;
 use std::alloc::Global;
 use std::marker::Model;
 
-/// The IDs that were noted since the log was last emptied, in the order of their coming. One that was noted twice is
+/// The IDs that were noted since the log was last emptied, in the order in which they came. One that was noted twice is
 /// there twice.
 #[derive(Drop)]
 pub struct Log {
@@ -31,7 +31,7 @@ impl Log {
         }
     }
 
-    /// Makes room for so many more IDs, and changes none. Refused as `NoMemory` alone.
+    /// Makes room for this many more IDs, and changes none.
     pub fn reserve(&mut self, additional: usize) -> Result<(), Fault>
         ensures room { OnOk result (additional ≤ self.new.room) }
         ensures memory { IsOkUnless result Fault.NoMemory }

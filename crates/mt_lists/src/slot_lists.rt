@@ -38,7 +38,6 @@ impl Model for SlotLists {
     ghost invariant = { λ s. IsTied (tie_in s.ties.items) (rows_in s.ties.items) s.tops };
 }
 
-// Written out, so that whoever owns lists lets each of them go as one thing.
 impl Drop for SlotLists {
     fn drop(self) {
         let SlotLists {
@@ -60,7 +59,7 @@ impl SlotLists {
         }
     }
 
-    /// The same rows in the same slots. Refused as `NoMemory` alone.
+    /// The same rows in the same slots.
     pub fn copy(&self) -> Result<SlotLists, Fault>
         ensures rows { IfOk result (λ lists. lists.rows ≡ self.now.rows) }
         ensures slots { IfOk result (λ lists. lists.slots ≡ self.now.slots) }
@@ -72,8 +71,7 @@ impl SlotLists {
         })
     }
 
-    /// Makes at least so many slots, the new ones free, and room for so many more IDs, and changes no row. Refused as
-    /// `NoMemory` alone, with the slots as they were.
+    /// Makes at least this many slots, the new ones free, and room for this many more IDs, and changes no row.
     pub fn reserve(&mut self, width: usize, additional: usize) -> Result<(), Fault>
         ensures slots { OnOk result (self.new.slots ≡ lengthened width self.old.slots) }
         ensures room { OnOk result (additional ≤ self.new.room) }
@@ -87,7 +85,7 @@ impl SlotLists {
         Ok(())
     }
 
-    /// How many IDs may come with no more memory.
+    /// How many more IDs there can be without more memory.
     pub fn room(&self) -> usize
         ensures { result ≡ self.now.room }
     {
@@ -126,7 +124,7 @@ impl SlotLists {
         }
     }
 
-    /// The IDs of this number, rising, in memory of `alloc`. Refused as `NoMemory` alone.
+    /// The IDs of this number, rising, in memory of `alloc`.
     pub fn ids(&self, alloc: Global, number: u64) -> Result<Vec<u64>, Fault>
         ensures ids { IfOk result (λ found. found.items ≡ ids self.now.rows number) }
         ensures memory { IsOkUnless result Fault.NoMemory }

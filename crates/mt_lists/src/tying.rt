@@ -63,7 +63,7 @@ fn recent_below<T: Ties>(
 }
 
 /// The place of the last of a number's IDs below this one, where the top of its list was found: the last of the list, or
-/// sought from the one that came most recently, where that is below, and else from the end.
+/// sought from the one that came most recently, where that is below, and otherwise from the end.
 fn place_for<T: Ties>(
     ties: &T,
     tops: &IndexMap<u64, Top>,

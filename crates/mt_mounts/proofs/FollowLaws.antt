@@ -1,4 +1,4 @@
--- A mount that goes, stays with other attributes, or comes where another forest has it, and the forest behind it.
+-- A mount that goes, stays with other attributes, or comes where another forest has it, and the forest after it.
 use Rattle.std.proofs.Common.{◌≡◌, ℕ, Bool, true, false, cond, ◌&&◌, eqb, eq-eqb, List, [], ◌∷◌, Some, None, refl, sym, ap, subst, ◌∙◌, inr}
 use Rattle.std.specs.List.{find}
 use Rattle.std.specs.Option.{ForSome, option_map, option_map_or, is_none}

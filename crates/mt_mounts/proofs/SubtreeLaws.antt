@@ -121,7 +121,7 @@ occ-without : (g q : ℕ) (xs : List ℕ) → occ q (filter (λ j. not (j == g))
 occ-without g q [] = grind (arith, nat_tests)
 occ-without g q (x ∷ xs) = let ih = occ-without g q xs in grind (arith, nat_tests)
 
--- a number below g is a mount, but for g where that is not there
+-- a number below g is a mount, except for g where that is not there
 below-known : (ms : List Mount) (g q : ℕ) → (q ≡ g → is_some (mount_at ms q) ≡ true) → is_below ms g q ≡ (is_some (mount_at ms q) && is_below ms g q)
 below-known ms g q f = go (mount_at ms q) refl f
   where

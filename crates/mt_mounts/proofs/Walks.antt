@@ -13,22 +13,22 @@ use Rattle.mt_mounts.specs.Forest.{on, parent, root_place}
 abbrev pub stacked : List Mount → Place → Option Place
 stacked ms q = option_map root_place (on ms q)
 
--- the place that so many steps lead to
+-- the place that this many steps lead to
 abbrev pub top_within : List Mount → ℕ → Place → Place
 top_within ms n p = follow (stacked ms) n p
 
--- `top` ends at a free place, and else goes on from the root of the mount that stands there
+-- `top` ends at a free place, and otherwise goes on from the root of the mount that stands there
 pub top_stop : (ms : List Mount) (n : ℕ) (p : Place) → stacked ms p ≡ None → top_within ms n p ≡ p
 top_stop ms n p e = follow-stop (stacked ms) n p e
 
 pub top_step : (ms : List Mount) (n : ℕ) (p q : Place) → stacked ms p ≡ Some q → top_within ms (suc n) p ≡ top_within ms n q
 top_step ms n p q e = follow-step (stacked ms) n p q e
 
--- whether so many steps from j meet i
+-- whether this many steps from j meet i
 abbrev pub below_within : List Mount → ℕ → ℕ → ℕ → Bool
 below_within ms i n j = list_any (λ k. eqb i k) (chain (parent ms) n j)
 
--- `is_below` ends at i and at a mount without a parent, and else goes on from the parent
+-- `is_below` ends at i and at a mount without a parent, and otherwise goes on from the parent
 pub below_here : (ms : List Mount) (i n j : ℕ) → j ≡ i → below_within ms i n j ≡ true
 below_here ms i zero j e = let s = eq-eqb i j (sym e) in grind (arith, nat_tests)
 below_here ms i (suc n) j e = let s = eq-eqb i j (sym e) in grind (arith, nat_tests)

@@ -42,7 +42,7 @@ module _ (ms : List Mount) (i : ℕ) (o : Option Mount) (after : List Mount) (w 
     | inr off ↦ inr (off, sym (written_other q off) ∙ e)
   ]
 
-  -- but for the ID all is found as before
+  -- except for the ID all is found as before
   pub but_written : AreAlikeBut (i ∷ []) (mount_at ms) (mount_at after)
   but_written q e = sym (written_other q (not-only i q e))
 

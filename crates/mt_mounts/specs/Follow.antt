@@ -1,5 +1,5 @@
--- What a forest is on its way to another one.
--- A word with no source is this project's rule.
+-- What a forest is while it is made equal to another one. A word with no source is this project's
+-- rule.
 use Rattle.std.specs.Prelude.{◌≡◌, ℕ, false, List, Option, Some}
 use Rattle.std.specs.Option.{ForSome}
 use Rattle.mt_skel.specs.Keyed.{among}

@@ -28,6 +28,6 @@ with_attrs i a ms = map (λ (m : Mount). record m { attrs = cond (m.id == i) a m
 abbrev pub with_place : ℕ → Place → List Mount → List Mount
 with_place i p ms = map (λ (m : Mount). record m { place = cond (m.id == i) (Some p) m.place }) ms
 
--- An unmount takes away one mount, here also where others are mounted on it.
+-- An unmount takes away one mount, here even if others are mounted on it.
 abbrev pub without_id : ℕ → List Mount → List Mount
 without_id i ms = without (λ (m : Mount). m.id == i) ms

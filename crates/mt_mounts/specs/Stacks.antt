@@ -8,7 +8,7 @@ use Rattle.mt_mounts.specs.declared.stacks.Reach.{Reach}
 use Rattle.mt_mounts.specs.declared.stacks.Stacks.{Stacks}
 use Rattle.mt_mounts.specs.Forest.{is_at, place_eq, root_place}
 
--- So many steps, and the place at the other end of them.
+-- A number of steps, and the place at the other end of them.
 abbrev pub reach : Place → ℕ → Reach
 reach p n = record { place = p; steps = n }
 

@@ -24,26 +24,24 @@ mod follow;
 /// The mounts of all namespaces, each under its ID.
 ///
 /// At most one mount stands at a place, and at most one mount of a namespace stands nowhere: its
-/// root mount. That parents are there and have no cycle is left to the caller.
+/// root mount. It is up to the caller that parents are there and form no cycle.
 ///
-/// Beside the table of mounts it keeps which mount stands at each place, and lists, by rising ID, of
-/// the children of each mount, of the mounts of each namespace, and of the root mounts, by which it
-/// finds the root mount of a namespace. So a call that names a mount, a place or a namespace
-/// takes the time of a few look-ups in hash tables,
-/// and a list of mounts that of its own length, and of a sort where it is a list of all or a subtree.
-/// It also keeps where each stack ends that grew and shrank at its end alone, so that `top` takes
-/// a few look-ups too. A stack that was cut in the middle is walked from the first mount to the last where it
-/// is not known, and one that was put together of several is gone along from one of them to the next.
-/// A mount that moves is put among the children of its new parent from the end of their list, past
-/// those with higher IDs. No change takes memory but `reserve`, which `follow` calls.
+/// Beside the table of mounts it keeps which mount stands at each place, and lists, by rising ID, of the children of
+/// each mount, of the mounts of each namespace, and of the root mounts, by which it finds the root mount of a
+/// namespace. So a call that names a mount, a place or a namespace takes the time of a few look-ups in hash tables, and
+/// a list of mounts takes the time of its own length, plus a sort if it is a list of all or a subtree. It also keeps
+/// where each stack ends that grew and shrank only at its end, so that `top` takes a few look-ups too. A stack that was
+/// cut in the middle is walked from mount to mount where it is not known, and one that was put together from several is
+/// followed from one of them to the next. A mount that moves is put among the children of its new parent from the end
+/// of their list, past those with higher IDs. No change takes memory except `reserve`, which `follow` calls.
 ///
-/// It notes the ID of each mount that comes, goes or is changed, so that [`touched`](Forest::touched)
-/// names all that are not as they were at the last [`begin`](Forest::begin).
+/// It notes the ID of each mount that comes, goes or is changed, so that [`touched`](Forest::touched) names all those
+/// that are not as they were at the last [`begin`](Forest::begin).
 pub struct Forest {
     table: Table,
     indexes: Indexes,
     log: Log,
-    /// The mounts at the last `begin`, for contracts alone: it has no bytes.
+    /// The mounts at the last `begin`, only for contracts: it has no bytes.
     since: Earlier<Table>,
     /// For how many mounts the table and the indexes are known to have room.
     room: usize,
@@ -67,7 +65,6 @@ impl Model for Forest {
     ghost invariant = { λ f. IsKeptForest f.table.mounts f.indexes (earlier f.since.seen.items (λ t. t.mounts)) f.log.ids × IsCounted f.room f.table.room f.indexes };
 }
 
-// Written out, so that whoever owns a forest lets it go as one thing.
 impl Drop for Forest {
     fn drop(self) {
         let Forest {
@@ -96,7 +93,7 @@ impl Forest {
         }
     }
 
-    /// A forest of equal mounts, in which none is touched. Refused as `NoMemory` alone.
+    /// A forest with equal mounts, none of which is touched.
     pub fn copy(&self) -> Result<Forest, Fault>
         ensures copy { IfOk result (λ forest. forest.mounts ≡ self.now.mounts) }
         ensures since { IfOk result (λ forest. forest.since ≡ self.now.mounts) }
@@ -131,8 +128,7 @@ impl Forest {
         self.log.ids()
     }
 
-    /// Makes room for so many changes, each of one mount that comes, goes or is changed, and changes none.
-    /// Refused as `NoMemory` alone.
+    /// Makes room for this many changes, each of one mount that comes, goes or is changed, and changes none.
     pub fn reserve(&mut self, additional: usize) -> Result<(), Fault>
         ensures room { OnOk result (additional ≤ self.new.room) }
         ensures memory { IsOkUnless result Fault.NoMemory }
@@ -149,7 +145,7 @@ impl Forest {
         Ok(())
     }
 
-    /// What is always true of a forest, for contracts alone.
+    /// What is always true of a forest, only for contracts.
     pub(crate) fn known(&self)
         ensures rising { IsTrue (rises id_of self.now.mounts) }
         ensures single { IsSingle self.now.mounts }
@@ -177,7 +173,7 @@ impl Forest {
     }
 
     /// Adds a mount with a new ID, for which [`reserve`](Forest::reserve) has made room. Its place
-    /// has to be free, or its namespace without a root mount where it has no place.
+    /// has to be free; if it has no place, its namespace must have no root mount.
     pub fn insert(&mut self, mount: Mount)
         requires room { 0 < self.old.room }
         requires absent { mount_at self.old.mounts mount.id ≡ None }
@@ -287,7 +283,7 @@ impl Forest {
     }
 
     /// The place where the next mount over `place` goes: the root of the topmost mount of the stack
-    /// that stands there, or `place` itself where none does.
+    /// that stands there, or `place` itself if none does.
     pub fn top(&self, place: Place) -> Place
         ensures { result ≡ top self.now.mounts place }
     {
@@ -305,7 +301,7 @@ impl Forest {
     }
 
     /// The place that is known to be farthest along the stack from a place, where this mount stands, and how many
-    /// steps lead there: so many at most.
+    /// steps lead there: this many at most.
     fn along(&self, place: Place, mount: Mount, most: usize) -> Reach
         requires some { 0 < most }
         requires stands { on self.now.mounts place ≡ Some mount }
@@ -315,7 +311,7 @@ impl Forest {
         self.indexes.stacks.along(place, root_place(&mount), most)
     }
 
-    /// The IDs of all mounts, rising. Refused as `NoMemory` alone.
+    /// The IDs of all mounts, rising.
     pub fn ids(&self) -> Result<Vec<MountId>, Fault>
         ensures ids { IfOk result (λ ids. ids.items ≡ map id_of self.now.mounts) }
         ensures memory { IsOkUnless result Fault.NoMemory }
@@ -323,7 +319,7 @@ impl Forest {
         self.table.ids()
     }
 
-    /// All mounts, by rising ID. Refused as `NoMemory` alone.
+    /// All mounts, by rising ID.
     pub fn mounts(&self) -> Result<Vec<Mount>, Fault>
         ensures mounts { IfOk result (λ mounts. mounts.items ≡ self.now.mounts) }
         ensures memory { IsOkUnless result Fault.NoMemory }
@@ -331,7 +327,7 @@ impl Forest {
         self.table.mounts()
     }
 
-    /// The mounts of a namespace, by rising ID. Refused as `NoMemory` alone.
+    /// The mounts of a namespace, by rising ID.
     pub fn mounts_in(&self, space: SpaceId) -> Result<Vec<Mount>, Fault>
         ensures mounts { IfOk result (λ mounts. mounts.items ≡ mounts_in self.now.mounts space) }
         ensures memory { IsOkUnless result Fault.NoMemory }
@@ -353,7 +349,7 @@ impl Forest {
         self.table.count_in(space)
     }
 
-    /// The IDs of the mounts that stand on a mount, rising. Refused as `NoMemory` alone.
+    /// The IDs of the mounts that stand on a mount, rising.
     pub fn children_of(&self, id: MountId) -> Result<Vec<MountId>, Fault>
         ensures children { IfOk result (λ ids. ids.items ≡ children self.now.mounts id) }
         ensures rising { IsTrue (rises id_of self.now.mounts) }

@@ -20,14 +20,13 @@ use std::alloc::Global;
 
 /// Which mount stands at a place, the root mount of each namespace, and where stacks of mounts lead.
 ///
-/// It holds IDs alone: a change of a forest is told to it with the mount as it was before.
+/// It holds only IDs: a change of a forest is told to it with the mount as it was before.
 pub(crate) struct Indexes {
     pub(crate) places: IndexMap<Place, MountId>,
     pub(crate) roots: Lists,
     pub(crate) stacks: Stacks,
 }
 
-// Written out, so that a forest lets its indexes go as one thing.
 impl Drop for Indexes {
     fn drop(self) {
         let Indexes {
@@ -108,7 +107,7 @@ impl Indexes {
         }
     }
 
-    /// The indexes of the same mounts. Refused as `NoMemory` alone.
+    /// The indexes of the same mounts.
     pub(crate) fn copy(&self) -> Result<Indexes, Fault>
         ensures copy { IfOk result (λ copy. (ms : List Mount) → IsIndexed ms self.now → IsIndexed ms copy) }
         ensures memory { IsOkUnless result Fault.NoMemory }
@@ -120,7 +119,7 @@ impl Indexes {
         })
     }
 
-    /// Makes room for so many more mounts. Refused as `NoMemory` alone.
+    /// Makes room for this many more mounts.
     pub(crate) fn reserve(&mut self, additional: usize) -> Result<(), Fault>
         ensures room { OnOk result (additional ≤ room_of self.new) }
         ensures memory { IsOkUnless result Fault.NoMemory }

@@ -23,7 +23,7 @@ pub struct Place {
 /// When a read of a file updates its time of access.
 #[derive(Clone, Copy, PartialEq, Eq, Debug)]
 pub enum Atime {
-    /// Where it is not later than the last change, or a day old: what a new mount has.
+    /// If it is not later than the last change, or a day old: what a new mount has.
     Relatime,
     /// Never.
     Noatime,
@@ -31,7 +31,7 @@ pub enum Atime {
     Strictatime,
 }
 
-/// The attributes of one mount, which the other mounts of its filesystem need not have.
+/// The attributes of one mount; the other mounts of its filesystem may have others.
 #[derive(Clone, Copy, PartialEq, Eq, Debug)]
 pub struct Attrs {
     /// Nothing can be written.

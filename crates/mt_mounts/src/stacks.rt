@@ -23,17 +23,16 @@ pub(crate) struct Reach {
 
 /// Stacks of mounts, as far as they are known.
 ///
-/// A stack is known from a place on, over the roots of mounts that stand on each other. What is not known
-/// is walked step by step, and so is the rest of a stack that was cut in the middle. Two stacks that meet,
-/// since a mount was put below another, stay two.
+/// A stack is known from a place on, over the roots of mounts that stand on each other. What is not known is walked
+/// step by step, and so is the rest of a stack that was cut in the middle. Two stacks that meet, because a mount was
+/// put below another, remain two.
 pub(crate) struct Stacks {
     /// From the first place of a stack to its last.
     pub(crate) ends: IndexMap<Place, Reach>,
-    /// From each later place of a stack to its first. There may be others, that no stack has.
+    /// From each later place of a stack to its first. There may be others, which are in no stack.
     pub(crate) starts: IndexMap<Place, Reach>,
 }
 
-// Written out, so that an owner of stacks lets them go as one thing.
 impl Drop for Stacks {
     fn drop(self) {
         let Stacks {
@@ -59,7 +58,7 @@ fn write(table: &mut IndexMap<Place, Reach>, place: Place, reach: Reach)
     table.insert(place, reach).unwrap();
 }
 
-/// Writes anew what a table has of a place that is there.
+/// Replaces what a table has of a place that is there.
 fn write_again(table: &mut IndexMap<Place, Reach>, place: Place, reach: Reach)
     requires there { IsTrue (is_some (get place_eq table.old place)) }
     ensures table { (p : Place) → get place_eq table.new p ≡ cond (place_eq place p) (Some reach) (get place_eq table.old p) }
@@ -103,8 +102,8 @@ fn rest(end: Reach, start: Reach, place: Place, root: Place) -> Option<Reach>
     None
 }
 
-/// The mount with this root has gone from a place, to which a stack goes on from this start: only where
-/// it was the last of the stack is the rest known.
+/// The mount with this root has gone from a place to which a stack goes on from this start: the rest is known only if
+/// it was the last of the stack.
 fn shorten(ends: &mut IndexMap<Place, Reach>, start: Option<Reach>, place: Place, root: Place)
     ensures ends { (s : Place) (e : Reach) → get place_eq ends.new s ≡ Some e → IsShortened place root start s (get place_eq ends.old s) e }
     ensures room { spare ends.old ≤ spare ends.new }
@@ -128,7 +127,7 @@ impl Stacks {
         }
     }
 
-    /// The same stacks. Refused as `NoMemory` alone.
+    /// The same stacks.
     pub(crate) fn copy(&self) -> Result<Stacks, Fault>
         ensures copy { IfOk result (λ copy. (next : Place → Option Place) → IsStacked next self.now → IsStacked next copy) }
         ensures memory { IsOkUnless result Fault.NoMemory }
@@ -139,7 +138,7 @@ impl Stacks {
         })
     }
 
-    /// Makes room for so many more mounts. Refused as `NoMemory` alone.
+    /// Makes room for this many more mounts.
     pub(crate) fn reserve(&mut self, additional: usize) -> Result<(), Fault>
         ensures room { OnOk result (additional ≤ stack_room self.new) }
         ensures memory { IsOkUnless result Fault.NoMemory }
@@ -246,7 +245,7 @@ impl Stacks {
     }
 
     /// The place that is known to be farthest along the stack from a place, where a mount with this root stands,
-    /// and how many steps lead there: so many at most.
+    /// and how many steps lead there: this many at most.
     pub(crate) fn along(&self, place: Place, root: Place, most: usize) -> Reach
         requires some { 0 < most }
         ensures steps { (0 < result.steps) × (result.steps ≤ most) }

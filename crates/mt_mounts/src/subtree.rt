@@ -10,8 +10,8 @@ use crate::mount::MountId;
 use mt_skel::fault::Fault;
 
 impl Forest {
-    /// Adds the IDs of the mounts that stand on a mount, but for the one where the gathering began:
-    /// where parents form a cycle, that stands on one of those below it.
+    /// Adds the IDs of the mounts that stand on a mount, except for the one where the gathering
+    /// began: if parents form a cycle, that one stands on one of those below it.
     fn gather_children(
         &self,
         id: MountId,
@@ -32,7 +32,7 @@ impl Forest {
     }
 
     /// An ID, and the IDs of all mounts that stand on the mount with this ID, at whatever height,
-    /// each once. Refused as `NoMemory` alone.
+    /// each once.
     fn gather(&self, id: MountId) -> Result<Vec<MountId>, Fault>
         ensures gathered { IfOk result (λ ids. (q : ℕ) → occ q ids.items ≡ cond (is_below self.now.mounts id q) 1 0) }
         ensures rising { OnOk result (IsTrue (rises id_of self.now.mounts)) }
@@ -50,8 +50,8 @@ impl Forest {
         Ok(gathered)
     }
 
-    /// The IDs of [`subtree`](Forest::subtree), in any order. An ID that is not there stays out,
-    /// also where mounts stand on it. Refused as `NoMemory` alone.
+    /// The IDs of [`subtree`](Forest::subtree), in any order. An ID that is not there is left out,
+    /// even if mounts stand on it.
     fn members(&self, id: MountId) -> Result<Vec<MountId>, Fault>
         ensures members { IfOk result (λ ids. (q : ℕ) → occ q ids.items ≡ occ q (subtree self.now.mounts id)) }
         ensures rising { OnOk result (IsTrue (rises id_of self.now.mounts)) }
@@ -66,7 +66,7 @@ impl Forest {
     }
 
     /// The IDs of the mount with this ID, if it is there, and of all that stand on it, at whatever
-    /// height, rising. Refused as `NoMemory` alone.
+    /// height, rising.
     pub fn subtree(&self, id: MountId) -> Result<Vec<MountId>, Fault>
         ensures subtree { IfOk result (λ ids. ids.items ≡ subtree self.now.mounts id) }
         ensures memory { IsOkUnless result Fault.NoMemory }

@@ -22,9 +22,9 @@ use std::marker::Model;
 /// The mounts, each in a slot, for each ID the key of its slot, and lists, by rising ID, of the children of each mount
 /// and of the mounts of each namespace.
 ///
-/// A call that names one mount takes the time of a look-up in a hash table. A list of all takes
-/// their number and a sort. The other lists lie in the slots of the mounts, so that a mount comes and goes with one
-/// look-up for each list.
+/// A call that names one mount takes the time of a look-up in a hash table. A list of all takes time by their number,
+/// and a sort. The other lists lie in the slots of the mounts, so that a mount comes and goes with one look-up for each
+/// list.
 pub(crate) struct Table {
     slots: Slab<Mount>,
     keys: IndexMap<MountId, usize>,
@@ -50,7 +50,6 @@ impl Model for Table {
     ghost invariant = { λ t. IsTable t.slots t.keys t.children t.spaces };
 }
 
-// Written out, so that a forest lets its table go as one thing.
 impl Drop for Table {
     fn drop(self) {
         let Table {
@@ -74,7 +73,7 @@ fn same_place(left: Option<Place>, right: Option<Place>) -> bool
     }
 }
 
-/// Whether one mount is the other, but for its attributes.
+/// Whether one mount is the other, except for its attributes.
 fn stands_as(old: Mount, new: Mount) -> bool
     ensures { result ≡ true → given_attrs new.attrs old ≡ new }
 {
@@ -108,7 +107,7 @@ fn seat(lists: &mut SlotLists, slot: usize, id: MountId, number: Option<u64>)
     }
 }
 
-/// The same lists, with at least so many slots. Refused as `NoMemory` alone.
+/// The same lists, with at least this many slots.
 fn copy_of(lists: &SlotLists, width: usize) -> Result<SlotLists, Fault>
     ensures rows { IfOk result (λ copy. copy.rows ≡ lists.now.rows) }
     ensures slots { IfOk result (λ copy. copy.slots ≡ lengthened width lists.now.slots) }
@@ -119,9 +118,9 @@ fn copy_of(lists: &SlotLists, width: usize) -> Result<SlotLists, Fault>
     Ok(copy)
 }
 
-/// The same slots, with room for so many more mounts. Refused as `NoMemory` alone.
+/// The same slots, with room for this many more mounts.
 ///
-/// A table's slab grows in a copy: its lists have a slot for each key that it has room for, also where they cannot grow.
+/// A table's slab grows in a copy: its lists have a slot for each key that it has room for, even if they cannot grow.
 fn grown(slots: &Slab<Mount>, additional: usize) -> Result<Slab<Mount>, Fault>
     ensures slots { IfOk result (λ grown. grown.slots ≡ slots.now.slots) }
     ensures room { IfOk result (λ grown. HasRoomFor grown additional) }
@@ -146,7 +145,7 @@ impl Table {
         }
     }
 
-    /// The same mounts. Refused as `NoMemory` alone.
+    /// The same mounts.
     pub(crate) fn copy(&self) -> Result<Table, Fault>
         ensures copy { IfOk result (λ table. table.mounts ≡ self.now.mounts) }
         ensures memory { IsOkUnless result Fault.NoMemory }
@@ -161,7 +160,7 @@ impl Table {
         })
     }
 
-    /// Makes room for so many more mounts, and changes none. Refused as `NoMemory` alone.
+    /// Makes room for this many more mounts, and changes none.
     pub(crate) fn reserve(&mut self, additional: usize) -> Result<(), Fault>
         ensures room { OnOk result (additional ≤ self.new.room) }
         ensures memory { IsOkUnless result Fault.NoMemory }
@@ -181,7 +180,7 @@ impl Table {
         Ok(())
     }
 
-    /// How many mounts may come with no more memory.
+    /// How many more mounts there can be without more memory.
     pub(crate) fn room(&self) -> usize
         ensures { result ≡ self.now.room }
     {
@@ -207,7 +206,7 @@ impl Table {
         ensures { result ≡ mount_at self.now.mounts id }
     {
         let key = self.keys.get(&id).copied()?;
-        // Not `copied`, which copies the mount once more, at each look at one.
+        // Not `copied`, which would copy the mount once more at each look.
         let mount = self.slots.get(key)?;
         Some(*mount)
     }
@@ -223,7 +222,7 @@ impl Table {
         mount.root == place.dir
     }
 
-    /// Adds the mount with this ID, if it is there, to a list of mounts. Refused as `NoMemory` alone.
+    /// Adds the mount with this ID, if it is there, to a list of mounts.
     fn list(&self, id: MountId, mounts: &mut Vec<Mount>) -> Result<(), Fault>
         ensures listed { OnOk result (mounts.new.items ≡ mounts.old.items ++ mounts_of self.now.mounts (id ∷ [])) }
         ensures memory { IsOkUnless result Fault.NoMemory }
@@ -234,7 +233,7 @@ impl Table {
         Ok(())
     }
 
-    /// The mounts with these IDs, in their order. Refused as `NoMemory` alone.
+    /// The mounts with these IDs, in their order.
     pub(crate) fn mounts_of(&self, ids: &[MountId]) -> Result<Vec<Mount>, Fault>
         ensures mounts { IfOk result (λ mounts. mounts.items ≡ mounts_of self.now.mounts ids.now) }
         ensures memory { IsOkUnless result Fault.NoMemory }
@@ -273,8 +272,8 @@ impl Table {
         None
     }
 
-    /// Makes the mount with the ID of this one, if it differs in attributes alone, this one, in its slot. Answers
-    /// whether it did.
+    /// Replaces the mount with the ID of this one by this one, in its slot, if the two differ only in attributes.
+    /// Answers whether it did.
     pub(crate) fn renew(&mut self, mount: Mount) -> bool
         ensures renewed { result ≡ true → option_map (given_attrs mount.attrs) (mount_at self.old.mounts mount.id) ≡ Some mount }
         ensures mounts { self.new.mounts ≡ cond result (with_attrs mount.id mount.attrs self.old.mounts) self.old.mounts }
@@ -318,7 +317,7 @@ impl Table {
         }
     }
 
-    /// The IDs of all mounts, rising. Refused as `NoMemory` alone.
+    /// The IDs of all mounts, rising.
     pub(crate) fn ids(&self) -> Result<Vec<MountId>, Fault>
         ensures ids { IfOk result (λ ids. ids.items ≡ map id_of self.now.mounts) }
         ensures memory { IsOkUnless result Fault.NoMemory }
@@ -331,7 +330,7 @@ impl Table {
         Ok(ids)
     }
 
-    /// All mounts, by rising ID. Refused as `NoMemory` alone.
+    /// All mounts, by rising ID.
     pub(crate) fn mounts(&self) -> Result<Vec<Mount>, Fault>
         ensures mounts { IfOk result (λ mounts. mounts.items ≡ self.now.mounts) }
         ensures memory { IsOkUnless result Fault.NoMemory }
@@ -351,7 +350,7 @@ impl Table {
         self.children.count(id)
     }
 
-    /// The IDs of the mounts that stand on a mount, rising. Refused as `NoMemory` alone.
+    /// The IDs of the mounts that stand on a mount, rising.
     pub(crate) fn children_of(&self, id: MountId) -> Result<Vec<MountId>, Fault>
         ensures children { IfOk result (λ ids. ids.items ≡ children self.now.mounts id) }
         ensures memory { IsOkUnless result Fault.NoMemory }
@@ -367,7 +366,7 @@ impl Table {
         self.spaces.count(space)
     }
 
-    /// The mounts of a namespace, by rising ID. Refused as `NoMemory` alone.
+    /// The mounts of a namespace, by rising ID.
     pub(crate) fn mounts_in(&self, space: SpaceId) -> Result<Vec<Mount>, Fault>
         ensures mounts { IfOk result (λ mounts. mounts.items ≡ mounts_in self.now.mounts space) }
         ensures memory { IsOkUnless result Fault.NoMemory }

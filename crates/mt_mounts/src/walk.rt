@@ -10,11 +10,11 @@ use mt_skel::skel::Skel;
 
 impl Forest {
     /// The place that a path leads to in a namespace: after each name the topmost mount of the
-    /// stack that stands there. The walk begins at the root of the namespace's root mount, also
-    /// where a mount stands on that.
+    /// stack that stands there. The walk begins at the root of the namespace's root mount, even if
+    /// a mount stands on that.
     ///
-    /// Refused as `NoNamespace` where the namespace has no root mount, and as `NoEntry` where a
-    /// directory of the path is not there.
+    /// Refused as `NoNamespace` if the namespace has no root mount, and as `NoEntry` if a directory
+    /// of the path is not there.
     pub fn walk(&self, skel: &Skel, space: SpaceId, path: &[Name]) -> Result<Place, Fault>
         ensures { result ≡ walk skel.now self.now.mounts space path.now }
     {

@@ -19,7 +19,7 @@ use Rattle.mt_peers.proofs.ChangeLaws.{same_change}
 use Rattle.mt_peers.proofs.MakingLaws.{among_groupless}
 use Rattle.mt_peers.proofs.GoingLaws.{map-same}
 
--- where a number stands in two lists, one behind the other
+-- where a number stands in two lists, one after the other
 place-front : (m : ℕ) (xs ys : List ℕ) → list_any (eqb m) xs ≡ true → position_or_len (nat_eq m) (xs ++ ys) ≡ position_or_len (nat_eq m) xs
 place-front m [] ys h = absurd (cc)
 place-front m (x ∷ xs) ys h = let ih = place-front m xs ys in grind (arith, nat_tests)

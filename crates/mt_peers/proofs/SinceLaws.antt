@@ -1,4 +1,4 @@
--- States and lists that are alike but for some: what a change does not note, and states on their way to others.
+-- States and lists that are alike except for some: what a change does not note, and states on their way to others.
 use Rattle.std.proofs.Common.{◌≡◌, ℕ, Bool, true, false, cond, not, ◌||◌, List, [], ◌∷◌, ◌++◌, map, None, Some, refl, sym, ap, ◌∙◌, subst, arith, eq-eqb, Option, filter, option_map, option_and_then, nat_eq}
 use Rattle.std.proofs.lemmas.Bool.{ne_eqb}
 use Rattle.std.proofs.lemmas.Bool.Decides.{nat_tests}
@@ -90,7 +90,7 @@ listed_as es fs old_members old_slaves members slaves h e m s =
           same_numbers slaves old_slaves s.0 (ap (rises listed_id) h.slaves_told ∙ rises-by mount_of leader_of es h.rising) (λ i. s.1 i ∙ sym (master-listed es old_members old_slaves h i)) ∙ h.slaves_told;
     })
 
--- what lists of states have that are alike but for some
+-- what lists of states have that are alike except for some
 pub groups_alike : (es os : List Peer) (ids : List ℕ) (ms ss : List ListRow) → IsListed es ms ss → AreAlikeBut ids (state_at es) (state_at os) → AreAlikeBut ids (listed_number ms) (group_at os)
 groups_alike es os ids ms ss h a i e = group-listed es ms ss h i ∙ ap (option_and_then (λ (s : State). s.group)) (a i e)
 

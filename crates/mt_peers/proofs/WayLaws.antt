@@ -10,7 +10,7 @@ module _ (p : ℕ → Bool) (next : ℕ → Option ℕ) where
       let e : k - s - t ≡ k - (s + t) = omega arith in
       grind (arith, nat_tests, a k, b (k - s), e)
 
-  -- what is left of a way, behind its first part
+  -- what is left of a way, after its first part
   pub above-rest : (m u v : Option ℕ) (s r : ℕ) → IsAbove p next m v r → IsAbove p next m u s → s < r → IsAbove p next u v (r - s)
   above-rest m u v s r a b l j =
       let f : j + s - s ≡ j = omega arith in

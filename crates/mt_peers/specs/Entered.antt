@@ -1,5 +1,5 @@
--- Groups that a worklist enters at the slaves of another, each at its first member alone, and what it collects there.
--- A word with no source is this project's rule.
+-- Groups that a worklist enters at the slaves of another, each only at its first member, and what it collects there. A word with no
+-- source is this project's rule.
 use Rattle.std.specs.Prelude.{ℕ, Bool, false, cond, not, ◌&&◌, ◌==◌, List, Option, Some, None}
 use Rattle.std.specs.List.{filter, filter_map}
 use Rattle.std.specs.Option.{option_and_then, option_map_or}
@@ -7,7 +7,7 @@ use Rattle.mt_peers.specs.Peers.{Peer, has_master, in_group, names}
 use Rattle.mt_peers.specs.Masters.{reaches}
 use Rattle.mt_peers.specs.Members.{is_first}
 
--- the group that is entered at a mount whose own group is this: its own, if that is not g, where all began, and the mount is
+-- the group that is entered at a mount whose own group is this: its own, if that is not g, where the search began, and the mount is
 -- its first member
 abbrev pub entered : List Peer → ℕ → ℕ → Option ℕ → Option ℕ
 entered es g i own = option_and_then (λ h. cond (not (h == g) && is_first es h i) (Some h) None) own
@@ -20,7 +20,7 @@ entered_by es g m = filter_map (λ (e : Peer). entered es g e.mount e.state.grou
 abbrev pub gets_above : List Peer → ℕ → Peer → Bool
 gets_above es g e = option_map_or (λ m. reaches es m g) e.state.master false
 
--- a slave that is collected, where its own group is this: one that passes the test and is not of the group where all began
+-- a slave that is collected, given its own group: one that passes the test and is not of the group where the search began
 abbrev pub collected_slave : (ℕ → Bool) → ℕ → ℕ → Option ℕ → Option ℕ
 collected_slave t g i own = cond (t i && not (names own g)) (Some i) None
 

@@ -1,5 +1,5 @@
--- Mounts that leave such that no other mount's master goes with them. No public clause cites this module.
--- A word with no source is this project's rule.
+-- Mounts that leave without taking another mount's master along. No public clause cites this module. A word with no
+-- source is this project's rule.
 use Rattle.std.specs.Prelude.{ℕ, Bool, true, not, ◌||◌, List}
 use Rattle.std.specs.List.{list_any, list_all}
 use Rattle.std.specs.Option.{option_map_or}

@@ -8,8 +8,8 @@ use Rattle.mt_peers.specs.Loss.{left}
 use Rattle.mt_peers.specs.Making.{made}
 use Rattle.mt_peers.specs.WellFormed.{IsPeering}
 
--- a set of groups that holds g and, with a group, all whose master it is, and else nothing that g does not come to, is the set
--- of those that g comes to (`sharedsubtree`, mount states)
+-- a set of groups that holds g and, with each group, all groups whose master it is, and otherwise only groups that g comes to, is the
+-- set of those that g comes to (`sharedsubtree`, mount states)
 abbrev pub ClosureIsReach : Type 0
 ClosureIsReach =
     (es : List Peer) (g : ℕ) (found : ℕ → Bool) → IsTrue (found g)

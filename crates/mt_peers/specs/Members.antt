@@ -34,6 +34,6 @@ slave_after es i = option_and_then (λ m. next_slave es m i) (master_at es i)
 abbrev pub is_first : List Peer → ℕ → ℕ → Bool
 is_first es g i = names (first (members es g)) i
 
--- a mount is a slave of its own group, which it is in no world that is in order
+-- a mount is a slave of its own group, which never happens in a world that is in order
 abbrev pub is_own_slave : List Peer → ℕ → Bool
 is_own_slave es i = option_map_or (λ g. names (master_at es i) g) (group_at es i) false

@@ -1,6 +1,6 @@
--- Groups that lost their last members, and what is known above each of them: a group from which on its heir is sought, so that a
--- chain of them is not gone up again for each slave. No public clause cites this module.
--- A word with no source is this project's rule.
+-- Groups that lost their last members, and what is known above each of them: a group from which upwards its heir is looked for, so
+-- that a chain of them is not gone up again for each slave. No public clause cites this module. A word with no source is this
+-- project's rule.
 use Rattle.std.specs.Prelude.{◌≡◌, ℕ, ◌+◌, ◌<◌, ◌≤◌, false, cond, List, Option, Some, None, nat_eq}
 use Rattle.std.specs.List.{find}
 use Rattle.std.specs.Option.{option_map, IfSome}
@@ -26,11 +26,11 @@ pub record IsVanished (old new : List Peer) (vanished : Index Above) : Type 0 wh
   pub known : (g : ℕ) (x : Above) → has_member new g ≡ false → get nat_eq vanished g ≡ Some x → IsAbove (has_member new) (master_of old) (Some g) x.up x.steps
   pub ended : (g : ℕ) → has_member new g ≡ false → get nat_eq vanished g ≡ None → master_of old g ≡ None
 
--- each is a step up at least, and so many and one at most
+-- each is at least one step up, and at most this many and one
 abbrev pub AreNear : ℕ → Index Above → Type 0
 AreNear most vanished = (g : ℕ) (x : Above) → get nat_eq vanished g ≡ Some x → (0 < x.steps) × (x.steps ≤ most + 1)
 
--- a search up from a group ended there: at one that lives or has no master, or more than so many steps up
+-- a search up from a group ended there: at one that lives or has no master, or more than this many steps up
 pub record IsReached (old new : List Peer) (most g : ℕ) (x : Above) : Type 0 where
   pub above : IsAbove (has_member new) (master_of old) (Some g) x.up x.steps
   pub ended : x.steps ≤ most → IfSome x.up (λ u. has_member new u ≡ false → master_of old u ≡ None)

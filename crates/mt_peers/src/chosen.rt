@@ -7,8 +7,8 @@ use mt_mounts::mount::MountId;
 use mt_skel::list::is_among;
 use std::marker::Model;
 
-/// The IDs of mounts that a change chooses. One is found by halving them, where none is below the one
-/// before it, and else by a scan.
+/// The IDs of mounts that a change chooses. One is found by halving if none is below the one before it, and otherwise
+/// by a scan.
 #[derive(Drop)]
 pub(crate) struct Chosen<'a> {
     ids: &'a [MountId],

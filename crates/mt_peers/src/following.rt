@@ -13,10 +13,10 @@ use crate::state::State;
 use mt_lists::lists::Lists;
 use mt_mounts::mount::MountId;
 
-/// How many states are copied in about the time in which one is sought and written.
+/// How many states can be copied in about the time in which one is looked up and written.
 const SWEEP: usize = 32;
 
-/// Lists a mount by its group and its master, or takes it out of both lists where it has no state.
+/// Lists a mount by its group and its master, or takes it out of both lists if it has no state.
 fn list_state(members: &mut Lists, slaves: &mut Lists, id: MountId, state: Option<State>)
     requires members_room { 0 < members.old.room }
     requires slaves_room { 0 < slaves.old.room }
@@ -62,7 +62,7 @@ pub(crate) fn follow_lists(
     let _rising = (members.len(), slaves.len());
 }
 
-/// Gives a mount, whether it is there or not, this state, or takes it out where it has none.
+/// Gives a mount, whether it is there or not, this state, or takes it out if it has none.
 fn bring(entries: &mut Vec<Entry>, id: MountId, state: Option<State>)
     requires rising { IsTrue (rises mount_of (now_peers entries.old.items)) }
     requires room { vec_len entries.old < vec_capacity entries.old }
@@ -82,7 +82,7 @@ fn bring(entries: &mut Vec<Entry>, id: MountId, state: Option<State>)
     }
 }
 
-/// Brings the states of these mounts, one after another, to what others are.
+/// Makes the states of these mounts, one after another, what they are in others.
 fn follow_each(entries: &mut Vec<Entry>, others: &[Entry], ids: &[MountId])
     requires rising { IsTrue (rises mount_of (now_peers entries.old.items)) }
     requires others_rising { IsTrue (rises mount_of (now_peers others.now)) }
@@ -96,7 +96,7 @@ fn follow_each(entries: &mut Vec<Entry>, others: &[Entry], ids: &[MountId])
     }
 }
 
-/// Makes the states those of others, from which none but those of these mounts differ: each of them is written, or all
+/// Makes the states equal to others, from which only those of these mounts differ: each of them is written, or all
 /// states are copied in one pass.
 pub(crate) fn follow_entries(entries: &mut Vec<Entry>, others: &[Entry], ids: &[MountId])
     requires rising { IsTrue (rises mount_of (now_peers entries.old.items)) }

@@ -1,4 +1,4 @@
-//! What goes over the masters above a group, and over the members of one. Neither takes memory.
+//! Iterators over the masters above a group, and over the members of one. Neither takes memory.
 
 use crate::peers::Peers;
 use crate::state::GroupId;

@@ -1,11 +1,11 @@
-//! What is true of all peers, whatever finds or changes them. The functions do nothing: their
+//! What is true of all peers, however they are found or changed. The functions do nothing: their
 //! contracts are the laws.
 ghost use Rattle.mt_peers.specs.Laws.{ClosureIsReach, MakingKeeps, LeavingKeeps};
 
 /// Who receives what happens in a peer group `g`: a set of groups that holds `g`, that holds with a
-/// group each group whose master it is, and that holds only groups from which `g` is reached, is the
-/// set of all groups from which `g` is reached. So a scan that is repeated until nothing is added
-/// and a list of groups to be visited find the same.
+/// group each group whose master it is, and that holds only groups from which `g` is reached, is
+/// the set of all groups from which `g` is reached. So a scan that is repeated until nothing is
+/// added finds the same as a list of groups to be visited.
 pub fn closure_is_reach()
     ensures { ClosureIsReach }
 {}
@@ -15,8 +15,8 @@ pub fn making_keeps_order()
     ensures { MakingKeeps }
 {}
 
-/// That mounts leave, and others get the masters above a group that has gone, keeps groups and
-/// masters in order.
+/// When mounts leave, and others get the masters above a group that has gone, groups and masters
+/// stay in order.
 pub fn leaving_keeps_order()
     ensures { LeavingKeeps }
 {}

@@ -1,4 +1,4 @@
-//! Mounts that leave, and take no other mount's master along.
+//! Mounts that leave without taking another mount's master along.
 ghost use Rattle.std.specs.Prelude.{◌≡◌, ◌≤◌, not, ◌||◌, IsTrue, vec_capacity, vec_len};
 ghost use Rattle.std.specs.List.{filter, list_all};
 ghost use Rattle.mt_skel.specs.Keyed.{among, without, rises};
@@ -48,8 +48,8 @@ fn leaves_none(members: &Lists, slaves: &Lists, group: GroupId, gone: &Chosen<'_
     !any_stays(slaves, group, gone)
 }
 
-/// Whether a mount that leaves takes no master along. It is asked of the first member of its group alone, so
-/// that no list is gone through twice.
+/// Whether a mount that leaves takes no master along. It is asked only of the first member of its group, so that no
+/// list is gone through twice.
 fn may_go(members: &Lists, slaves: &Lists, id: MountId, gone: &Chosen<'_>) -> bool
     ensures { result ≡ may_go members.now.rows slaves.now.rows (among gone.now) id }
 {
@@ -62,7 +62,7 @@ fn may_go(members: &Lists, slaves: &Lists, id: MountId, gone: &Chosen<'_>) -> bo
     leaves_none(members, slaves, group, gone)
 }
 
-/// Whether none of these mounts that leave takes a master along.
+/// Whether none of these mounts, which leave, takes a master along.
 pub(crate) fn may_all_go(
     members: &Lists,
     slaves: &Lists,
@@ -79,7 +79,7 @@ pub(crate) fn may_all_go(
     true
 }
 
-/// Whether the group that a mount loses keeps a member. It is asked of the first member of a group alone.
+/// Whether the group that a mount loses keeps a member. It is asked only of the first member of a group.
 fn keeps(members: &Lists, id: MountId, lost: &Chosen<'_>) -> bool
     ensures { result ≡ keeps members.now.rows (among lost.now) id }
 {
@@ -132,7 +132,7 @@ fn forget_all(lists: &mut Lists, ids: &[MountId])
     }
 }
 
-/// Takes these mounts, as far as they are there, out of the entries: one at its place, more in one pass.
+/// Takes these mounts, as far as they are there, out of the entries: a single one at its place, several in one pass.
 pub(crate) fn drop_all(entries: &mut Vec<Entry>, ids: &[MountId])
     requires { IsTrue (rises mount_of (now_peers entries.old.items)) }
     ensures entries { entries.new.items ≡ filter (λ e. not (among ids.now e.mount)) entries.old.items }

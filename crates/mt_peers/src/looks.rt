@@ -19,7 +19,7 @@ impl Model for Looks {
 }
 
 impl Looks {
-    /// No look.
+    /// No looks.
     pub fn new() -> Self
         ensures { result ≡ 0 }
     {
@@ -33,7 +33,7 @@ impl Looks {
         self.count
     }
 
-    /// Counts a look, of which `u64::MAX` at most can be counted.
+    /// Counts a look. At most `u64::MAX` can be counted.
     pub fn look(&mut self)
         requires few { self.old + 1 < 2 ^ 64 }
         ensures { self.new ≡ self.old + 1 }

@@ -8,7 +8,7 @@ use crate::entries::Entry;
 use mt_lists::log::Log;
 use mt_mounts::mount::MountId;
 
-/// Whether two flags are not equal.
+/// Whether two flags differ.
 fn differs(left: bool, right: bool) -> bool
     ensures { result ≡ differs left right }
 {

@@ -38,15 +38,15 @@ pub(crate) fn all_led(live: bool, members: &Lists, master: Option<GroupId>) -> b
     }
 }
 
-/// A master, and the one that a slave of it gets.
+/// A master, and the master that its slaves get.
 #[derive(Clone, Copy)]
 struct Known {
     master: Option<GroupId>,
     heir: Option<GroupId>,
 }
 
-/// The first group that still lives of a master and the masters above it, which is not sought again where
-/// it is known.
+/// The first group that still lives among a master and the masters above it, which is not looked for again if it is
+/// known.
 fn heir_of(
     members: &Lists,
     vanished: &mut IndexMap<GroupId, Above>,
@@ -121,8 +121,8 @@ fn list_slaves(entries: &[Entry], slaves: &mut Lists)
     }
 }
 
-/// Changes the states of these mounts, settles all masters and lists both anew. Returns the next new
-/// group.
+/// Changes the states of these mounts, settles all masters and brings both lists up to date. Returns
+/// the next new group.
 pub(crate) fn make_entries(
     entries: &mut [Entry],
     members: &mut Lists,

@@ -20,13 +20,13 @@ use mt_lists::lists::Lists;
 /// A group on a chain of masters.
 #[derive(Clone, Copy)]
 pub(crate) struct Above {
-    /// The group, or `None` behind the end of the chain.
+    /// The group, or `None` after the end of the chain.
     pub(crate) up: Option<GroupId>,
     /// How many steps up it is.
     pub(crate) steps: usize,
 }
 
-/// Enters a group with the master that it had, unless it is there.
+/// Enters a group with the master that it had, unless it is already there.
 fn enter_group(vanished: &mut IndexMap<GroupId, Above>, group: GroupId, master: Option<GroupId>)
     requires room { 0 < spare vanished.old }
     ensures entered { (g : ℕ) → get nat_eq vanished.new g ≡ option_or (get nat_eq vanished.old g) (cond (nat_eq group g) (Some (record { up = master; steps = 1 })) None) }
@@ -41,7 +41,7 @@ fn enter_group(vanished: &mut IndexMap<GroupId, Above>, group: GroupId, master: 
     }
 }
 
-/// Enters the group that a mount has left, unless it is there or still lives.
+/// Enters the group that a mount has left, unless it is already there or still lives.
 fn enter(entry: &Entry, members: &Lists, vanished: &mut IndexMap<GroupId, Above>)
     requires room { 0 < spare vanished.old }
     ensures entered { (es : List Peer) (g : ℕ) → members.now.rows ≡ rows_by mount_of peer_group es → has_member es g ≡ false → names entry.now.state.group g ≡ false → get nat_eq vanished.new g ≡ option_or (get nat_eq vanished.old g) (above_was g entry.now) }
@@ -58,8 +58,8 @@ fn enter(entry: &Entry, members: &Lists, vanished: &mut IndexMap<GroupId, Above>
     }
 }
 
-/// Enters each group that has no member any more, with the master that it had when the change began. What was entered
-/// before is gone.
+/// Enters each group that no longer has a member, with the master that it had when the change began. What was entered
+/// before is forgotten.
 pub(crate) fn enter_all(entries: &[Entry], members: &Lists, vanished: &mut IndexMap<GroupId, Above>)
     requires listed { members.now.rows ≡ rows_by mount_of peer_group (now_peers entries.now) }
     requires room { length entries.now ≤ spare vanished.old }
@@ -89,7 +89,7 @@ fn known_above(
 }
 
 /// The first group that lives from a group upwards, or else where the search ends: above all that is known, or more than
-/// so many steps up.
+/// this many steps up.
 fn reached(
     members: &Lists,
     vanished: &IndexMap<GroupId, Above>,
@@ -119,7 +119,7 @@ fn reached(
     here
 }
 
-/// Writes what is known above a group that is entered.
+/// Writes what is known above a group that was entered.
 fn put(vanished: &mut IndexMap<GroupId, Above>, group: GroupId, above: Above)
     requires there { IsTrue (is_some (get nat_eq vanished.old group)) }
     ensures written { (g : ℕ) → get nat_eq vanished.new g ≡ cond (nat_eq group g) (Some above) (get nat_eq vanished.old g) }
@@ -130,7 +130,7 @@ fn put(vanished: &mut IndexMap<GroupId, Above>, group: GroupId, above: Above)
     }
 }
 
-/// Makes known of each group that was passed on the way up from one where the way ended.
+/// Notes where the way up from a group ended, for each group that was passed on it.
 fn shorten(vanished: &mut IndexMap<GroupId, Above>, most: usize, group: GroupId, end: Above)
     requires near { AreNear most vanished.old }
     requires within { end.steps ≤ most }
@@ -169,8 +169,8 @@ fn living(members: &Lists, group: Option<GroupId>) -> Option<GroupId>
     }
 }
 
-/// The first group that still lives of a group and the masters that were above it, and makes that known of all that
-/// were passed.
+/// The first group that still lives among a group and the masters that were above it, which is then noted for all
+/// groups that were passed.
 pub(crate) fn heir_from(
     members: &Lists,
     vanished: &mut IndexMap<GroupId, Above>,

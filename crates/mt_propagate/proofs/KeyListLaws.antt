@@ -20,7 +20,7 @@ pub key-among : (k : Key) (ks : List Key) → list_any (is_key k) ks ≡ list_an
 key-among k [] = refl
 key-among k (l ∷ ks) = λ i. key-turned k l i || key-among k ks i
 
--- keys with one more behind them
+-- keys with one more after them
 pub keys-more : (k : Key) (ks : List Key) → keys_of (ks ++ k ∷ []) ≡ keys_of ks ++ key_view k ∷ []
 keys-more k [] = refl
 keys-more k (l ∷ ks) = ap (λ r. key_view l ∷ r) (keys-more k ks)

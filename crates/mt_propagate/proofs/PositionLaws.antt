@@ -42,7 +42,7 @@ module _ (t s : ℕ) where
       by true false e l ih = let i = ih (omega (arith, l)) in omega (arith, i)
       by false b e l ih = absurd (cc)
 
-  -- behind a target at which it is not
+  -- after a target at which it is not
   past_target : (u : ℕ) (ss : List ℕ) (rest : List MountCopy) → nat_eq t u ≡ false → position_or_len sought (block u ss ++ rest) ≡ length ss + position_or_len sought rest
   past_target u [] rest e = omega arith
   past_target u (k ∷ ss) rest e = by (nat_eq t u) e (past_target u ss rest e)
@@ -52,7 +52,7 @@ module _ (t s : ℕ) where
       by true e ih = absurd (cc)
       by false e ih = omega (arith, ih)
 
-  -- behind a target, where its source is none of these
+  -- after a target, where its source is none of these
   past_sources : (u : ℕ) (ss : List ℕ) (rest : List MountCopy) → position_or_len (nat_eq s) ss ≡ length ss → position_or_len sought (block u ss ++ rest) ≡ length ss + position_or_len sought rest
   past_sources u [] rest e = omega arith
   past_sources u (k ∷ ss) rest e = by (nat_eq t u) (nat_eq s k) e (past_sources u ss rest)

@@ -15,7 +15,7 @@ or_joined (Some y) rest b m = refl
 or_joined None rest true m = refl
 or_joined None rest false m = refl
 
--- what is known of places finds the mounts that stand there, but for those that are left: g before the next mount, n after it
+-- what is known of places finds the mounts that stand there, except for those that are left: g before the next mount, n after it
 module _ (ms : List Mount) (i : ℕ) (g : Place → Option Mount) (before : (p : Place) → option_or (g p) (on (drop i ms) p) ≡ on ms p) where
   pub standing-step : (x : Mount) (n : Place → Option Mount) → i < length ms → ((p : Place) → n p ≡ option_or (g p) (cond (is_at p (get_or ms i x)) (Some (get_or ms i x)) None))
       → (p : Place) → option_or (n p) (on (drop (i + 1) ms) p) ≡ on ms p

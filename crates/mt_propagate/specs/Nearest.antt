@@ -14,7 +14,7 @@ use Rattle.mt_propagate.specs.declared.nearest.Above.{Above}
 abbrev pub known_above : List Peer → Index Above → ℕ → Above
 known_above es found g = unwrap_or (get nat_eq found g) (record { up = master_of es g; steps = 1 })
 
--- a group that is a step up at least, and not many more than there are mounts, before which copies stand at none
+-- a group that is at least one step up, and not many more than there are mounts, before which copies stand at none
 pub record IsFoundAbove (stands : ℕ → Bool) (es : List Peer) (g : ℕ) (x : Above) : Type 0 where
   pub above : IsAbove stands (master_of es) (Some g) x.up x.steps
   pub low : 0 < x.steps
@@ -24,12 +24,12 @@ pub record IsFoundAbove (stands : ℕ → Bool) (es : List Peer) (g : ℕ) (x : 
 abbrev pub IsFound : (ℕ → Bool) → List Peer → Index Above → Type 0
 IsFound stands es found = (g : ℕ) → stands g ≡ false → IfSome (get nat_eq found g) (λ x. IsFoundAbove stands es g x)
 
--- what is known above a group, and nothing where copies stand at it
+-- what is known above a group, and nothing if copies stand at it
 abbrev pub IsStep : (ℕ → Bool) → List Peer → ℕ → Option Above → Type 0
 IsStep stands es g None = stands g ≡ true
 IsStep stands es g (Some x) = IsFoundAbove stands es g x
 
--- a search up from a group ended there: where copies stand, behind the last group, or more steps up than there are mounts
+-- a search up from a group ended there: where copies stand, after the last group, or more steps up than there are mounts
 pub record IsNearest (stands : ℕ → Bool) (es : List Peer) (g : ℕ) (x : Above) : Type 0 where
   pub above : IsAbove stands (master_of es) (Some g) x.up x.steps
   pub ended : x.steps ≤ length es → IfSome x.up (λ u. stands u ≡ true)

@@ -1,5 +1,5 @@
--- Which groups are seen otherwise in one world than in another, and which mounts may tell another group for it.
--- A word with no source is this project's rule.
+-- Which groups are seen differently in one world than in another, and which mounts may tell another group because of that. A word
+-- with no source is this project's rule.
 use Rattle.std.specs.Prelude.{◌≡◌, ◌≢◌, ℕ, Bool, false, cond, ◌&&◌, ◌==◌, nat_eq, List, []}
 use Rattle.std.specs.List.{cons_option}
 use Rattle.std.specs.Option.{option_eq, option_map_or}

@@ -21,7 +21,7 @@ pub(crate) struct Key {
 
 /// The keys whose groups are new, in the order of first need, by which their groups are numbered.
 ///
-/// A key is found in the time of a look-up in a hash table, however many there are.
+/// A key is found in the time of one look-up in a hash table, however many there are.
 pub(crate) struct NewKeys {
     keys: IndexSet<Key>,
 }
@@ -37,7 +37,6 @@ impl Model for NewKeys {
     ghost view = { λ k. keys_of k.keys.keys };
 }
 
-// Written out, so that whoever owns keys lets them go as one thing.
 impl Drop for NewKeys {
     fn drop(self) {
         let NewKeys { keys: _keys } = self;
@@ -62,7 +61,7 @@ impl NewKeys {
         self.keys.len()
     }
 
-    /// Adds a key, unless it is there. Refused as `NoMemory` alone.
+    /// Adds a key, unless it is there.
     pub(crate) fn add(&mut self, key: Key) -> Result<(), Fault>
         ensures added { OnOk result (self.new ≡ cond (list_any (λ l. key_eq l (key_view key)) self.old) self.old (self.old ++ key_view key ∷ [])) }
         ensures memory { IsOkUnless result Fault.NoMemory }
@@ -81,8 +80,8 @@ impl NewKeys {
         }
     }
 
-    /// The number of a key's group, where the first of these keys gets the number `next`. That of a
-    /// key which is not there comes after all of theirs.
+    /// The number of a key's group, if the first of these keys gets the number `next`. That of a
+    /// key that is not there comes after all of theirs.
     pub(crate) fn number(&self, next: GroupId, key: Key) -> GroupId
         requires { next + length self.now < 2 ^ 64 }
         ensures { result ≡ numbered key_eq next self.now (key_view key) }

@@ -11,7 +11,7 @@ const MOST_MOUNTS: usize = 4_096;
 /// The most namespaces.
 const MOST_SPACES: usize = 64;
 
-/// Whether so many more mounts are too many.
+/// Whether this many more mounts are too many.
 pub fn too_many_mounts(world: &World, more: usize) -> bool
     ensures { result ≡ too_many_mounts (world_view world.now) more }
 {

@@ -15,7 +15,7 @@ use mt_skel::fault::Fault;
 /// A group on a chain of masters.
 #[derive(Clone, Copy)]
 pub(crate) struct Above {
-    /// The group, or `None` behind the end of the chain.
+    /// The group, or `None` after the end of the chain.
     pub(crate) up: Option<GroupId>,
     /// How many steps up it is.
     pub(crate) steps: usize,
@@ -83,7 +83,7 @@ fn reached(
     here
 }
 
-/// Keeps of each group that was passed on the way up from one where the way ended.
+/// Keeps where the way up from a group ended, for each group that was passed on it.
 fn keep_passed(
     world: &World,
     standing: &Standing,
@@ -119,7 +119,7 @@ fn keep_passed(
 }
 
 /// The nearest group at which copies stand, from a group upwards. What is found above the groups that are passed is
-/// kept, so that no search goes over them again. Refused as `NoMemory` alone.
+/// kept, so that no search goes over them again.
 pub(crate) fn nearest_from(
     world: &World,
     standing: &Standing,

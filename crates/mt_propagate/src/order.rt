@@ -1,4 +1,4 @@
-//! IDs in an order, in which one is found by halving.
+//! IDs in an order in which one is found by halving.
 ghost use Rattle.std.specs.Prelude.{◌≡◌, ◌<◌, ◌^◌, length, nat_eq, IsTrue};
 ghost use Rattle.std.specs.List.{list_any, position_or_len};
 ghost use Rattle.std.specs.List.Sorted.{IsNonDecreasing};
@@ -6,13 +6,12 @@ ghost use Rattle.std.specs.List.Sorted.{IsNonDecreasing};
 use mt_mounts::mount::MountId;
 use std::marker::Model;
 
-/// IDs in an order. One is found by halving, where none is below the one before it.
+/// IDs in some order. One is found by halving if none is below the one before it.
 pub(crate) struct Order {
     ids: Vec<MountId>,
     sorted: bool,
 }
 
-// Written out, so that whoever owns one lets it go as one thing.
 impl Drop for Order {
     fn drop(self) {
         let Order {
@@ -33,7 +32,7 @@ impl Model for Order {
     ghost invariant = { λ o. IsTrue o.sorted → IsNonDecreasing o.ids.items };
 }
 
-/// The index of the first of these IDs that is the one that is sought, or how many they are.
+/// The index of the first of these IDs that is the one looked for, or how many there are.
 fn first_index(ids: &[MountId], id: MountId) -> usize
     ensures { result ≡ position_or_len (nat_eq id) ids.now }
 {
@@ -76,7 +75,7 @@ impl Order {
         self.ids.len()
     }
 
-    /// The index of the first one that is the one that is sought, or how many there are.
+    /// The index of the first one that is the one looked for, or how many there are.
     pub(crate) fn index_of(&self, id: MountId) -> usize
         ensures index { result ≡ position_or_len (nat_eq id) self.now }
         ensures small { result < 2 ^ 63 }
@@ -87,7 +86,7 @@ impl Order {
         first_index(&self.ids, id)
     }
 
-    /// Whether one of them is the one that is sought.
+    /// Whether one of them is the one looked for.
     pub(crate) fn has(&self, id: MountId) -> bool
         ensures { result ≡ list_any (nat_eq id) self.now }
     {

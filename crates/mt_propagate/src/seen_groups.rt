@@ -1,4 +1,4 @@
-//! Which peer groups are seen in a namespace: those with a member there.
+//! Which peer groups are seen in a namespace, that is, have a member there.
 ghost use Rattle.std.specs.Prelude.{◌≡◌, ◌==◌, cond, Some, None, IfOk, IfSome, IsOkUnless};
 ghost use Rattle.std.specs.List.{list_any};
 ghost use Rattle.std.specs.Option.{option_and_then};
@@ -48,7 +48,7 @@ fn nearest_seen(world: &World, space: SpaceId, group: GroupId) -> Option<GroupId
     None
 }
 
-/// The group, unless it is the master, which a mount tells by itself.
+/// The group, unless it is the master, which a mount tells anyway.
 fn beside(master: GroupId, group: Option<GroupId>) -> Option<GroupId>
     ensures { result ≡ option_and_then (λ g. cond (g == master) None (Some g)) group }
 {
@@ -56,9 +56,9 @@ fn beside(master: GroupId, group: Option<GroupId>) -> Option<GroupId>
     if group == master { None } else { Some(group) }
 }
 
-/// The group that the tag `propagate_from` of a mount names: the nearest from its master upwards that
-/// has a member in the mount's namespace. `None` where that is the master itself, where no group above
-/// has one, and for a mount without master. Takes no memory.
+/// The group that the tag `propagate_from` of a mount names: the nearest from its master upwards that has a member in
+/// the mount's namespace. `None` if that is the master itself, if no group above has one, and for a mount without a
+/// master. Takes no memory.
 pub fn from_group(world: &World, id: MountId) -> Option<GroupId>
     ensures { result ≡ from_group (world_view world.now) id }
 {
@@ -68,7 +68,7 @@ pub fn from_group(world: &World, id: MountId) -> Option<GroupId>
     beside(master, nearest_seen(world, space_of(world, id), master))
 }
 
-/// A namespace, and a peer group from which on a group is looked for that is seen there.
+/// A namespace, and the peer group from which upwards a group is looked for that is seen there.
 #[derive(Clone, Copy, PartialEq, Eq, Hash)]
 struct Search {
     space: SpaceId,
@@ -76,7 +76,7 @@ struct Search {
 }
 
 /// A world, and which groups were found to be the nearest that are seen in a namespace. So the members of the groups
-/// above a master are looked at once for each namespace, however many slaves it has there.
+/// above a master are looked at only once for each namespace, however many slaves it has there.
 pub struct SeenGroups<'a> {
     world: &'a World,
     found: IndexMap<Search, Option<GroupId>>,
@@ -95,7 +95,6 @@ impl<'a> Model for SeenGroups<'a> {
     ghost invariant = { λ s. AreNearest (world_view s.world.now) s.found };
 }
 
-// Written out, so that whoever owns what was found lets it go as one thing.
 impl<'a> Drop for SeenGroups<'a> {
     fn drop(self) {
         let SeenGroups {
@@ -106,7 +105,7 @@ impl<'a> Drop for SeenGroups<'a> {
 }
 
 impl<'a> SeenGroups<'a> {
-    /// Nothing is found yet. It takes memory where a mount has a master, and not before.
+    /// Nothing is found yet. It takes memory only once a mount has a master.
     pub fn new(world: &'a World) -> Self
         ensures { result ≡ world.now }
     {
@@ -130,7 +129,7 @@ impl<'a> SeenGroups<'a> {
         self.found.get(&search).copied()
     }
 
-    /// The nearest group that is seen in a namespace, from a group upwards. Refused as `NoMemory` alone.
+    /// The nearest group that is seen in a namespace, from a group upwards.
     fn nearest(&mut self, search: Search) -> Result<Option<GroupId>, Fault>
         ensures nearest { IfOk result (λ group. group ≡ nearest_seen (world_view self.old) search.space search.group) }
         ensures kept { self.new ≡ self.old }
@@ -144,7 +143,7 @@ impl<'a> SeenGroups<'a> {
         Ok(group)
     }
 
-    /// What [`from_group`] answers of a mount. Refused as `NoMemory` alone.
+    /// What [`from_group`] answers of a mount.
     pub fn from_group(&mut self, id: MountId) -> Result<Option<GroupId>, Fault>
         ensures group { IfOk result (λ group. group ≡ from_group (world_view self.old) id) }
         ensures kept { self.new ≡ self.old }

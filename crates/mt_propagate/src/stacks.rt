@@ -26,7 +26,7 @@ fn add_standing(standing: &mut IndexMap<Place, Mount>, mount: Mount) -> Result<(
     Ok(())
 }
 
-/// These mounts by their places, where the first one at a place counts.
+/// These mounts by their places; the first one at a place counts.
 fn standing_by_place(alloc: Global, mounts: &[Mount]) -> Result<IndexMap<Place, Mount>, Fault>
     ensures standing { IfOk result (λ standing. (p : AnyPlace) → get place_eq standing p ≡ on mounts.now p) }
     ensures memory { IsOkUnless result Fault.NoMemory }
@@ -38,8 +38,8 @@ fn standing_by_place(alloc: Global, mounts: &[Mount]) -> Result<IndexMap<Place, 
     Ok(standing)
 }
 
-/// The mount to which so many steps lead at most, each to the mount that stands at the root of the
-/// one before.
+/// The mount to which this many steps lead at most, each to the mount that stands at the root of
+/// the one before.
 fn last_within(standing: &IndexMap<Place, Mount>, steps: usize, first: Mount) -> Mount
     ensures { result ≡ follow (λ m. get place_eq standing.now (root_place m)) steps first }
 {
@@ -57,7 +57,7 @@ fn last_within(standing: &IndexMap<Place, Mount>, steps: usize, first: Mount) ->
     here
 }
 
-/// Whether these are one mount alone, which does not stand on the root of this one.
+/// Whether these are a single mount, which does not stand on the root of this one.
 fn is_unstacked(mounts: &[Mount], first: Mount) -> bool
     ensures { IsTrue result → stack_last mounts.now first ≡ first }
 {
@@ -71,8 +71,7 @@ fn is_unstacked(mounts: &[Mount], first: Mount) -> bool
     }
 }
 
-/// The topmost mount of the stack of these mounts that begins with one of them. Refused as `NoMemory`
-/// alone.
+/// The topmost mount of the stack of these mounts that begins with one of them.
 pub(crate) fn stack_last(alloc: Global, mounts: &[Mount], first: Mount) -> Result<Mount, Fault>
     ensures last { IfOk result (λ last. last ≡ stack_last mounts.now first) }
     ensures memory { IsOkUnless result Fault.NoMemory }

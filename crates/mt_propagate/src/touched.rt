@@ -12,7 +12,7 @@ use mt_mounts::mount::MountId;
 use mt_skel::fault::Fault;
 use std::alloc::Global;
 
-/// The IDs of two lists: those of one, where both are the same, as they are behind most commands. Refused as `NoMemory` alone.
+/// The IDs of two lists; if both lists are the same, as they are after most commands, those of one.
 fn joined(alloc: Global, first: &[MountId], second: &[MountId]) -> Result<Vec<MountId>, Fault>
     ensures joined { IfOk result (λ ids. (i : ℕ) → among ids.items i ≡ (among first.now i || among second.now i)) }
     ensures memory { IsOkUnless result Fault.NoMemory }
@@ -25,7 +25,7 @@ fn joined(alloc: Global, first: &[MountId], second: &[MountId]) -> Result<Vec<Mo
     Ok(ids)
 }
 
-/// The IDs that the forest or the peers noted. Refused as `NoMemory` alone.
+/// The IDs that the forest or the peers noted.
 fn noted(before: &World, after: &World) -> Result<Vec<MountId>, Fault>
     requires since { since_view after.now ≡ since_of (world_view before.now) }
     ensures noted { IfOk result (λ ids. AreNoted (world_view before.now) (world_view after.now) ids.items) }
@@ -36,10 +36,10 @@ fn noted(before: &World, after: &World) -> Result<Vec<MountId>, Fault>
 }
 
 /// The mounts that are not in `after` as they are in `before`, with which `after` was equal at its last
-/// [`begin`](World::begin), or when it was made: those that came, went or were changed, those whose state is another,
-/// and those that may tell another group above their master. They are listed by rising ID, each once. A mount that was
-/// changed back may be there too. No other mount is looked at, but for those of groups that have slaves and of which a
-/// mount came, went or got another master. Refused as `NoMemory` alone.
+/// [`begin`](World::begin), or when it was made: those that came, went or were changed, those with another state, and
+/// those that may tell another group above their master. They are listed by rising ID, each once. A mount that was
+/// changed back may be there too. No other mount is looked at, except for those of groups that have slaves and of which
+/// a mount came, went or got another master.
 pub fn touched(before: &World, after: &World) -> Result<Vec<MountId>, Fault>
     requires since { since_view after.now ≡ since_of (world_view before.now) }
     requires before { IsWellFormed (world_view before.now) }

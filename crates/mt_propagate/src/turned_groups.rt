@@ -1,5 +1,5 @@
-//! Peer groups that are seen otherwise after a change than before, and the mounts below them, which may tell another
-//! group above their master.
+//! Peer groups that are seen differently after a change, and the mounts below them, which may tell another group above
+//! their master.
 ghost use Rattle.std.specs.Prelude.{◌≡◌, ℕ, ◌++◌, ◌||◌, false, map, nat_eq, IsTrue, OnOk, IfOk, IsOkUnless};
 ghost use Rattle.std.specs.List.{filter_map, flat_map, list_any};
 ghost use Rattle.std.specs.Option.{option_map_or};
@@ -23,7 +23,7 @@ use mt_mounts::mount::{MountId, SpaceId};
 use mt_peers::state::GroupId;
 use mt_skel::fault::Fault;
 
-/// The namespaces of these mounts, in their order. Refused as `NoMemory` alone.
+/// The namespaces of these mounts, in their order.
 fn spaces_of(world: &World, ids: &[MountId]) -> Result<Vec<SpaceId>, Fault>
     ensures spaces { IfOk result (λ spaces. spaces.items ≡ map (space_of (world_view world.now)) ids.now) }
     ensures memory { IsOkUnless result Fault.NoMemory }
@@ -35,7 +35,7 @@ fn spaces_of(world: &World, ids: &[MountId]) -> Result<Vec<SpaceId>, Fault>
     Ok(spaces)
 }
 
-/// The namespaces in which a peer group has members, rising, each once. Refused as `NoMemory` alone.
+/// The namespaces in which a peer group has members, rising, each once.
 fn spaces_seen(world: &World, group: GroupId) -> Result<Vec<SpaceId>, Fault>
     ensures seen { IfOk result (λ spaces. (n : ℕ) → among spaces.items n ≡ is_seen (world_view world.now) n group) }
     ensures memory { IsOkUnless result Fault.NoMemory }
@@ -44,8 +44,7 @@ fn spaces_seen(world: &World, group: GroupId) -> Result<Vec<SpaceId>, Fault>
     Ok(in_order(spaces_of(world, &members)?))
 }
 
-/// Whether a peer group has the same master before and after, and members in the same namespaces. Refused as
-/// `NoMemory` alone.
+/// Whether a peer group has the same master before and after, and members in the same namespaces.
 fn is_steady(before: &World, after: &World, group: GroupId) -> Result<bool, Fault>
     ensures steady { IfOk result (λ steady. IsTrue steady → IsSteady (world_view before.now) (world_view after.now) group) }
     ensures memory { IsOkUnless result Fault.NoMemory }
@@ -67,7 +66,7 @@ fn is_alike(before: &World, after: &World, id: MountId) -> bool
         && space_of(before, id) == space_of(after, id)
 }
 
-/// Appends a group, if there is one and it is not the last of them. Refused as `NoMemory` alone.
+/// Appends a group, if there is one and it is not the last of them.
 fn push_next(groups: &mut Vec<GroupId>, group: Option<GroupId>) -> Result<(), Fault>
     ensures groups { OnOk result ((g : ℕ) → among groups.new.items g ≡ (among groups.old.items g || option_map_or (nat_eq g) group false)) }
     ensures memory { IsOkUnless result Fault.NoMemory }
@@ -81,8 +80,8 @@ fn push_next(groups: &mut Vec<GroupId>, group: Option<GroupId>) -> Result<(), Fa
     Ok(())
 }
 
-/// Appends the groups of a mount before and after, unless it has the same group, master and namespace, or one is the last of
-/// them. Refused as `NoMemory` alone.
+/// Appends the groups of a mount before and after, unless it has the same group, master and namespace, or one is the
+/// last of them.
 fn push_groups(
     groups: &mut Vec<GroupId>,
     before: &World,
@@ -101,8 +100,7 @@ fn push_groups(
     push_next(groups, new)
 }
 
-/// The groups that some of these mounts joined or left, or stay in with another master, rising, each once. Refused as
-/// `NoMemory` alone.
+/// The groups that some of these mounts joined or left, or stay in with another master, rising, each once.
 fn changed_groups(before: &World, after: &World, ids: &[MountId]) -> Result<Vec<GroupId>, Fault>
     ensures groups { IfOk result (λ groups. (g : ℕ) → among groups.items g ≡ among (flat_map (groups_of_changed (world_view before.now) (world_view after.now)) ids.now) g) }
     ensures memory { IsOkUnless result Fault.NoMemory }
@@ -114,7 +112,7 @@ fn changed_groups(before: &World, after: &World, ids: &[MountId]) -> Result<Vec<
     Ok(in_order(groups))
 }
 
-/// Appends a peer group that has slaves, unless it is steady. Refused as `NoMemory` alone.
+/// Appends a peer group that has slaves, unless it is steady.
 fn push_turned(
     groups: &mut Vec<GroupId>,
     before: &World,
@@ -132,7 +130,7 @@ fn push_turned(
     Ok(())
 }
 
-/// Those of these groups that have slaves and are not steady. Refused as `NoMemory` alone.
+/// Those of these groups that have slaves and are not steady.
 fn turned_groups(before: &World, after: &World, groups: &[GroupId]) -> Result<Vec<GroupId>, Fault>
     ensures turned { IfOk result (λ turned. (g : ℕ) → IsTrue (among groups.now g) → among turned.items g ≡ false → IsQuiet (world_view before.now) (world_view after.now) g) }
     ensures memory { IsOkUnless result Fault.NoMemory }
@@ -144,7 +142,7 @@ fn turned_groups(before: &World, after: &World, groups: &[GroupId]) -> Result<Ve
     Ok(turned)
 }
 
-/// Appends the groups that are entered at slaves of a group, where all began at `start`. Refused as `NoMemory` alone.
+/// Appends the groups that are entered at slaves of a group, when the search began at `start`.
 fn push_entered(
     groups: &mut Vec<GroupId>,
     world: &World,
@@ -161,7 +159,7 @@ fn push_entered(
     Ok(())
 }
 
-/// A peer group and all below it, at whatever height, each once. Refused as `NoMemory` alone.
+/// A peer group and all below it, at whatever height, each once.
 fn groups_below(world: &World, group: GroupId) -> Result<Vec<GroupId>, Fault>
     ensures groups { IfOk result (λ groups. (h : ℕ) → among groups.items h ≡ reaches world.now.peers.peers h group) }
     ensures memory { IsOkUnless result Fault.NoMemory }
@@ -177,7 +175,7 @@ fn groups_below(world: &World, group: GroupId) -> Result<Vec<GroupId>, Fault>
     Ok(groups)
 }
 
-/// Appends the slaves of these groups. Refused as `NoMemory` alone.
+/// Appends the slaves of these groups.
 fn push_slaves(ids: &mut Vec<MountId>, world: &World, groups: &[GroupId]) -> Result<(), Fault>
     ensures ids { OnOk result (ids.new.items ≡ ids.old.items ++ flat_map (slaves world.now.peers.peers) groups.now) }
     ensures memory { IsOkUnless result Fault.NoMemory }
@@ -201,8 +199,8 @@ fn has_one_above(world: &World, groups: &Order, group: GroupId) -> bool
     false
 }
 
-/// Appends the mounts below a group, unless one of these groups is above it, below which they are found as well.
-/// Refused as `NoMemory` alone.
+/// Appends the mounts below a group, unless one of these groups is above it, since they are found below that one as
+/// well.
 fn push_below(
     ids: &mut Vec<MountId>,
     world: &World,
@@ -221,7 +219,7 @@ fn push_below(
     Ok(())
 }
 
-/// Appends the mounts below these groups, at whatever height. No group is gone over twice. Refused as `NoMemory` alone.
+/// Appends the mounts below these groups, at whatever height. No group is gone over twice.
 fn push_all_below(ids: &mut Vec<MountId>, world: &World, groups: &[GroupId]) -> Result<(), Fault>
     requires order { IsPeering (world_view world.now).peering }
     ensures kept { OnOk result ((i : ℕ) → IsTrue (among ids.old.items i) → IsTrue (among ids.new.items i)) }
@@ -235,9 +233,9 @@ fn push_all_below(ids: &mut Vec<MountId>, world: &World, groups: &[GroupId]) -> 
     Ok(())
 }
 
-/// Appends to the mounts that came, went or changed those that may tell another group above their master for it: those
-/// below a group that got another master, or that has members in a namespace before or after alone. Where no mount has a
-/// master, none is looked at. Refused as `NoMemory` alone.
+/// Appends, to the mounts that came, went or changed, those that may tell another group above their master because of
+/// it: those below a group that got another master, or that has members in a namespace only before or only after. If no
+/// mount has a master, none is looked at.
 pub(crate) fn push_turned_below(
     ids: &mut Vec<MountId>,
     before: &World,

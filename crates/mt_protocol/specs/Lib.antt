@@ -1,3 +1,4 @@
+pub mod Rows
 pub mod Verbs
 pub mod Refusals
 pub mod Laws

@@ -1,38 +1,77 @@
--- The verbs of lines, and the forms of their answers.
+-- The table of lines: the verbs, their arguments and the forms of their answers.
 -- A word with no source is this project's rule.
-use Rattle.std.specs.Prelude.{ℕ, List, [], ◌∷◌, Option, codes}
+use Rattle.std.specs.Prelude.{ℕ, Bool, true, false, List, [], ◌∷◌, Option, codes}
 use Rattle.std.specs.List.{find}
 use Rattle.std.specs.Option.{option_map_or}
 use Rattle.std.specs.Str.{bytes_eq}
 use Rattle.mt_lines.specs.Words.{words}
+use Rattle.mt_protocol.specs.declared.argument.Argument.{Argument}
+use Rattle.mt_protocol.specs.declared.argument.Argument.TheVariants.{Space, Scope, Count, Label, Path, Less, Setting}
 use Rattle.mt_protocol.specs.declared.form.Form.{Form}
 use Rattle.mt_protocol.specs.declared.form.Form.TheVariants.{Done, Number, Place, Table, Opening, Posts, Followed, Never}
 use Rattle.mt_protocol.specs.declared.verb.Verb.{Verb}
 use Rattle.mt_protocol.specs.declared.verb.Verb.TheVariants.{Mkfs, Mkdir, Newns, Copyns, Dropns, Mount, Bind, Rbind, Move, Pivot, Umount, Detach, Setattr, Show, Find, Watch, Take, Follow, Close, Quit, Stop}
+use Rattle.mt_protocol.specs.Rows.{VerbRow}
+
+-- the most posts of one `take`, and of one `follow`
+abbrev pub most_taken : ℕ
+most_taken = 1024
+
+abbrev pub most_followed : ℕ
+most_followed = 1048576
+
+-- the row of a command, and of another line
+abbrev command : List ℕ → List Argument → Form → VerbRow
+command word arguments form = record { word = word; arguments = arguments; form = form; command = true }
+
+abbrev other : List ℕ → List Argument → Form → VerbRow
+other word arguments form = record { word = word; arguments = arguments; form = form; command = false }
+
+-- the table; arguments that may be left out are the last
+abbrev pub verb_row : Verb → VerbRow
+verb_row Mkfs = command (codes "mkfs") (Label ∷ Label ∷ Label ∷ []) Number
+verb_row Mkdir = command (codes "mkdir") (Label ∷ Path ∷ []) Done
+verb_row Newns = command (codes "newns") (Label ∷ []) Number
+verb_row Copyns = command (codes "copyns") (Space ∷ Less ∷ []) Number
+verb_row Dropns = command (codes "dropns") (Space ∷ []) Done
+verb_row Mount = command (codes "mount") (Space ∷ Label ∷ Path ∷ []) Number
+verb_row Bind = command (codes "bind") (Space ∷ Path ∷ Path ∷ []) Number
+verb_row Rbind = command (codes "rbind") (Space ∷ Path ∷ Path ∷ []) Number
+verb_row Move = command (codes "move") (Space ∷ Path ∷ Path ∷ []) Done
+verb_row Pivot = command (codes "pivot") (Space ∷ Path ∷ Path ∷ []) Done
+verb_row Umount = command (codes "umount") (Space ∷ Path ∷ []) Done
+verb_row Detach = command (codes "detach") (Space ∷ Path ∷ []) Done
+verb_row Setattr = command (codes "setattr") (Space ∷ Path ∷ Setting ∷ Setting ∷ Setting ∷ Setting ∷ []) Done
+verb_row Show = other (codes "show") (Space ∷ []) Table
+verb_row Find = other (codes "find") (Space ∷ Path ∷ []) Place
+verb_row Watch = other (codes "watch") (Scope ∷ []) Opening
+verb_row Take = other (codes "take") (Count most_taken ∷ []) Posts
+verb_row Follow = other (codes "follow") (Count most_followed ∷ []) Followed
+verb_row Close = other (codes "close") [] Posts
+verb_row Quit = other (codes "quit") [] Done
+verb_row Stop = other (codes "stop") [] Done
 
 -- the word of a verb
 abbrev pub verb_word : Verb → List ℕ
-verb_word Mkfs = codes "mkfs"
-verb_word Mkdir = codes "mkdir"
-verb_word Newns = codes "newns"
-verb_word Copyns = codes "copyns"
-verb_word Dropns = codes "dropns"
-verb_word Mount = codes "mount"
-verb_word Bind = codes "bind"
-verb_word Rbind = codes "rbind"
-verb_word Move = codes "move"
-verb_word Pivot = codes "pivot"
-verb_word Umount = codes "umount"
-verb_word Detach = codes "detach"
-verb_word Setattr = codes "setattr"
-verb_word Show = codes "show"
-verb_word Find = codes "find"
-verb_word Watch = codes "watch"
-verb_word Take = codes "take"
-verb_word Follow = codes "follow"
-verb_word Close = codes "close"
-verb_word Quit = codes "quit"
-verb_word Stop = codes "stop"
+verb_word verb = (verb_row verb).word
+
+-- what the words behind a verb are
+abbrev pub verb_arguments : Verb → List Argument
+verb_arguments verb = (verb_row verb).arguments
+
+-- which lines answer a line with the verb, where it is not refused
+abbrev pub verb_form : Verb → Form
+verb_form verb = (verb_row verb).form
+
+-- a line with the verb changes tables
+abbrev pub is_command : Verb → Bool
+is_command verb = (verb_row verb).command
+
+-- an argument that may be left out
+abbrev pub is_optional : Argument → Bool
+is_optional Less = true
+is_optional Setting = true
+is_optional argument = false
 
 -- every verb
 abbrev pub verbs : List Verb
@@ -41,30 +80,6 @@ verbs = Mkfs ∷ Mkdir ∷ Newns ∷ Copyns ∷ Dropns ∷ Mount ∷ Bind ∷ Rb
 -- the verb of a word, if it is that of one
 unfoldable pub verb_of : List ℕ → Option Verb
 verb_of word = find (λ verb. bytes_eq (verb_word verb) word) verbs
-
--- which lines answer a line with the verb, where it is not refused
-abbrev pub verb_form : Verb → Form
-verb_form Mkfs = Number
-verb_form Mkdir = Done
-verb_form Newns = Number
-verb_form Copyns = Number
-verb_form Dropns = Done
-verb_form Mount = Number
-verb_form Bind = Number
-verb_form Rbind = Number
-verb_form Move = Done
-verb_form Pivot = Done
-verb_form Umount = Done
-verb_form Detach = Done
-verb_form Setattr = Done
-verb_form Show = Table
-verb_form Find = Place
-verb_form Watch = Opening
-verb_form Take = Posts
-verb_form Follow = Followed
-verb_form Close = Posts
-verb_form Quit = Done
-verb_form Stop = Done
 
 -- the first of the words, or the empty one
 abbrev pub first_of : List (List ℕ) → List ℕ

@@ -1,7 +1,7 @@
 //! The forms of answers.
 ghost use Rattle.std.specs.Prelude.{◌≡◌};
 ghost use Rattle.mt_lines.specs.Words.{words};
-ghost use Rattle.mt_protocol.specs.Verbs.{verb_form, first_of, form_of};
+ghost use Rattle.mt_protocol.specs.Verbs.{first_of, form_of};
 
 use crate::verb::Verb;
 use mt_lines::words::words;
@@ -25,32 +25,6 @@ pub enum Form {
     Followed,
     /// None: what has no verb is refused.
     Never,
-}
-
-impl Verb {
-    /// Which lines answer a line with the verb, where it is not refused.
-    pub fn form(self) -> Form
-        ensures { result ≡ verb_form self }
-    {
-        match self {
-            Verb::Mkdir
-            | Verb::Dropns
-            | Verb::Move
-            | Verb::Pivot
-            | Verb::Umount
-            | Verb::Detach
-            | Verb::Setattr
-            | Verb::Quit
-            | Verb::Stop => Form::Done,
-            Verb::Mkfs | Verb::Newns | Verb::Copyns | Verb::Mount | Verb::Bind | Verb::Rbind =>
-                Form::Number,
-            Verb::Find => Form::Place,
-            Verb::Show => Form::Table,
-            Verb::Watch => Form::Opening,
-            Verb::Take | Verb::Close => Form::Posts,
-            Verb::Follow => Form::Followed,
-        }
-    }
 }
 
 /// The first word of a line, or an empty one.

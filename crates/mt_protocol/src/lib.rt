@@ -1,11 +1,14 @@
-//! What a server and its clients both know of lines: the verbs that they begin with, the forms of their answers, and the
-//! names of refusals.
+//! What a server and its clients both know of lines: the verbs that they begin with, the words behind these, the forms of
+//! their answers, and the names of refusals.
 //!
-//! The first word of a line is a [`verb`]. An answer that does not refuse has the [`form`] of its verb, and one that does has
-//! the name of a [`refusal`]. [`laws`] has what is true of all of them.
+//! The first word of a line is a [`verb`]. [`verb::Verb::row`] is the table of lines: which [`argument`] each word behind a
+//! verb is, and which [`form`] an answer has that does not refuse; one that does has the name of a [`refusal`]. [`help`] has
+//! the lines in words, and [`laws`] what is true of all refusals.
 #![tactic(auto)]
 
+pub mod argument;
 pub mod form;
+pub mod help;
 pub mod laws;
 pub mod refusal;
 pub mod verb;

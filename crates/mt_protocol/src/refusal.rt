@@ -8,7 +8,7 @@ ghost use Rattle.mt_protocol.specs.Refusals.{refusal_named};
 use mt_skel::fault::Fault;
 
 /// Every refusal of a server.
-const REFUSALS: [Fault; 24] = [
+pub const REFUSALS: [Fault; 24] = [
     Fault::BadLine,
     Fault::TooLong,
     Fault::BadPath,

@@ -1,8 +1,14 @@
-//! The verbs of lines.
-ghost use Rattle.std.specs.Prelude.{◌≡◌};
+//! The table of lines: the verbs, and what each stands for.
+ghost use Rattle.std.specs.Prelude.{◌≡◌, false, true};
 ghost use Rattle.std.specs.List.{find};
 ghost use Rattle.std.specs.Str.{bytes_eq};
-ghost use Rattle.mt_protocol.specs.Verbs.{verb_word, verb_of};
+ghost use Rattle.mt_protocol.specs.Verbs.{verb_row, verb_word, verb_arguments, verb_form, is_command, verb_of};
+
+use crate::argument::Argument;
+use crate::argument::Argument::{Count, Label, Less, Path, Scope, Setting, Space};
+use crate::form::Form;
+use crate::form::Form::{Done, Followed, Number, Opening, Place, Posts, Table};
+use std::marker::Model;
 
 /// What the first word of a line asks for.
 #[derive(Clone, Copy, Debug, PartialEq, Eq)]
@@ -51,8 +57,8 @@ pub enum Verb {
     Stop,
 }
 
-/// Every verb.
-const VERBS: [Verb; 21] = [
+/// Every verb, in the order of the help.
+pub const VERBS: [Verb; 21] = [
     Verb::Mkfs,
     Verb::Mkdir,
     Verb::Newns,
@@ -83,34 +89,195 @@ fn verb_among(word: &[u8], verbs: &[Verb]) -> Option<Verb>
     verbs.iter().copied().find(|verb| verb.word() == word)
 }
 
+/// What a verb stands for: a row of the table of lines.
+#[derive(Drop)]
+pub struct LineRow {
+    /// The word that the line begins with.
+    pub word: &'static [u8],
+    /// The words behind it. Those that may be left out are the last.
+    pub arguments: &'static [Argument],
+    /// Which lines answer it, where it is not refused.
+    pub form: Form,
+    /// Whether it is a command: a line that changes tables, for all sessions.
+    pub is_command: bool,
+    /// How a help writes it: its word, and a word for each argument. Two ways have a comma between them.
+    pub usage: &'static str,
+    /// What it does, in words.
+    pub help: &'static str,
+}
+
+impl Model for LineRow {
+    ghost use Rattle.mt_protocol.specs.Rows.{VerbRow};
+
+    ghost Value = { VerbRow };
+
+    ghost view = { λ row. record {
+      word = row.word.now;
+      arguments = row.arguments.now;
+      form = row.form;
+      command = row.is_command;
+    } };
+}
+
+impl LineRow {
+    /// The row with its words of a help.
+    fn says(self, usage: &'static str, help: &'static str) -> LineRow
+        ensures { result ≡ self }
+    {
+        LineRow {
+            usage,
+            help,
+            ..self
+        }
+    }
+}
+
+/// A row of a line that changes tables.
+fn command(word: &'static [u8], arguments: &'static [Argument], form: Form) -> LineRow
+    ensures { result ≡ record { word = word.now; arguments = arguments.now; form = form; command = true } }
+{
+    LineRow {
+        word,
+        arguments,
+        form,
+        is_command: true,
+        usage: "",
+        help: "",
+    }
+}
+
+/// A row of another line.
+fn other(word: &'static [u8], arguments: &'static [Argument], form: Form) -> LineRow
+    ensures { result ≡ record { word = word.now; arguments = arguments.now; form = form; command = false } }
+{
+    LineRow {
+        word,
+        arguments,
+        form,
+        is_command: false,
+        usage: "",
+        help: "",
+    }
+}
+
 impl Verb {
+    /// The table of lines: what each verb stands for.
+    pub fn row(self) -> LineRow
+        ensures { result ≡ verb_row self }
+    {
+        match self {
+            Verb::Mkfs => command(b"mkfs", &[Label, Label, Label], Number).says(
+                "mkfs NAME TYPE SOURCE",
+                "makes a filesystem with a root directory",
+            ),
+            Verb::Mkdir => command(b"mkdir", &[Label, Path], Done).says(
+                "mkdir FS DIR",
+                "makes a directory in a filesystem",
+            ),
+            Verb::Newns => command(b"newns", &[Label], Number).says(
+                "newns FS",
+                "makes a namespace with a filesystem as its root mount",
+            ),
+            Verb::Copyns => command(b"copyns", &[Space, Less], Number).says(
+                "copyns NS [less]",
+                "makes a copy of a namespace, or a less privileged one",
+            ),
+            Verb::Dropns => command(b"dropns", &[Space], Done).says(
+                "dropns NS",
+                "ends a namespace with all its mounts",
+            ),
+            Verb::Mount => command(b"mount", &[Space, Label, Path], Number).says(
+                "mount NS FS PATH",
+                "mounts a filesystem at a path",
+            ),
+            Verb::Bind => command(b"bind", &[Space, Path, Path], Number).says(
+                "bind NS SRC DST",
+                "shows a directory at another path too",
+            ),
+            Verb::Rbind => command(b"rbind", &[Space, Path, Path], Number).says(
+                "rbind NS SRC DST",
+                "the same with all mounts below it",
+            ),
+            Verb::Move => command(b"move", &[Space, Path, Path], Done).says(
+                "move NS SRC DST",
+                "moves a mount, with all mounts on it, to another path",
+            ),
+            Verb::Pivot => command(b"pivot", &[Space, Path, Path], Done).says(
+                "pivot NS NEW OLD",
+                "makes a mount the root mount, and moves the old one below it",
+            ),
+            Verb::Umount => command(b"umount", &[Space, Path], Done).says(
+                "umount NS PATH",
+                "takes a mount away",
+            ),
+            Verb::Detach => command(b"detach", &[Space, Path], Done).says(
+                "detach NS PATH",
+                "takes a mount away, with all mounts below it",
+            ),
+            Verb::Setattr => command(
+                b"setattr",
+                &[Space, Path, Setting, Setting, Setting, Setting],
+                Done,
+            )
+            .says(
+                "setattr NS PATH [rec] [set=W,..] [clr=W,..] [prop=KIND]",
+                "changes attributes and propagation (shared, private, slave, unbindable)",
+            ),
+            Verb::Show => other(b"show", &[Space], Table).says(
+                "show NS",
+                "lists the mounts of a namespace",
+            ),
+            Verb::Find => other(b"find", &[Space, Path], Place).says(
+                "find NS PATH",
+                "says on which mount and directory a path ends",
+            ),
+            Verb::Watch => other(b"watch", &[Scope], Opening).says(
+                "watch NS, watch all",
+                "begins a watcher of one namespace, or of all, and lists what it finds",
+            ),
+            Verb::Take => other(b"take", &[Count(1_024)], Posts).says(
+                "take K",
+                "prints at most K posts that wait",
+            ),
+            Verb::Follow => other(b"follow", &[Count(1_048_576)], Followed).says(
+                "follow K",
+                "gives K posts, and rests where none wait",
+            ),
+            Verb::Close => other(b"close", &[], Posts).says(
+                "close",
+                "ends the watcher, and gives the posts that it has not taken",
+            ),
+            Verb::Quit => other(b"quit", &[], Done).says("quit", "ends the session"),
+            Verb::Stop => other(b"stop", &[], Done).says("stop", "ends the server"),
+        }
+    }
+
     /// The word that a line with the verb begins with.
     pub fn word(self) -> &'static [u8]
         ensures { result.now ≡ verb_word self }
     {
-        match self {
-            Verb::Mkfs => b"mkfs",
-            Verb::Mkdir => b"mkdir",
-            Verb::Newns => b"newns",
-            Verb::Copyns => b"copyns",
-            Verb::Dropns => b"dropns",
-            Verb::Mount => b"mount",
-            Verb::Bind => b"bind",
-            Verb::Rbind => b"rbind",
-            Verb::Move => b"move",
-            Verb::Pivot => b"pivot",
-            Verb::Umount => b"umount",
-            Verb::Detach => b"detach",
-            Verb::Setattr => b"setattr",
-            Verb::Show => b"show",
-            Verb::Find => b"find",
-            Verb::Watch => b"watch",
-            Verb::Take => b"take",
-            Verb::Follow => b"follow",
-            Verb::Close => b"close",
-            Verb::Quit => b"quit",
-            Verb::Stop => b"stop",
-        }
+        self.row().word
+    }
+
+    /// The words behind the verb of a line. Those that may be left out are the last.
+    pub fn arguments(self) -> &'static [Argument]
+        ensures { result.now ≡ verb_arguments self }
+    {
+        self.row().arguments
+    }
+
+    /// Which lines answer a line with the verb, where it is not refused.
+    pub fn form(self) -> Form
+        ensures { result ≡ verb_form self }
+    {
+        self.row().form
+    }
+
+    /// Whether a line with the verb changes tables, for all sessions.
+    pub fn is_command(self) -> bool
+        ensures { result ≡ is_command self }
+    {
+        self.row().is_command
     }
 
     /// The verb that a word is, if it is one.

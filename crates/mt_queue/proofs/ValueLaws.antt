@@ -1,4 +1,4 @@
--- The posts behind the items of a queue.
+-- The posts after the items of a queue.
 use Rattle.std.proofs.Common.{◌≡◌, ◌+◌, List, [], ◌∷◌, ◌++◌, length, refl, ap, ◌∙◌, arith, length-append}
 use Rattle.std.specs.Arc.{arc_value}
 use Rattle.mt_events.specs.Posts.{PostView}

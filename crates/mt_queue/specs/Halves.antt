@@ -43,12 +43,12 @@ pub record TailView : Type 0 where
   pub sent : List PostView
   pub taken : List PostView
 
--- both halves are of one line
+-- both halves belong to one line
 abbrev pub AreOneLine : SenderView → ReceiverView → Type 0
 AreOneLine s t = s.line ≡ t.line
 
--- What the two halves of one line are to each other: of one opening; what was taken is the beginning of what was sent, and the rest fits into the line;
--- and what the last meeting told was so
+-- How the two halves of one line relate: they are of one opening; what was taken is the beginning of what was sent, and the rest fits
+-- into the line; and what the last meeting told was so
 pub record IsMeeting (s : SenderView) (t : ReceiverView) : Type 0 where
   pub opening : s.opening ≡ t.opening
   pub tag : s.tag ≡ t.tag

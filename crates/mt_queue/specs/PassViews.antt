@@ -13,7 +13,7 @@ use Rattle.mt_queue.specs.declared.rule.TaggedOpening.{TaggedOpening}
 abbrev pub Item : Type 0
 Item = Arc PostView Global
 
--- the posts behind these
+-- the posts after these
 abbrev pub values : List Item → List PostView
 values items = map (λ x. arc_value x) items
 

@@ -11,7 +11,8 @@ use Rattle.mt_queue.specs.declared.rule.PassView.{PassView}
 abbrev pub IsPushed : PassView → Item → PassView → Type 0
 IsPushed v x w = w ≡ record v { sent = v.sent ++ arc_value x ∷ [] }
 
--- a push that is refused as full (by the same source): more was sent than the last meeting said was taken, by as many items at least as the queue holds
+-- a push that is refused as full (by the same source): more was sent than the last meeting said was taken, by at least as many items
+-- as the queue holds
 abbrev pub IsFilled : PassView → List Item → Type 0
 IsFilled v items = v.met + length items ≤ length v.sent
 
@@ -19,7 +20,8 @@ IsFilled v items = v.met + length items ≤ length v.sent
 abbrev pub IsPopped : PassView → Item → PassView → Type 0
 IsPopped v x w = (w ≡ record v { taken = v.taken ++ arc_value x ∷ [] }) × IsRun v.heard.opening (v.taken ++ arc_value x ∷ [])
 
--- a pop of none (by the same source): the last meeting said that no more was sent than was taken and as many items as the queue holds
+-- a pop of none (by the same source): the last meeting said that no more was sent than what was taken plus as many items as the queue
+-- holds
 abbrev pub IsDrained : PassView → List Item → Type 0
 IsDrained v items = v.told ≤ length v.taken + length items
 

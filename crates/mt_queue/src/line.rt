@@ -34,9 +34,9 @@ impl Model for Line {
     ghost invariant = { λ l. IsIdle (arc_value l.sends) (arc_value l.takes) l.pass };
 }
 
-/// Makes a line for `capacity` posts, 1 to 1,024. Refused as `NoMemory` alone.
+/// Makes a line for `capacity` posts, 1 to 1,024.
 ///
-/// All that the line ever needs is made here: no other call of this crate takes memory.
+/// Everything that the line ever needs is made here: no other call of this crate takes memory.
 pub fn make_line(alloc: Global, capacity: usize) -> Result<Line, Fault>
     requires { (0 < capacity) × (capacity ≤ 1024) }
     ensures line { IfOk result (λ l. l.capacity ≡ capacity) }
@@ -96,8 +96,9 @@ fn reopen<N: Opened>(
     queue.another::<Reopen<N>>(pass)
 }
 
-/// A line that is not in use has no receiver, so nobody can ever call this. A caller whose types do not say which line
-/// a receiver is of calls it in the branch where both seem to be there, and that branch is then not reached.
+/// A line that is not in use has no receiver, so nobody can ever call this. A caller whose types do not say to which
+/// line a receiver belongs calls it in the branch where both seem to be there, which shows that this branch is never
+/// reached.
 pub fn has_no_receiver(line: &mut Line, receiver: &mut Receiver)
     requires { line.old.line ≡ receiver.old.line }
     ensures { ⊥ }

@@ -10,8 +10,8 @@ use crate::sender::Sender;
 use crate::tail::Tail;
 use mt_events::opening::Opening;
 
-/// How many posts were sent since the opening, and how many of them were taken. Both halves are of one line. Each half
-/// keeps in mind how far the other is. Takes no memory, and waits for nothing.
+/// How many posts were sent since the opening, and how many of them were taken. Both halves belong to one line. Each
+/// half remembers how far the other is. Takes no memory, and waits for nothing.
 pub fn meet(sender: &mut Sender, receiver: &mut Receiver) -> (u64, u64)
     requires { AreOneLine sender.old receiver.old }
     ensures counts { (result.0 ≡ length sender.old.sent) × (result.1 ≡ length receiver.old.taken) }
@@ -45,8 +45,8 @@ fn meet_on(queue: &Queue, pass: &mut QueuePass, other: &mut QueuePass, _opening:
     *other = queue.another::<Apart>(pass);
 }
 
-/// Puts both halves together at the end of an opening. Both are of one line. What was not taken can be taken from what
-/// is answered. Takes no memory, and waits for nothing.
+/// Puts both halves together at the end of an opening. Both belong to one line. What was not taken can be taken from
+/// the answer. Takes no memory, and waits for nothing.
 pub fn finish(sender: Sender, receiver: Receiver) -> Tail
     requires { AreOneLine sender receiver }
     ensures met { IsMeeting sender receiver }

@@ -10,7 +10,7 @@ use mt_events::opening::Opening;
 use std::marker::Model;
 use std::sync::{Arc, Wait};
 
-/// The half of a line that takes. One thread has it. It keeps what the watcher found.
+/// The half of a line that takes. It belongs to one thread, and keeps what the watcher found.
 #[derive(Drop)]
 pub struct Receiver {
     pub(crate) queue: Arc<Queue>,
@@ -39,12 +39,12 @@ impl Receiver {
         &self.opening
     }
 
-    /// Takes the next post that was sent. What was taken is, from the opening on, posts of the namespaces that it
+    /// Takes the next post that was sent. What was taken since the opening are posts of the namespaces that the opening
     /// names, with numbers that go up by one.
     ///
-    /// `None` comes not before as many posts were taken as the last meeting said were sent, and nothing has changed then;
-    /// what the line holds at a moment no clause says. Takes no memory. It may wait for a step of the sender, and after
-    /// 2^64 - 1 posts it waits for ever.
+    /// `None` comes only once as many posts were taken as the last meeting said were sent, and changes nothing; no
+    /// clause says what the line holds at any moment. Takes no memory. It may wait for a step of the sender, and after
+    /// 2^64 - 1 posts it waits forever.
     pub fn pop<R: Wait>(&mut self, rt: &R) -> Option<Item>
         ensures some { IfSome result (λ x. self.new ≡ record self.old { taken = self.old.taken ++ arc_value x ∷ [] }) }
         ensures none { IfNone result ((self.new ≡ self.old) × (self.old.told ≤ length self.old.taken)) }

@@ -1,10 +1,10 @@
 //! The rule of a line's queue, and the kinds of step that keep it.
 //!
-//! A queue of `crossbeam_queue` is changed by two threads at once, so no thread can say what it holds. What a thread
-//! can say is what it did itself, and a rule ties that to what the queue holds (`specs/Rule.antt`). A `Pass` is what a
-//! thread has for that: a value without bytes, which stands for what the thread knows of the queue (`PassView`). Only
-//! the thread's own steps change it. Each step is one atomic step of the queue, and its proof shows that the rule
-//! holds after it if it held before, whatever the other thread did in between (`proofs/`).
+//! A queue of `crossbeam_queue` is changed by two threads at once, so no thread can say what it holds. A thread can say
+//! only what it did itself, and a rule ties that to what the queue holds (`specs/Rule.antt`). A `Pass` is what a thread
+//! has for that: a value without bytes, which stands for what the thread knows of the queue (`PassView`). Only the
+//! thread's own steps change it. Each step is one atomic step of the queue, and its proof shows that the rule holds
+//! after it if it held before, whatever the other thread did in between (`proofs/`).
 //!
 //! | Kind of step | Here | What it does, and what it teaches |
 //! |---|---|---|
@@ -14,7 +14,7 @@
 //! | push refused as full | `Push` | Nothing changes. More was sent than the last meeting said was taken, by the capacity at least. |
 //! | pop | `Pop`, `PopLeft` | What was taken grows by the front, and is still a run from the opening. |
 //! | pop of none | `Pop` | Nothing changes. As much was taken at least as the last meeting said was sent. |
-//! | pop of none behind a join | `PopLeft` | Nothing changes. All that was sent is taken. |
+//! | pop of none after a join | `PopLeft` | Nothing changes. All that was sent is taken. |
 //! | join | `Together` | One pass may push and pop, and knows both lists: what was sent is what was taken and then what the queue holds. |
 //!
 //! Two helpers change no list: `HandOver` moves what a pass knows to a new pass, since a join uses the other pass up,
@@ -45,19 +45,19 @@ pub(crate) struct PassView {
     pub(crate) pushes: bool,
     /// Whether it may pop.
     pub(crate) pops: bool,
-    /// The opening, where it may push.
+    /// The opening, if it may push.
     pub(crate) opening: TaggedOpening,
-    /// The opening, where it may pop. These are two fields, so that a join can show that they are equal.
+    /// The opening, if it may pop. These are two fields, so that a join can show that they are equal.
     pub(crate) heard: TaggedOpening,
-    /// How many posts the queue may hold, where it may push.
+    /// How many posts the queue may hold, if it may push.
     pub(crate) capacity: u64,
-    /// The posts that were pushed since the opening, where it may push.
+    /// The posts that were pushed since the opening, if it may push.
     pub(crate) sent: LinkedList<Post>,
-    /// The posts that were popped since the opening, where it may pop.
+    /// The posts that were popped since the opening, if it may pop.
     pub(crate) taken: LinkedList<Post>,
-    /// Where it may push: as many posts at least were popped. The last meeting told so.
+    /// If it may push: at least this many posts were popped, as the last meeting told.
     pub(crate) met: u64,
-    /// Where it may pop: as many posts at least were pushed. The last meeting told so.
+    /// If it may pop: at least this many posts were pushed, as the last meeting told.
     pub(crate) told: u64,
 }
 
@@ -83,8 +83,8 @@ impl Opened for Brand {
     ghost capacity = { 0 };
 }
 
-/// The rule: what was sent is what was taken and then what the queue holds. A new queue's pass may push and pop, and
-/// knows that nothing was sent.
+/// The rule: what was sent is what was taken, followed by what the queue holds. A new queue's pass may push and pop,
+/// and knows that nothing was sent.
 pub(crate) struct InOrder;
 
 impl Protocol<Item, PassView> for InOrder {
@@ -172,7 +172,7 @@ impl Split<PassView> for Apart {
 }
 
 /// What a pass knows goes to a new pass. A join uses up the pass that it takes in, and a meeting has the receiver's
-/// by `&mut` alone.
+/// pass only by `&mut`.
 pub(crate) struct HandOver;
 
 impl Split<PassView> for HandOver {
@@ -214,7 +214,7 @@ impl Join<PassView> for TwoReceivers {
     ghost spent = { spent };
 }
 
-/// What follows where a queue seems to have two passes that pop: anything.
+/// What follows if a queue seems to have two passes that pop: anything.
 pub(crate) struct Contradiction;
 
 impl Lesson<Item, PassView> for Contradiction {

@@ -9,7 +9,7 @@ use crate::rule::{Item, Push, Queue, QueuePass};
 use std::marker::Model;
 use std::sync::{Arc, Wait};
 
-/// The half of a line that sends. One thread has it.
+/// The half of a line that sends. It belongs to one thread.
 #[derive(Drop)]
 pub struct Sender {
     pub(crate) queue: Arc<Queue>,
@@ -37,12 +37,12 @@ pub struct Full {
 }
 
 impl Sender {
-    /// Sends a post: it is the next that the receiver takes after those that were sent before. The posts, with this
-    /// one, are of the namespaces that the opening names, and have numbers that go up by one from there.
+    /// Sends a post: it is the next one that the receiver takes after those that were sent before. The posts, including
+    /// this one, are of the namespaces that the opening names, and have numbers that go up by one from there.
     ///
-    /// `Full` gives the post back, and nothing was sent. It comes only once so many more posts were sent than the last
-    /// meeting said were taken as the line may hold; what the line holds at a moment no clause says. Takes no memory. It
-    /// may wait for a step of the receiver, and after 2^64 - 1 posts it waits for ever.
+    /// `Full` gives the post back, and nothing was sent. It comes only once the posts sent exceed those that the last
+    /// meeting said were taken by as many as the line may hold; no clause says what the line holds at any moment. Takes
+    /// no memory. It may wait for a step of the receiver, and after 2^64 - 1 posts it waits forever.
     pub fn push<R: Wait>(&mut self, rt: &R, post: Item) -> Result<(), Full>
         requires { IsRun self.old.opening (self.old.sent ++ arc_value post ∷ []) }
         ensures ok { OnOk result (self.new ≡ record self.old { sent = self.old.sent ++ arc_value post ∷ [] }) }

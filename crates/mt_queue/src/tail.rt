@@ -1,4 +1,4 @@
-//! What is left to be taken when a line's halves were put together.
+//! What is left to be taken once a line's halves were put together.
 ghost use Rattle.std.specs.Prelude.{◌≡◌, List, [], ◌∷◌, ◌++◌, IfSome, IfNone};
 ghost use Rattle.std.specs.Arc.{arc_value};
 ghost use Rattle.crossbeam_queue.specs.Passes.{view, IsSamePass};
@@ -32,8 +32,7 @@ impl Model for Tail {
 }
 
 impl Tail {
-    /// Takes the next post that was sent. `None` exactly once all are taken; nothing has changed then. Takes no
-    /// memory.
+    /// Takes the next post that was sent. `None` exactly once all are taken, which changes nothing. Takes no memory.
     pub fn next<R: Wait>(&mut self, rt: &R) -> Option<Item>
         ensures some { IfSome result (λ x. (self.new ≡ record self.old { taken = self.old.taken ++ arc_value x ∷ [] }) × ((rest : List PostView) × (self.old.sent ≡ (self.old.taken ++ arc_value x ∷ []) ++ rest))) }
         ensures none { IfNone result ((self.new ≡ self.old) × (self.old.sent ≡ self.old.taken)) }
@@ -41,7 +40,7 @@ impl Tail {
         next_on(rt, &self.sends, &mut self.pass)
     }
 
-    /// The line, to be opened again. `next` gave `None`: all that was sent is taken. Takes no memory.
+    /// The line, to be opened again. `next` gave `None`: everything that was sent is taken. Takes no memory.
     pub fn line(self) -> Line
         requires { self.sent ≡ self.taken }
         ensures { result ≡ record { line = self.line; capacity = self.capacity } }

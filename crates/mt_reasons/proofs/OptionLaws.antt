@@ -10,7 +10,7 @@ use Rattle.mt_peers.specs.declared.state.Kind.{Kind}
 use Rattle.mt_setattr.specs.declared.change.SetWords.{SetWords}
 use Rattle.mt_setattr.specs.declared.change.ClrWords.{ClrWords}
 use Rattle.mt_requests.specs.Options.{option_keys, has_key, is_option, is_repeated, are_options, nothing_set, nothing_cleared, set_words, clr_words, kind_of, said, set_of, clr_of, prop_of, is_recursive, change_with, change_of}
-use Rattle.mt_reasons.specs.Arguments.{is_right_option}
+use Rattle.mt_reasons.specs.Reasons.{is_right_option}
 
 -- a word that begins with a key has no other one
 apart : (key word : List ℕ) (test : List ℕ → Bool) → has_key key word ≡ true → ((rest : List ℕ) → test (key ++ rest) ≡ false) → test word ≡ false

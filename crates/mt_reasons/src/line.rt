@@ -3,19 +3,19 @@ ghost use Rattle.std.specs.Prelude.{◌≡◌, true, false, drop, is_some, IfOk,
 ghost use Rattle.std.specs.List.{list_any};
 ghost use Rattle.std.specs.Option.{ForSome};
 ghost use Rattle.mt_lines.specs.Words.{words};
-ghost use Rattle.mt_requests.specs.Requests.{request_of};
-ghost use Rattle.mt_reasons.specs.Arguments.{are_right};
-ghost use Rattle.mt_reasons.specs.Reasons.{is_refused_as_bad, is_empty_word, Judges, IsToldOf, IsSo};
-ghost use Rattle.mt_reasons.specs.declared.argument.Argument.TheVariants as arguments;
+ghost use Rattle.mt_requests.specs.Requests.{text_length, request_of};
+ghost use Rattle.mt_protocol.specs.declared.argument.Argument.TheVariants as arguments;
+ghost use Rattle.mt_reasons.specs.Reasons.{is_refused_as_bad, is_empty_word, are_right, IsWrongText, Judges, IsToldOf, IsSo};
 
-use crate::argument::{Argument, are_counted, arguments_of};
 use crate::nearest::nearest_to;
 use crate::options::option_reason;
 use crate::reason::Reason;
 use crate::usage::usage_of;
 use mt_lines::words::{Words, number, words};
+use mt_protocol::argument::Argument;
 use mt_protocol::form::first_word;
 use mt_protocol::verb::Verb;
+use mt_requests::arguments::are_counted;
 use mt_requests::request::read_request;
 use mt_skel::escape::unescaped_len;
 use mt_skel::fault::Fault;
@@ -46,7 +46,7 @@ fn behind_first(line: &[u8]) -> Words<'_>
 /// What is wrong with a text: a zero byte, or a backslash that begins no escape.
 fn text_reason(word: &[u8]) -> Option<Reason<'_>>
     requires full { is_empty_word word.now ≡ false }
-    ensures { Judges arguments.Text word.now result }
+    ensures { MatchOption result (is_some (text_length word.now) ≡ true) (λ reason. IsWrongText word.now reason) }
 {
     if word.contains(&0) {
         Some(Reason::Zero { word })
@@ -71,9 +71,11 @@ fn number_reason(word: &[u8]) -> Option<Reason<'_>>
 fn scope_reason(word: &[u8]) -> Option<Reason<'_>>
     ensures { Judges arguments.Scope word.now result }
 {
+    if word == b"all".as_slice() {
+        return None;
+    }
     match number(word) {
         Some(_) => None,
-        None if word == b"all".as_slice() => None,
         None => Some(Reason::Scope { word }),
     }
 }
@@ -100,6 +102,7 @@ fn less_reason(word: &[u8]) -> Option<Reason<'_>>
 }
 
 /// What is wrong with a word as an argument.
+#[tactic(auto, using(crate::proofs::ReadLaws::label_fine, crate::proofs::ReadLaws::path_fine))]
 fn word_reason(argument: Argument, word: &[u8]) -> Option<Reason<'_>>
     requires full { is_empty_word word.now ≡ false }
     ensures { Judges argument word.now result }
@@ -108,7 +111,7 @@ fn word_reason(argument: Argument, word: &[u8]) -> Option<Reason<'_>>
         Argument::Space => number_reason(word),
         Argument::Scope => scope_reason(word),
         Argument::Count(most) => count_reason(word, most),
-        Argument::Text => text_reason(word),
+        Argument::Label | Argument::Path => text_reason(word),
         Argument::Less => less_reason(word),
         Argument::Setting => option_reason(word),
     }
@@ -150,10 +153,11 @@ fn reason_in(alloc: Global, line: &[u8]) -> Result<Reason<'_>, AllocError>
         let nearest = nearest_to(alloc, word)?;
         return Ok(Reason::Unknown { word, nearest });
     };
-    let arguments = arguments_of(verb);
+    let arguments = verb.arguments();
     if !are_counted(arguments, behind_first(line)) {
-        let usage = usage_of(word).unwrap_or(b"");
-        return Ok(Reason::Count { usage });
+        return Ok(Reason::Count {
+            usage: usage_of(verb),
+        });
     }
     match words_reason(arguments, behind_first(line)) {
         Some(reason) => Ok(reason),

@@ -2,7 +2,7 @@
 ghost use Rattle.std.specs.Prelude.{◌≡◌, true, is_some, MatchOption};
 ghost use Rattle.mt_requests.specs.Options.{set_words, clr_words};
 ghost use Rattle.mt_reasons.specs.Reasons.{IsWrongSet, IsWrongClr, Judges};
-ghost use Rattle.mt_reasons.specs.declared.argument.Argument.TheVariants.{Setting};
+ghost use Rattle.mt_protocol.specs.declared.argument.Argument.TheVariants.{Setting};
 
 use crate::reason::Reason;
 use mt_lines::words::Pieces;

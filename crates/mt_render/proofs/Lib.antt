@@ -5,3 +5,10 @@ pub mod BelowLaws
 pub mod FloatLaws
 pub mod NodeLaws
 pub mod EventLaws
+mod CellLaws
+mod ChildrenLaws
+mod EnteredLaws
+mod StepLaws
+mod LeadLaws
+mod GroupLaws
+mod LineLaws

@@ -5,7 +5,7 @@ use Rattle.std.specs.List.{flat_map}
 use Rattle.mt_events.specs.Mirrors.{MirrorView}
 use Rattle.mt_render.specs.declared.drawing.Drawing.{Drawing}
 use Rattle.mt_render.specs.declared.drawing.Drawing.TheVariants.{Tree, PlainTree, Graph, FlatJson, NestedJson}
-use Rattle.mt_render.specs.declared.trees.Strokes.TheVariants.{Lines, Ascii}
+use Rattle.mt_render.specs.declared.leads.Strokes.TheVariants.{Lines, Ascii}
 use Rattle.mt_render.specs.Trees.{trees_text}
 use Rattle.mt_render.specs.Graphs.{graph_text}
 use Rattle.mt_render.specs.Objects.{flat_line, nested_line}

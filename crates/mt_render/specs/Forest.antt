@@ -1,7 +1,6 @@
 -- The rows of a table in the order in which a tree of them is drawn (the form: findmnt(8)).
 -- A word with no source is this project's rule.
-use Rattle.std.specs.Prelude.{ℕ, zero, suc, Bool, not, ◌&&◌, ◌==◌, nat_lt, cond, List, [], ◌∷◌, ◌++◌, map, length, Option, None, is_none, refl}
-use Rattle.std.specs.Coded.{Coded, code_by, coded×, coded_bool, coded_list}
+use Rattle.std.specs.Prelude.{ℕ, zero, suc, Bool, not, ◌&&◌, ◌==◌, cond, List, [], ◌∷◌, ◌++◌, map, length, Option, None, is_none}
 use Rattle.std.specs.List.{filter, flat_map, list_any}
 use Rattle.mt_skel.specs.Keyed.{row_at}
 use Rattle.mt_info.specs.declared.row.Row.{Row}
@@ -12,10 +11,6 @@ use Rattle.mt_info.specs.Table.{row_id}
 pub record BranchView : Type 0 where
   pub lasts : List Bool
   pub row : Row
-
--- a row in a tree is stored as the pair of its fields
-abbrev pub branch_code : Coded Row → Coded BranchView
-branch_code code = code_by (List Bool × Row) (coded× (coded_list coded_bool) code) (λ b. (b.lasts, b.row)) (λ t. record { lasts = t.0; row = t.1 }) (λ _. refl)
 
 -- a row to which no line leads
 abbrev pub without_lines : Row → BranchView
@@ -40,10 +35,6 @@ child_rows rows r = filter (is_child r.id) rows
 abbrev pub branches : List Bool → List Row → List BranchView
 branches lasts [] = []
 branches lasts (r ∷ rs) = record { lasts = lasts ++ (length rs == 0) ∷ []; row = r } ∷ branches lasts rs
-
--- the children of a row, unless as many lines lead to it as there are rows
-abbrev pub next_below : List Row → BranchView → List BranchView
-next_below rows b = cond (nat_lt (length b.lasts) (length rows)) (branches b.lasts (child_rows rows b.row)) []
 
 -- a row and all below it, so many generations at most: each row is followed by its children, each with all below it
 abbrev pub drawn_from : List Row → ℕ → BranchView → List BranchView

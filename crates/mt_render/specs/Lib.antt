@@ -5,9 +5,12 @@ pub mod Trees
 pub mod Labels
 pub mod Edges
 pub mod Groups
+pub mod Placed
 pub mod Graphs
 pub mod Members
 pub mod Objects
+pub mod Steps
+pub mod Leads
 pub mod Drawings
 pub mod Laws
 pub mod Wording

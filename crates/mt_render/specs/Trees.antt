@@ -6,8 +6,8 @@ use Rattle.mt_skel.specs.Escapes.{escaped}
 use Rattle.mt_info.specs.RowLine.{path_text, option_words}
 use Rattle.mt_events.specs.Mirrors.{MirrorView}
 use Rattle.mt_terminal.specs.Terminal.{terminal_text}
-use Rattle.mt_render.specs.declared.trees.Strokes.{Strokes}
-use Rattle.mt_render.specs.declared.trees.Strokes.TheVariants.{Lines, Ascii}
+use Rattle.mt_render.specs.declared.leads.Strokes.{Strokes}
+use Rattle.mt_render.specs.declared.leads.Strokes.TheVariants.{Lines, Ascii}
 use Rattle.mt_render.specs.declared.columns.Widths.{Widths}
 use Rattle.mt_render.specs.Propagation.{propagation}
 use Rattle.mt_render.specs.Columns.{CellsView, no_widths, widened, cells_line}

@@ -1,21 +1,41 @@
 //! Columns: cells that are padded with spaces to the widest one below each other, up to 60 cells of a line.
-ghost use Rattle.std.specs.Prelude.{◌≡◌, ◌++◌, OnOk, replicate};
+ghost use Rattle.std.specs.Prelude.{◌≡◌, ◌+◌, ◌++◌, OnOk, replicate};
 ghost use Rattle.std.specs.List.{fold, flat_map};
+ghost use Rattle.mt_terminal.specs.Terminal.{cells_of_text};
 ghost use Rattle.mt_render.specs.Columns.{no_widths, width_for, widened, padded, cells_line};
 
 use mt_terminal::terminal::cells_of_text;
 use std::alloc::AllocError;
 use std::marker::Model;
 
+/// What stands in a column.
+#[derive(Drop)]
+pub(crate) struct Cell {
+    text: Vec<u8>,
+    /// How many cells of a line it takes.
+    width: usize,
+}
+
+impl Model for Cell {
+    ghost use Rattle.std.specs.Prelude.{◌≡◌, ℕ, List};
+    ghost use Rattle.mt_terminal.specs.Terminal.{cells_of_text};
+
+    ghost Value = { List ℕ };
+
+    ghost view = { λ c. c.text.items };
+
+    ghost invariant = { λ c. c.width ≡ cells_of_text c.text.items };
+}
+
 /// The cells of one line.
 #[derive(Drop)]
 pub(crate) struct Cells {
-    id: Vec<u8>,
-    target: Vec<u8>,
-    source: Vec<u8>,
-    kind: Vec<u8>,
-    options: Vec<u8>,
-    propagation: Vec<u8>,
+    pub(crate) id: Cell,
+    pub(crate) target: Cell,
+    pub(crate) source: Cell,
+    pub(crate) kind: Cell,
+    pub(crate) options: Cell,
+    pub(crate) propagation: Vec<u8>,
 }
 
 impl Model for Cells {
@@ -25,7 +45,7 @@ impl Model for Cells {
 
     ghost coded = { cells_code };
 
-    ghost view = { λ c. record { id = c.id.items; target = c.target.items; source = c.source.items; kind = c.kind.items; options = c.options.items; propagation = c.propagation.items } };
+    ghost view = { λ c. record { id = c.id; target = c.target; source = c.source; kind = c.kind; options = c.options; propagation = c.propagation.items } };
 }
 
 /// How wide the columns in front of the last one are.
@@ -41,13 +61,6 @@ pub(crate) struct Widths {
 /// How wide a column is at most, in cells of a line: what is wider pushes the cells behind it to the right.
 const MOST_WIDTH: usize = 60;
 
-/// How wide a column is for a cell.
-fn width_for(cell: &[u8]) -> usize
-    ensures { result ≡ width_for cell.now }
-{
-    cells_of_text(cell).min(MOST_WIDTH)
-}
-
 /// Appends so many spaces.
 fn push_spaces(text: &mut Vec<u8>, count: usize) -> Result<(), AllocError>
     ensures { OnOk result (text.new.items ≡ text.old.items ++ replicate count 32) }
@@ -58,48 +71,54 @@ fn push_spaces(text: &mut Vec<u8>, count: usize) -> Result<(), AllocError>
     Ok(())
 }
 
-/// Appends a cell that others follow, in a column of this width.
-fn push_padded(text: &mut Vec<u8>, width_of_column: usize, cell: &[u8]) -> Result<(), AllocError>
-    ensures { OnOk result (text.new.items ≡ text.old.items ++ padded width_of_column cell.now) }
-{
-    text.extend_from_slice(cell)?;
-    push_spaces(text, width_of_column.saturating_sub(cells_of_text(cell)))?;
-    text.extend_from_slice(b" ")?;
-    Ok(())
+impl Cell {
+    /// This text.
+    pub(crate) fn new(text: Vec<u8>) -> Cell
+        ensures { result ≡ text.items }
+    {
+        let width = cells_of_text(&text);
+        Cell { text, width }
+    }
+
+    /// A text that ends with this one, behind what takes so many cells of a line.
+    pub(crate) fn behind(width: usize, end: &[u8], text: Vec<u8>) -> Cell
+        requires { cells_of_text text.items ≡ width + cells_of_text end.now }
+        ensures { result ≡ text.items }
+    {
+        let _text = text.as_slice();
+        let width = width + cells_of_text(end);
+        Cell { text, width }
+    }
+
+    /// How wide a column is for it.
+    fn width(&self) -> usize
+        ensures { result ≡ width_for self.now }
+    {
+        self.width.min(MOST_WIDTH)
+    }
+
+    /// Appends the cell, in a column of this width that others follow.
+    fn push(&self, text: &mut Vec<u8>, width: usize) -> Result<(), AllocError>
+        ensures { OnOk result (text.new.items ≡ text.old.items ++ padded width self.now) }
+    {
+        text.extend_from_slice(&self.text)?;
+        push_spaces(text, width.saturating_sub(self.width))?;
+        text.extend_from_slice(b" ")?;
+        Ok(())
+    }
 }
 
 impl Cells {
-    /// These cells.
-    pub(crate) fn new(
-        id: Vec<u8>,
-        target: Vec<u8>,
-        source: Vec<u8>,
-        kind: Vec<u8>,
-        options: Vec<u8>,
-        propagation: Vec<u8>,
-    ) -> Cells
-        ensures { result ≡ record { id = id.items; target = target.items; source = source.items; kind = kind.items; options = options.items; propagation = propagation.items } }
-    {
-        Cells {
-            id,
-            target,
-            source,
-            kind,
-            options,
-            propagation,
-        }
-    }
-
     /// Columns that are wide enough for these cells too, as far as a column may be.
     fn widened(&self, widths: Widths) -> Widths
         ensures { result ≡ widened widths self.now }
     {
         Widths {
-            id: widths.id.max(width_for(&self.id)),
-            target: widths.target.max(width_for(&self.target)),
-            source: widths.source.max(width_for(&self.source)),
-            kind: widths.kind.max(width_for(&self.kind)),
-            options: widths.options.max(width_for(&self.options)),
+            id: widths.id.max(self.id.width()),
+            target: widths.target.max(self.target.width()),
+            source: widths.source.max(self.source.width()),
+            kind: widths.kind.max(self.kind.width()),
+            options: widths.options.max(self.options.width()),
         }
     }
 
@@ -108,11 +127,11 @@ impl Cells {
     fn push(&self, text: &mut Vec<u8>, widths: Widths) -> Result<(), AllocError>
         ensures { OnOk result (text.new.items ≡ text.old.items ++ cells_line widths self.now) }
     {
-        push_padded(text, widths.id, &self.id)?;
-        push_padded(text, widths.target, &self.target)?;
-        push_padded(text, widths.source, &self.source)?;
-        push_padded(text, widths.kind, &self.kind)?;
-        push_padded(text, widths.options, &self.options)?;
+        self.id.push(text, widths.id)?;
+        self.target.push(text, widths.target)?;
+        self.source.push(text, widths.source)?;
+        self.kind.push(text, widths.kind)?;
+        self.options.push(text, widths.options)?;
         text.extend_from_slice(&self.propagation)?;
         text.extend_from_slice(b"\n")?;
         Ok(())

@@ -3,8 +3,9 @@ ghost use Rattle.std.specs.Prelude.{◌≡◌, IfOk};
 ghost use Rattle.mt_render.specs.Drawings.{drawing_text};
 
 use crate::graph::push_graph;
+use crate::leads::Strokes;
 use crate::objects::{push_flat_lines, push_nested_lines};
-use crate::trees::{Strokes, push_trees};
+use crate::trees::push_trees;
 use mt_events::mirror::Mirror;
 use std::alloc::{AllocError, Global};
 

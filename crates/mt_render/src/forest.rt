@@ -1,62 +1,65 @@
 //! The rows of a table in the order of a tree: each below its parent's.
-ghost use Rattle.std.specs.Prelude.{◌≡◌, ◌++◌, ◌∷◌, [], reverse, length, IfOk, OnOk, IsTrue};
+ghost use Rattle.std.specs.Prelude.{◌≡◌, ℕ, ◌++◌, map, reverse, length, nat_eq, IfOk, OnOk, IsTrue};
+ghost use Rattle.std.specs.HashSet.{contains};
 ghost use Rattle.mt_skel.specs.Keyed.{rises};
 ghost use Rattle.mt_info.specs.Table.{row_id};
-ghost use Rattle.mt_render.specs.Forest.{without_lines, is_top, is_child, child_rows, branches, next_below, drawn_from, tree, is_drawn, strays};
+ghost use Rattle.mt_render.specs.Forest.{is_top, tree, strays};
+ghost use Rattle.mt_render.specs.Steps.{step_of, top_step, steps_at, next_steps, steps_from, has_step};
 
+use crate::children::Children;
 use mt_info::row::Row;
-use mt_info::table::{Table, find_row};
+use mt_info::table::find_row;
 use mt_mounts::mount::MountId;
 use std::alloc::{AllocError, Global};
+use std::collections::HashSet;
 use std::marker::Model;
 
-/// A row in a tree, and the lines that lead to it.
+/// A step of the way through a tree: a row, and where it stands.
 #[derive(Drop)]
-pub(crate) struct Branch<'a> {
-    /// Of each row above it but the top one, and at last of the row itself, whether it is the last child of its
-    /// parent.
-    lasts: Vec<bool>,
+pub(crate) struct Step<'a> {
+    /// How many rows stand above it.
+    depth: usize,
+    /// Whether it is the last child of its parent.
+    is_last: bool,
     row: &'a Row,
 }
 
-impl<'a> Model for Branch<'a> {
-    ghost use Rattle.mt_render.specs.Forest.{BranchView, branch_code};
+impl<'a> Model for Step<'a> {
+    ghost use Rattle.mt_render.specs.Steps.{StepView, step_code};
 
-    ghost Value = { BranchView };
+    ghost Value = { StepView };
 
     ghost use Rattle.mt_info.specs.contracts.row.Row as table_row;
 
-    ghost coded = { branch_code table_row.the_row.coded };
+    ghost coded = { step_code table_row.the_row.coded };
 
-    ghost view = { λ b. record { lasts = b.lasts.items; row = b.row.now } };
+    ghost view = { λ s. record { depth = s.depth; is_last = s.is_last; row = s.row.now } };
 }
 
-impl<'a> Branch<'a> {
-    /// A row to which no line leads.
-    fn alone(alloc: Global, row: &'a Row) -> Branch<'a>
-        ensures { result ≡ without_lines row.now }
+impl<'a> Step<'a> {
+    /// A row that stands below no other.
+    fn top(row: &'a Row) -> Step<'a>
+        ensures { result ≡ top_step row.now }
     {
-        Branch {
-            lasts: Vec::new(alloc),
+        Step {
+            depth: 0,
+            is_last: false,
             row,
         }
     }
 
-    /// A child of this row.
-    fn child(&self, row: &'a Row, is_last: bool) -> Result<Branch<'a>, AllocError>
-        ensures { IfOk result (λ child. child ≡ record { lasts = self.now.lasts ++ is_last ∷ []; row = row.now }) }
+    /// How many rows stand above it.
+    pub(crate) fn depth(&self) -> usize
+        ensures { result ≡ self.now.depth }
     {
-        let mut lasts = self.lasts.clone()?;
-        lasts.push(is_last)?;
-        Ok(Branch { lasts, row })
+        self.depth
     }
 
-    /// Of each row above it but the top one, and at last of the row itself, whether it is the last child of its
-    /// parent.
-    pub(crate) fn lasts(&self) -> &[bool]
-        ensures { result.now ≡ self.now.lasts }
+    /// Whether it is the last child of its parent.
+    pub(crate) fn is_last(&self) -> bool
+        ensures { result ≡ self.now.is_last }
     {
-        self.lasts.as_slice()
+        self.is_last
     }
 
     /// The row.
@@ -75,103 +78,97 @@ pub(crate) fn is_top(rows: &[Row], row: &Row) -> bool
     row.parent == row.id || find_row(rows, row.parent).is_none()
 }
 
-/// Whether a row is drawn below this mount's.
-pub(crate) fn is_child(parent: MountId, row: &Row) -> bool
-    ensures { result ≡ is_child parent row.now }
-{
-    row.parent == parent && row.id != parent
-}
-
-/// Pushes the children of a row, so that the first of them lies on top.
-fn push_children<'a>(
-    stack: &mut Vec<Branch<'a>>,
-    rows: &'a [Row],
-    parent: &Branch<'a>,
+/// Pushes the children of a row at this depth, so that the first of them lies on top.
+fn push_steps<'a>(
+    stack: &mut Vec<Step<'a>>,
+    depth: usize,
+    children: &[&'a Row],
 ) -> Result<(), AllocError>
-    ensures { OnOk result (stack.new.items ≡ stack.old.items ++ reverse (branches parent.now.lasts (child_rows rows.now parent.now.row))) }
+    ensures { OnOk result (stack.new.items ≡ stack.old.items ++ reverse (steps_at depth (map (λ row. row.now) children.now))) }
 {
-    let id = parent.row().id;
-    let mut is_last = true;
-    'rows: for step in 0..rows.len() {
-        let row = &rows[rows.len() - 1 - step];
-        if is_child(id, row) {
-            stack.push(parent.child(row, is_last)?)?;
-            is_last = false;
-        }
+    'children: for step in 0..children.len() {
+        stack.push(Step {
+            depth,
+            is_last: step == 0,
+            row: children[children.len() - 1 - step],
+        })?;
     }
     Ok(())
 }
 
-/// Pushes the children of a row, unless as many lines lead to it as there are rows.
+/// Pushes the children of a row, unless as many rows stand above it as there are.
 fn push_below<'a>(
-    stack: &mut Vec<Branch<'a>>,
-    rows: &'a [Row],
-    parent: &Branch<'a>,
+    stack: &mut Vec<Step<'a>>,
+    alloc: Global,
+    children: &Children<'a>,
+    parent: &Step<'a>,
 ) -> Result<(), AllocError>
-    ensures { OnOk result (stack.new.items ≡ stack.old.items ++ reverse (next_below rows.now parent.now)) }
+    ensures { OnOk result (stack.new.items ≡ stack.old.items ++ reverse (next_steps children.now parent.now)) }
 {
-    if parent.lasts().len() < rows.len() {
-        push_children(stack, rows, parent)?;
+    if parent.depth < children.rows().len() {
+        push_steps(stack, parent.depth + 1, &children.below(alloc, parent.row)?)?;
     }
     Ok(())
 }
 
 /// Appends a top row and all below it.
 fn push_grown<'a>(
-    drawn: &mut Vec<Branch<'a>>,
+    drawn: &mut Vec<Step<'a>>,
     alloc: Global,
-    rows: &'a [Row],
+    children: &Children<'a>,
     top: &'a Row,
 ) -> Result<(), AllocError>
-    ensures { OnOk result (drawn.new.items ≡ drawn.old.items ++ drawn_from rows.now (length rows.now) (without_lines top.now)) }
+    ensures { OnOk result (drawn.new.items ≡ drawn.old.items ++ steps_from children.now (length children.now) (top_step top.now)) }
 {
     let mut stack = Vec::new(alloc);
-    stack.push(Branch::alone(alloc, top))?;
-    'branches: while let Some(branch) = stack.pop() {
-        push_below(&mut stack, rows, &branch)?;
-        drawn.push(branch)?;
+    stack.push(Step::top(top))?;
+    'steps: while let Some(step) = stack.pop() {
+        push_below(&mut stack, alloc, children, &step)?;
+        drawn.push(step)?;
     }
     Ok(())
 }
 
 /// The rows of all trees: each top row, by rising ID, and all below it.
-pub(crate) fn tree(table: &Table) -> Result<Vec<Branch<'_>>, AllocError>
-    ensures { IfOk result (λ drawn. drawn.items ≡ tree table.now) }
+pub(crate) fn tree<'a>(alloc: Global, children: &Children<'a>) -> Result<Vec<Step<'a>>, AllocError>
+    ensures { IfOk result (λ drawn. drawn.items ≡ map step_of (tree children.now)) }
 {
-    let rows = table.rows();
-    let mut drawn = Vec::new(table.allocator());
+    let rows = children.rows();
+    let mut drawn = Vec::new(alloc);
     'rows: for row in rows {
         if is_top(rows, row) {
-            push_grown(&mut drawn, table.allocator(), rows, row)?;
+            push_grown(&mut drawn, alloc, children, row)?;
         }
     }
     Ok(drawn)
 }
 
-/// Whether a mount has a row among these.
-fn is_drawn(drawn: &[Branch<'_>], id: MountId) -> bool
-    ensures { result ≡ is_drawn drawn.now id }
+/// The mounts that have a row among these.
+fn drawn_ids(alloc: Global, drawn: &[Step<'_>]) -> Result<HashSet<MountId>, AllocError>
+    ensures { IfOk result (λ ids. (i : ℕ) → contains nat_eq ids i ≡ has_step drawn.now i) }
 {
-    for branch in drawn {
-        if branch.row().id == id {
-            return true;
-        }
+    let mut ids = HashSet::new(alloc);
+    'drawn: for step in drawn {
+        ids.insert(step.row.id)?;
     }
-    false
+    Ok(ids)
 }
 
 /// The rows that are in no tree, by rising ID.
 pub(crate) fn strays<'a>(
-    table: &'a Table,
-    drawn: &[Branch<'a>],
-) -> Result<Vec<Branch<'a>>, AllocError>
-    requires { drawn.now ≡ tree table.now }
-    ensures { IfOk result (λ others. others.items ≡ strays table.now) }
+    alloc: Global,
+    children: &Children<'a>,
+    drawn: &[Step<'a>],
+) -> Result<Vec<Step<'a>>, AllocError>
+    requires { drawn.now ≡ map step_of (tree children.now) }
+    ensures { IfOk result (λ others. others.items ≡ map step_of (strays children.now)) }
 {
-    let mut others = Vec::new(table.allocator());
-    'rows: for row in table.rows() {
-        if !is_drawn(drawn, row.id) {
-            others.push(Branch::alone(table.allocator(), row))?;
+    let rows = children.rows();
+    let ids = drawn_ids(alloc, drawn)?;
+    let mut others = Vec::new(alloc);
+    'rows: for row in rows {
+        if !ids.contains(&row.id) {
+            others.push(Step::top(row))?;
         }
     }
     Ok(others)

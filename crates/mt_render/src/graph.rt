@@ -7,7 +7,7 @@ ghost use Rattle.mt_render.specs.Graphs.{outline, node_line, box, cluster, child
 
 use crate::edges::{colour, push_arrow, push_name};
 use crate::forest::is_top;
-use crate::groups::{nodes_of, push_groups};
+use crate::groups::{Nodes, push_groups};
 use crate::labels::push_node_label;
 use mt_events::mirror::Mirror;
 use mt_info::print::push_number;
@@ -146,7 +146,7 @@ pub(crate) fn push_graph(
     text.extend_from_slice(b"digraph mounts {\nnode [shape=box, fontsize=10, height=0];\n")?;
     push_clusters(text, parts)?;
     push_all_parents(text, parts)?;
-    push_groups(text, &nodes_of(alloc, parts)?)?;
+    push_groups(text, &Nodes::of(alloc, parts)?)?;
     text.extend_from_slice(b"}\n")?;
     Ok(())
 }

@@ -1,12 +1,17 @@
 //! The edges of peer groups in a graph: rings of members, and arrows to slaves.
-ghost use Rattle.std.specs.Prelude.{◌≡◌, ◌++◌, length, OnOk, IfOk, Some, None, MatchOption};
-ghost use Rattle.std.specs.List.{filter, find, flat_map};
+ghost use Rattle.std.specs.Prelude.{◌≡◌, ◌+◌, ◌≤◌, [], ◌++◌, drop, length, slice_get, OnOk, IfOk, Some, None, MatchOption};
+ghost use Rattle.std.specs.List.{find, flat_map};
+ghost use Rattle.std.specs.Option.{option_and_then};
+ghost use Rattle.mt_lists.specs.Numbered.{rows_by};
+ghost use Rattle.mt_render.specs.Placed.{at_places, own_place, own_group};
 ghost use Rattle.mt_render.specs.Groups.{part_nodes, nodes, node_name, is_member, closing, next_in_ring, peer_edge, ring_edge, ring_edges, master_name, slave_edge, group_edges};
 
+use crate::children::lists_for;
 use crate::edges::{colour, push_arrow, push_name};
 use mt_events::mirror::Mirror;
 use mt_info::print::push_number;
 use mt_info::row::Row;
+use mt_lists::lists::Lists;
 use mt_mounts::mount::SpaceId;
 use mt_peers::state::GroupId;
 use std::alloc::{AllocError, Global};
@@ -43,7 +48,7 @@ fn push_part_nodes<'a>(nodes: &mut Vec<Node<'a>>, part: &'a Mirror) -> Result<()
 }
 
 /// The mounts of all parts.
-pub(crate) fn nodes_of(alloc: Global, parts: &[Mirror]) -> Result<Vec<Node<'_>>, AllocError>
+fn nodes_of(alloc: Global, parts: &[Mirror]) -> Result<Vec<Node<'_>>, AllocError>
     ensures { IfOk result (λ found. found.items ≡ nodes parts.now) }
 {
     let mut nodes = Vec::new(alloc);
@@ -91,90 +96,125 @@ impl<'a> Node<'a> {
     }
 }
 
-/// The first member of a group among these mounts.
-fn first_member<'a, 'b>(nodes: &'b [Node<'a>], group: GroupId) -> Option<&'b Node<'a>>
-    ensures { MatchOption result (find (is_member group) nodes.now ≡ None) (λ node. find (is_member group) nodes.now ≡ Some node.now) }
+/// Enters the peer groups of mounts, each by its place.
+fn enter_groups(members: &mut Lists, nodes: &[Node<'_>])
+    requires empty { members.old.rows ≡ [] }
+    requires room { length nodes.now ≤ members.old.room }
+    ensures { members.new.rows ≡ rows_by own_place own_group (at_places 0 nodes.now) }
 {
-    for node in nodes {
-        if node.is_member(group) {
-            return Some(node);
+    'nodes: for (at, node) in nodes.iter().enumerate() {
+        members.enter(at as u64, node.row.shared);
+    }
+}
+
+/// The mounts of a graph, with lists of those that are in the same peer group.
+#[derive(Drop)]
+pub(crate) struct Nodes<'a> {
+    nodes: Vec<Node<'a>>,
+    members: Lists,
+}
+
+impl<'a> Model for Nodes<'a> {
+    ghost use Rattle.std.specs.Prelude.{List};
+    ghost use Rattle.std.specs.Coded.{coded_list};
+    ghost use Rattle.mt_render.specs.Groups.{NodeView, node_code};
+    ghost use Rattle.mt_render.specs.Placed.{IsGrouped};
+
+    ghost Value = { List NodeView };
+
+    ghost use Rattle.mt_info.specs.contracts.row.Row as table_row;
+
+    ghost coded = { coded_list (node_code table_row.the_row.coded) };
+
+    ghost view = { λ n. n.nodes.items };
+
+    ghost invariant = { λ n. IsGrouped n.nodes.items n.members.rows };
+}
+
+impl<'a> Nodes<'a> {
+    /// The mounts of all parts.
+    pub(crate) fn of(alloc: Global, parts: &'a [Mirror]) -> Result<Nodes<'a>, AllocError>
+        ensures { IfOk result (λ found. found ≡ nodes parts.now) }
+    {
+        let nodes = nodes_of(alloc, parts)?;
+        let mut members = lists_for(alloc, nodes.len())?;
+        enter_groups(&mut members, &nodes);
+        Ok(Nodes { nodes, members })
+    }
+
+    /// The first member of a group.
+    fn first_member(&self, group: GroupId) -> Option<&Node<'a>>
+        ensures { MatchOption result (find (is_member group) self.now ≡ None) (λ node. find (is_member group) self.now ≡ Some node.now) }
+    {
+        let at = self.members.first(group)?;
+        self.nodes.get(at as usize)
+    }
+
+    /// The first member of a group, which follows the last one in the ring of three or more.
+    fn closing(&self, group: GroupId) -> Option<&Node<'a>>
+        ensures { MatchOption result (closing self.now group ≡ None) (λ node. closing self.now group ≡ Some node.now) }
+    {
+        if self.members.count(group) < 3 {
+            return None;
+        }
+        self.first_member(group)
+    }
+
+    /// The next member of the group of the mount at this place.
+    fn next_member(&self, at: usize, group: GroupId) -> Option<&Node<'a>>
+        requires { option_and_then (λ n. n.row.shared) (slice_get self.now at) ≡ Some group }
+        ensures { MatchOption result (find (is_member group) (drop (at + 1) self.now) ≡ None) (λ node. find (is_member group) (drop (at + 1) self.now) ≡ Some node.now) }
+    {
+        let next = self.members.after(at as u64)?;
+        self.nodes.get(next as usize)
+    }
+
+    /// The member that follows in the ring of a group, behind the mount at this place.
+    fn next_in_ring(&self, at: usize, group: GroupId) -> Option<&Node<'a>>
+        requires { option_and_then (λ n. n.row.shared) (slice_get self.now at) ≡ Some group }
+        ensures { MatchOption result (next_in_ring self.now (drop (at + 1) self.now) group ≡ None) (λ node. next_in_ring self.now (drop (at + 1) self.now) group ≡ Some node.now) }
+    {
+        match self.next_member(at, group) {
+            Some(next) => Some(next),
+            None => self.closing(group),
         }
     }
-    None
 }
 
-/// How many of these mounts are members of a group.
-fn member_count(nodes: &[Node<'_>], group: GroupId) -> usize
-    ensures { result ≡ length (filter (is_member group) nodes.now) }
-{
-    let mut count = 0usize;
-    for node in nodes {
-        if node.is_member(group) {
-            count += 1;
-        }
-    }
-    count
-}
-
-/// The first member of a group, which follows the last one in the ring of three or more.
-fn closing<'a, 'b>(nodes: &'b [Node<'a>], group: GroupId) -> Option<&'b Node<'a>>
-    ensures { MatchOption result (closing nodes.now group ≡ None) (λ node. closing nodes.now group ≡ Some node.now) }
-{
-    if member_count(nodes, group) < 3 {
-        return None;
-    }
-    first_member(nodes, group)
-}
-
-/// The member that follows in the ring of a group, behind a mount that these later ones follow.
-fn next_in_ring<'a, 'b>(
-    nodes: &'b [Node<'a>],
-    later: &'b [Node<'a>],
-    group: GroupId,
-) -> Option<&'b Node<'a>>
-    ensures { MatchOption result (next_in_ring nodes.now later.now group ≡ None) (λ node. next_in_ring nodes.now later.now group ≡ Some node.now) }
-{
-    match first_member(later, group) {
-        Some(next) => Some(next),
-        None => closing(nodes, group),
-    }
-}
-
-/// Appends the edge from a mount to the member that follows it in the ring of its group.
+/// Appends the edge from the mount at this place to the member that follows it in the ring of its group.
 fn push_ring_edge(
     text: &mut Vec<u8>,
-    nodes: &[Node<'_>],
-    later: &[Node<'_>],
+    nodes: &Nodes<'_>,
+    at: usize,
     node: &Node<'_>,
 ) -> Result<(), AllocError>
-    ensures { OnOk result (text.new.items ≡ text.old.items ++ ring_edge nodes.now later.now node.now) }
+    requires { slice_get nodes.now at ≡ Some node.now }
+    ensures { OnOk result (text.new.items ≡ text.old.items ++ ring_edge nodes.now (drop (at + 1) nodes.now) node.now) }
 {
     let Some(group) = node.row.shared else {
         return Ok(());
     };
-    match next_in_ring(nodes, later, group) {
+    match nodes.next_in_ring(at, group) {
         Some(next) => node.push_peer(text, group, next),
         None => Ok(()),
     }
 }
 
 /// Appends the rings of all peer groups.
-fn push_rings(text: &mut Vec<u8>, nodes: &[Node<'_>]) -> Result<(), AllocError>
+fn push_rings(text: &mut Vec<u8>, nodes: &Nodes<'_>) -> Result<(), AllocError>
     ensures { OnOk result (text.new.items ≡ text.old.items ++ ring_edges nodes.now nodes.now) }
 {
-    let mut rest = nodes;
-    'nodes: while let [node, later @ ..] = rest {
-        push_ring_edge(text, nodes, later, node)?;
-        rest = later;
+    'nodes: for (at, node) in nodes.nodes.iter().enumerate() {
+        push_ring_edge(text, nodes, at, node)?;
     }
     Ok(())
 }
 
 /// Appends the name where the edges to the slaves of a group begin.
-fn push_master(text: &mut Vec<u8>, nodes: &[Node<'_>], group: GroupId) -> Result<(), AllocError>
+fn push_master(text: &mut Vec<u8>, nodes: &Nodes<'_>, group: GroupId) -> Result<(), AllocError>
     ensures { OnOk result (text.new.items ≡ text.old.items ++ master_name nodes.now group) }
 {
-    if let Some(member) = first_member(nodes, group) {
+    if let Some(member) = nodes.first_member(group) {
         return member.push_name(text);
     }
     text.extend_from_slice(b"\"group ")?;
@@ -184,11 +224,7 @@ fn push_master(text: &mut Vec<u8>, nodes: &[Node<'_>], group: GroupId) -> Result
 }
 
 /// Appends the edge to a mount from its master, if it has one.
-fn push_slave_edge(
-    text: &mut Vec<u8>,
-    nodes: &[Node<'_>],
-    node: &Node<'_>,
-) -> Result<(), AllocError>
+fn push_slave_edge(text: &mut Vec<u8>, nodes: &Nodes<'_>, node: &Node<'_>) -> Result<(), AllocError>
     ensures { OnOk result (text.new.items ≡ text.old.items ++ slave_edge nodes.now node.now) }
 {
     let Some(group) = node.row.master else {
@@ -205,17 +241,17 @@ fn push_slave_edge(
 }
 
 /// Appends the edges to all slaves.
-fn push_slaves(text: &mut Vec<u8>, nodes: &[Node<'_>]) -> Result<(), AllocError>
+fn push_slaves(text: &mut Vec<u8>, nodes: &Nodes<'_>) -> Result<(), AllocError>
     ensures { OnOk result (text.new.items ≡ text.old.items ++ flat_map (slave_edge nodes.now) nodes.now) }
 {
-    'nodes: for node in nodes {
+    'nodes: for node in &nodes.nodes {
         push_slave_edge(text, nodes, node)?;
     }
     Ok(())
 }
 
 /// Appends the edges of all groups.
-pub(crate) fn push_groups(text: &mut Vec<u8>, nodes: &[Node<'_>]) -> Result<(), AllocError>
+pub(crate) fn push_groups(text: &mut Vec<u8>, nodes: &Nodes<'_>) -> Result<(), AllocError>
     ensures { OnOk result (text.new.items ≡ text.old.items ++ group_edges nodes.now) }
 {
     push_rings(text, nodes)?;

@@ -1,9 +1,10 @@
 //! What a client shows, as text: pictures of tables of mounts, and what posts tell.
 //!
-//! [`drawing`] draws tables as trees or as a graph, or writes them as JSON. [`forest`] puts the rows of a table in
-//! the order of a tree, and [`trees`] writes them so, in the columns of [`columns`]. [`graph`] writes a text for
-//! Graphviz: the mounts, with their [`labels`], and [`edges`], of which those of peer groups are in [`groups`].
-//! [`objects`] writes tables as JSON, of the [`members`] of each mount. [`laws`] has what is true of all trees.
+//! [`drawing`] draws tables as trees or as a graph, or writes them as JSON. [`children`] finds the rows below each row,
+//! [`forest`] puts the rows of a table in the order of a tree, and [`trees`] writes them so, each behind what leads to it
+//! ([`leads`]), in the columns of [`columns`]. [`graph`] writes a text for Graphviz: the mounts, with their [`labels`], and
+//! [`edges`], of which those of peer groups are in [`groups`]. [`objects`] writes tables as JSON, of the [`members`] of each
+//! mount. [`laws`] has what is true of all trees.
 //!
 //! [`telling`] tells posts: [`wording`] in words, a line for each mount, for people who watch a namespace, and
 //! [`events`] as JSON, for their programs. [`field`] has what of a mount is not as it was. [`stamp`] adds a time, and
@@ -12,6 +13,7 @@
 //! [`propagation`] is the word of pictures and posts for how a mount propagates.
 #![tactic(auto)]
 
+mod children;
 mod columns;
 pub mod drawing;
 mod edges;
@@ -22,6 +24,7 @@ mod graph;
 mod groups;
 mod labels;
 pub mod laws;
+mod leads;
 mod members;
 pub mod objects;
 mod propagation;

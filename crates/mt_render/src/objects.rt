@@ -1,14 +1,14 @@
 //! Tables and places as JSON, an object a line.
-ghost use Rattle.std.specs.Prelude.{◌≡◌, ◌++◌, false, map, OnOk, IfOk, IsTrue};
+ghost use Rattle.std.specs.Prelude.{◌≡◌, ◌++◌, false, map, OnOk, IfOk};
 ghost use Rattle.std.specs.List.{filter, flat_map};
 ghost use Rattle.serde_json.specs.View.{view, members_view};
 ghost use Rattle.serde_json.specs.Written.{has_float};
-ghost use Rattle.mt_skel.specs.Keyed.{rises};
-ghost use Rattle.mt_info.specs.Table.{row_id};
 ghost use Rattle.mt_render.specs.Forest.{is_top};
-ghost use Rattle.mt_render.specs.Objects.{value_line, with_children, node_with, flat_node, node, most_generations, is_deep, tree_nodes, listing, flat_line, nested_line, place_line};
+ghost use Rattle.mt_render.specs.Steps.{stands_deep};
+ghost use Rattle.mt_render.specs.Objects.{value_line, with_children, node_with, flat_node, node, most_generations, tree_nodes, listing, flat_line, nested_line, place_line};
 
-use crate::forest::{Branch, is_child, is_top, strays, tree};
+use crate::children::Children;
+use crate::forest::{Step, is_top, strays, tree};
 use crate::members::{Members, put_number, put_row, put_text};
 use mt_events::mirror::Mirror;
 use mt_info::row::Row;
@@ -72,42 +72,45 @@ pub(crate) fn flat_node(alloc: Global, row: &Row) -> Result<Value, AllocError>
 }
 
 /// A row as an object with all below it, so many generations at most.
-fn node(alloc: Global, rows: &[Row], generations: usize, row: &Row) -> Result<Value, AllocError>
-    ensures { IfOk result (λ value. view value ≡ node rows.now generations row.now) }
+fn node(
+    alloc: Global,
+    children: &Children<'_>,
+    generations: usize,
+    row: &Row,
+) -> Result<Value, AllocError>
+    ensures { IfOk result (λ value. view value ≡ node children.now generations row.now) }
 {
-    let mut children = Vec::new(alloc);
+    let mut values = Vec::new(alloc);
     if generations == 0 {
-        return node_with(alloc, row, children);
+        return node_with(alloc, row, values);
     }
-    'rows: for other in rows {
-        if is_child(row.id, other) {
-            push(&mut children, node(alloc, rows, generations - 1, other)?)?;
-        }
+    'below: for child in &children.below(alloc, row)? {
+        push(&mut values, node(alloc, children, generations - 1, child)?)?;
     }
-    node_with(alloc, row, children)
+    node_with(alloc, row, values)
 }
 
 /// Each top row as an object, with so many generations below it as stand within each other.
-fn top_nodes(alloc: Global, rows: &[Row]) -> Result<Vec<Value>, AllocError>
-    requires { IsTrue (rises row_id rows.now) }
-    ensures { IfOk result (λ values. map view values.items ≡ map (node rows.now most_generations) (filter (is_top rows.now) rows.now)) }
+fn top_nodes(alloc: Global, children: &Children<'_>) -> Result<Vec<Value>, AllocError>
+    ensures { IfOk result (λ values. map view values.items ≡ map (node children.now most_generations) (filter (is_top children.now) children.now)) }
 {
+    let rows = children.rows();
     let mut values = Vec::new(alloc);
     'rows: for row in rows {
         if is_top(rows, row) {
-            push(&mut values, node(alloc, rows, MOST_GENERATIONS, row)?)?;
+            push(&mut values, node(alloc, children, MOST_GENERATIONS, row)?)?;
         }
     }
     Ok(values)
 }
 
 /// Appends the objects of rows of trees that stand too deep to stand within their parents.
-fn push_deep(values: &mut Vec<Value>, alloc: Global, drawn: &[Branch<'_>]) -> Result<(), AllocError>
-    ensures { OnOk result (map view values.new.items ≡ map view values.old.items ++ map (λ b. flat_node b.row) (filter is_deep drawn.now)) }
+fn push_deep(values: &mut Vec<Value>, alloc: Global, drawn: &[Step<'_>]) -> Result<(), AllocError>
+    ensures { OnOk result (map view values.new.items ≡ map view values.old.items ++ map (λ s. flat_node s.row) (filter stands_deep drawn.now)) }
 {
-    'drawn: for branch in drawn {
-        if branch.lasts().len() > MOST_GENERATIONS {
-            push(values, flat_node(alloc, branch.row())?)?;
+    'drawn: for step in drawn {
+        if step.depth() > MOST_GENERATIONS {
+            push(values, flat_node(alloc, step.row())?)?;
         }
     }
     Ok(())
@@ -117,12 +120,12 @@ fn push_deep(values: &mut Vec<Value>, alloc: Global, drawn: &[Branch<'_>]) -> Re
 fn push_strays(
     values: &mut Vec<Value>,
     alloc: Global,
-    others: &[Branch<'_>],
+    others: &[Step<'_>],
 ) -> Result<(), AllocError>
-    ensures { OnOk result (map view values.new.items ≡ map view values.old.items ++ map (λ b. flat_node b.row) others.now) }
+    ensures { OnOk result (map view values.new.items ≡ map view values.old.items ++ map (λ s. flat_node s.row) others.now) }
 {
-    'others: for branch in others {
-        push(values, flat_node(alloc, branch.row())?)?;
+    'others: for step in others {
+        push(values, flat_node(alloc, step.row())?)?;
     }
     Ok(())
 }
@@ -131,11 +134,13 @@ fn push_strays(
 fn tree_nodes(table: &Table) -> Result<Vec<Value>, AllocError>
     ensures { IfOk result (λ values. map view values.items ≡ tree_nodes table.now) }
 {
-    let drawn = tree(table)?;
-    let others = strays(table, &drawn)?;
-    let mut values = top_nodes(table.allocator(), table.rows())?;
-    push_deep(&mut values, table.allocator(), &drawn)?;
-    push_strays(&mut values, table.allocator(), &others)?;
+    let alloc = table.allocator();
+    let children = Children::of(table)?;
+    let drawn = tree(alloc, &children)?;
+    let others = strays(alloc, &children, &drawn)?;
+    let mut values = top_nodes(alloc, &children)?;
+    push_deep(&mut values, alloc, &drawn)?;
+    push_strays(&mut values, alloc, &others)?;
     Ok(values)
 }
 

@@ -87,7 +87,7 @@ prop_leads : (r : Bool) (s c p : Option (List ℕ)) (text : List ℕ) (words : L
 prop_leads r s c (Some t) text words later = simp (or-true, and-false)
 prop_leads r s c None text words later = rw (later (given r s c (Some text)), repeated_first (codes "prop=") (codes "prop=" ++ text) words refl) refl
 
--- what holds of a key with what stands behind it, and of a word that has another, holds of the word
+-- what holds of a key with what stands after it, and of a word that has another, holds of the word
 by_key : (word key : List ℕ) (P : List ℕ → Type 0) → P (key ++ drop (length key) word) → (has_key key word ≡ false → P word) → P word
 by_key word key P here other = go (has_key key word) refl
   where

@@ -255,7 +255,7 @@ rooted_text x y ys bytes e t =
     let nonzero : is_nonzero (47 ∷ m.0) ≡ true = sym (ap is_nonzero m.2) ∙ t.nonzero in
     rooted_more x y ys m.0 e is m.1 nonzero
 
--- a word that begins with a slash and is longer stands for a slash and bytes behind it
+-- a word that begins with a slash and is longer stands for a slash and bytes after it
 pub rooted_word : (w : List ℕ) → IsSome (text_length w) → get_or w 0 0 ≡ 47 → (length w ≡ 1 → ⊥) → IsRooted w
 rooted_word [] h e long = let some : 0 < 0 = has_first [] h in absurd (omega arith)
 rooted_word (x ∷ []) h e long = absurd (long refl)

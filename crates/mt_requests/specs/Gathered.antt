@@ -6,7 +6,7 @@ use Rattle.mt_setattr.specs.declared.change.SetWords.{SetWords}
 use Rattle.mt_setattr.specs.declared.change.ClrWords.{ClrWords}
 use Rattle.mt_requests.specs.Options.{has_key, are_options, said, is_recursive}
 
--- the options that were there, with what each says behind its key
+-- the options that were there, with what each says after its key
 pub record Gathered : Type 0 where
   pub recursive : Bool
   pub set : Option (List ℕ)
@@ -17,7 +17,8 @@ pub record Gathered : Type 0 where
 abbrev pub nothing_gathered : Gathered
 nothing_gathered = record { recursive = false; set = None; clr = None; prop = None }
 
--- with one more word, of which what stands behind its key is kept; none where it is no option, or its key was there
+-- with one more word, of which what comes after its key is kept; none if it is not an option, or its key was there
+-- already
 abbrev pub gathered_with : Gathered → List ℕ → Option Gathered
 gathered_with g word =
     if bytes_eq word (codes "rec") then (if g.recursive then None else Some (record g { recursive = true }))
@@ -25,7 +26,7 @@ gathered_with g word =
     else (if has_key (codes "clr=") word then (if is_some g.clr then None else Some (record g { clr = Some (drop 4 word) }))
     else (if has_key (codes "prop=") word then (if is_some g.prop then None else Some (record g { prop = Some (drop 5 word) })) else None)))
 
--- what all words say; none where one is no option, or a key is there twice
+-- what all words say; none if one is not an option, or a key is there twice
 abbrev pub options_of : List (List ℕ) → Option Gathered
 options_of options =
     if are_options options
@@ -37,7 +38,7 @@ options_of options =
     })
     else None
 
--- what is set with one more word; none where it is no attribute that can be set
+-- what is set with one more word; none if it is not an attribute that can be set
 abbrev pub set_with : SetWords → List ℕ → Option SetWords
 set_with s word =
     if bytes_eq word (codes "ro") then Some (record s { ro = true })
@@ -50,7 +51,7 @@ set_with s word =
     else (if bytes_eq word (codes "noatime") then Some (record s { noatime = true })
     else (if bytes_eq word (codes "strictatime") then Some (record s { strictatime = true }) else None))))))))
 
--- what is cleared with one more word; none where it is no attribute that can be cleared
+-- what is cleared with one more word; none if it is not an attribute that can be cleared
 abbrev pub cleared_with : ClrWords → List ℕ → Option ClrWords
 cleared_with c word =
     if bytes_eq word (codes "ro") then Some (record c { ro = true })

@@ -56,6 +56,10 @@ nothing_set = record { ro = false; nosuid = false; nodev = false; noexec = false
 abbrev pub nothing_cleared : ClrWords
 nothing_cleared = record { ro = false; nosuid = false; nodev = false; noexec = false; nosymfollow = false; nodiratime = false; atime = false }
 
+-- nothing is changed
+abbrev pub no_change : Change
+no_change = record { set = nothing_set; clr = nothing_cleared; prop = None; recursive = false }
+
 -- the attributes that are set (mount_setattr(2), attr_set); none where another word is in the list
 abbrev pub set_words : List ℕ → Option SetWords
 set_words list =

@@ -1,6 +1,6 @@
 -- The request that a line says, or why it is refused (the lines are this project's rule).
 -- A word with no source is this project's rule.
-use Rattle.std.specs.Prelude.{◌≡◌, ◌⊎◌, ℕ, ◌<◌, ◌≤◌, Bool, true, false, not, ◌&&◌, ◌||◌, ◌==◌, nat_eq, nat_lt, nat_le, if◌then◌else◌, List, [], ◌∷◌, length, drop, fold, Option, Some, None, unwrap_or, Result, Ok, Err, is_ok, codes}
+use Rattle.std.specs.Prelude.{◌≡◌, ◌⊎◌, ℕ, ◌<◌, ◌≤◌, Bool, true, false, not, ◌&&◌, ◌||◌, ◌==◌, nat_eq, nat_lt, nat_le, if◌then◌else◌, List, [], ◌∷◌, length, drop, fold, Option, Some, None, unwrap_or, is_some, Result, Ok, Err, codes}
 use Rattle.std.specs.List.{list_all, list_any, starts_with}
 use Rattle.std.specs.Option.{option_map, option_map_or, option_or}
 use Rattle.std.specs.Str.{bytes_eq}
@@ -10,11 +10,15 @@ use Rattle.mt_skel.specs.Escapes.{unescaped}
 use Rattle.mt_skel.specs.Names.{is_name}
 use Rattle.mt_skel.specs.Outcome.{refuse_if, first_fault}
 use Rattle.mt_lines.specs.Words.{pieces, words, number_in_text}
-use Rattle.mt_protocol.specs.Verbs.{verb_of, first_of}
+use Rattle.mt_protocol.specs.Verbs.{verb_of, verb_arguments, first_of, is_optional, most_taken, most_followed}
+use Rattle.mt_protocol.specs.declared.argument.Argument.{Argument}
+use Rattle.mt_protocol.specs.declared.argument.Argument.TheVariants.{Space, Scope as Scoped, Count, Label, Path, Less, Setting}
 use Rattle.mt_protocol.specs.declared.verb.Verb.{Verb}
 use Rattle.mt_protocol.specs.declared.verb.Verb.TheVariants as verb
+use Rattle.mt_events.specs.declared.opening.Scope.{Scope}
 use Rattle.mt_events.specs.declared.opening.Scope.TheVariants.{One, All}
-use Rattle.mt_requests.specs.Options.{change_of}
+use Rattle.mt_setattr.specs.declared.change.Change.{Change}
+use Rattle.mt_requests.specs.Options.{no_change, change_of}
 use Rattle.mt_book.specs.declared.command.Command.{Command}
 use Rattle.mt_book.specs.declared.command.Command.TheVariants as command
 use Rattle.mt_requests.specs.declared.request.Request.{Request}
@@ -73,149 +77,91 @@ prior_of_two a b = if is_bad_line a then a else (if is_bad_line b then b else (i
 abbrev pub prior_fault : List (Option Fault) → Option Fault
 prior_fault faults = fold prior_of_two None faults
 
--- none of a line's words has a fault
-abbrev pub HasNoFault : List (Option Fault) → Type 0
-HasNoFault [] = Unit {0}
-HasNoFault (f ∷ fs) = (f ≡ None) × HasNoFault fs
+-- a bad line, unless something is right
+abbrev pub bad_unless : Bool → Option Fault
+bad_unless right = refuse_if (not right) BadLine
 
--- what a line says, unless there is a fault
-abbrev pub said_unless : {A : Type 0} → Option Fault → A → Result A Fault
-said_unless fault said = option_map_or (λ f. Err f) fault (Ok said)
-
--- the request that is made of what a line says, unless that is refused
-abbrev pub request_from : {A : Type 0} → (A → Request) → Result A Fault → Result Request Fault
-request_from make (Ok said) = Ok (make said)
-request_from make (Err f) = Err f
-
--- what was read is what a line says, or want of memory in place of what is not refused
-abbrev pub Reads : {A : Type 0} → Result A Fault → Result A Fault → Type 0
-Reads said read = (read ≡ said) ⊎ ((read ≡ Err NoMemory) × (is_ok said ≡ true))
-
--- `mkfs NAME TYPE SOURCE` makes a filesystem
-abbrev pub mkfs_of : List (List ℕ) → Result Request Fault
-mkfs_of (name ∷ kind ∷ source ∷ []) =
-    said_unless (prior_fault (label_fault name ∷ label_fault kind ∷ label_fault source ∷ []))
-    (request.Run (command.MakeFs (label_bytes name) (label_bytes kind) (label_bytes source)))
-mkfs_of _ = Err BadLine
-
--- `mkdir FS DIR` makes a directory of a filesystem
-abbrev pub mkdir_of : List (List ℕ) → Result Request Fault
-mkdir_of (fs ∷ dir ∷ []) =
-    said_unless (prior_fault (label_fault fs ∷ path_fault dir ∷ [])) (request.Run (command.MakeDir (label_bytes fs) (path_names dir)))
-mkdir_of _ = Err BadLine
-
--- `newns FS` makes a namespace
-abbrev pub newns_of : List (List ℕ) → Result Request Fault
-newns_of (fs ∷ []) = said_unless (label_fault fs) (request.Run (command.NewSpace (label_bytes fs)))
-newns_of _ = Err BadLine
-
--- a copy of the namespace that a word names, less privileged or not
-abbrev pub copy_said : Bool → List ℕ → Result Request Fault
-copy_said less space = option_map_or (λ n. Ok (request.Run (command.CopySpace n less))) (number_in_text space) (Err BadLine)
-
--- `copyns NS` makes a namespace that is a copy of another, and `copyns NS less` a less privileged one
-abbrev pub copyns_of : List (List ℕ) → Result Request Fault
-copyns_of (space ∷ []) = copy_said false space
-copyns_of (space ∷ word ∷ []) = if bytes_eq word (codes "less") then copy_said true space else Err BadLine
-copyns_of _ = Err BadLine
-
--- `dropns NS` ends a namespace
-abbrev pub dropns_of : List (List ℕ) → Result Request Fault
-dropns_of (space ∷ []) = option_map_or (λ n. Ok (request.Run (command.DropSpace n))) (number_in_text space) (Err BadLine)
-dropns_of _ = Err BadLine
-
--- the namespace that a line names, and the two words behind it; without them, or with a bad number, it is a bad line, which comes
--- before every other fault
-abbrev pub space_and_two : List (List ℕ) → Option (ℕ × List ℕ × List ℕ)
-space_and_two (space ∷ first ∷ second ∷ []) = option_map (λ n. (n, first, second)) (number_in_text space)
-space_and_two _ = None
-
--- `mount NS FS PATH` mounts a filesystem in a namespace
-abbrev pub mount_of : List (List ℕ) → Result Request Fault
-mount_of words =
-    option_map_or (λ (space, fs, path). said_unless (prior_fault (label_fault fs ∷ path_fault path ∷ []))
-    (request.Run (command.Mount space (label_bytes fs) (path_names path))))
-    (space_and_two words) (Err BadLine)
-
--- the namespace and the two paths that a line says
-abbrev pub two_paths_of : List (List ℕ) → Result (ℕ × List (List ℕ) × List (List ℕ)) Fault
-two_paths_of words =
-    option_map_or (λ (space, src, dst). said_unless (prior_fault (path_fault src ∷ path_fault dst ∷ [])) (space, path_names src, path_names dst))
-    (space_and_two words) (Err BadLine)
-
--- `bind NS SRC DST` binds a mount, and `rbind NS SRC DST` a tree of mounts
-abbrev pub bind_of : Bool → List (List ℕ) → Result Request Fault
-bind_of recursive words = request_from (λ (space, src, dst). request.Run (command.Bind space src dst recursive)) (two_paths_of words)
-
--- `move NS SRC DST` moves a tree of mounts
-abbrev pub move_of : List (List ℕ) → Result Request Fault
-move_of words = request_from (λ (space, src, dst). request.Run (command.Move space src dst)) (two_paths_of words)
-
--- `pivot NS NEW OLD` gives a namespace another root mount, and the old one a place below it
-abbrev pub pivot_of : List (List ℕ) → Result Request Fault
-pivot_of words = request_from (λ (space, new, old). request.Run (command.Pivot space new old)) (two_paths_of words)
-
--- the namespace and the path that a line says
-abbrev pub one_path_of : List (List ℕ) → Result (ℕ × List (List ℕ)) Fault
-one_path_of (space ∷ path ∷ []) = option_map_or (λ n. said_unless (path_fault path) (n, path_names path)) (number_in_text space) (Err BadLine)
-one_path_of _ = Err BadLine
-
--- `umount NS PATH` unmounts
-abbrev pub umount_of : List (List ℕ) → Result Request Fault
-umount_of words = request_from (λ (space, path). request.Run (command.Unmount space path)) (one_path_of words)
-
--- `detach NS PATH` unmounts with all below
-abbrev pub detach_of : List (List ℕ) → Result Request Fault
-detach_of words = request_from (λ (space, path). request.Run (command.Detach space path)) (one_path_of words)
-
--- `setattr NS PATH [rec] [set=W,..] [clr=W,..] [prop=K]` changes a mount, or all below it too; the options come in any order
-abbrev pub setattr_of : List (List ℕ) → Result Request Fault
-setattr_of (space ∷ path ∷ options) =
-    option_map_or (λ n. option_map_or (λ change. said_unless (path_fault path) (request.Run (command.SetAttr n (path_names path) change))) (change_of options) (Err BadLine))
-    (number_in_text space) (Err BadLine)
-setattr_of _ = Err BadLine
-
--- `show NS` shows a namespace
-abbrev pub show_of : List (List ℕ) → Result Request Fault
-show_of (space ∷ []) = option_map_or (λ n. Ok (request.Show n)) (number_in_text space) (Err BadLine)
-show_of _ = Err BadLine
-
--- `find NS PATH` says where a path ends
-abbrev pub find_of : List (List ℕ) → Result Request Fault
-find_of words = request_from (λ (space, path). request.Find space path) (one_path_of words)
-
--- a line of one word asks for this, with nothing behind the word
-abbrev pub one_word : Request → List (List ℕ) → Result Request Fault
-one_word r [] = Ok r
-one_word r _ = Err BadLine
-
--- `watch NS` watches a namespace, and `watch all` all of them
-abbrev pub watch_of : List (List ℕ) → Result Request Fault
-watch_of (space ∷ []) =
-    if bytes_eq space (codes "all") then Ok (request.Watch All)
-    else option_map_or (λ n. Ok (request.Watch (One n))) (number_in_text space) (Err BadLine)
-watch_of _ = Err BadLine
-
--- the most posts of one `take`, and of one `follow`
-abbrev pub most_taken : ℕ
-most_taken = 1024
-
-abbrev pub most_followed : ℕ
-most_followed = 1048576
+-- the namespaces that a word names: all, or one by its number
+abbrev pub scope_of : List ℕ → Option Scope
+scope_of word = if bytes_eq word (codes "all") then Some All else option_map (λ n. One n) (number_in_text word)
 
 -- how many posts a word asks for, of at most so many and at least one
 abbrev pub count_of : ℕ → List ℕ → Option ℕ
 count_of most word = option_map_or (λ n. if nat_lt 0 n && nat_le n most then Some n else None) (number_in_text word) None
 
--- `take K` takes posts
-abbrev pub take_of : List (List ℕ) → Result Request Fault
-take_of (count ∷ []) = option_map_or (λ n. Ok (request.Take n)) (count_of most_taken count) (Err BadLine)
-take_of _ = Err BadLine
+-- why a word cannot stand as an argument; options have no fault of their own, since they are read together
+abbrev pub word_fault : Argument → List ℕ → Option Fault
+word_fault Space word = bad_unless (is_some (number_in_text word))
+word_fault Scoped word = bad_unless (is_some (scope_of word))
+word_fault (Count most) word = bad_unless (is_some (count_of most word))
+word_fault Label word = label_fault word
+word_fault Path word = path_fault word
+word_fault Less word = bad_unless (bytes_eq word (codes "less"))
+word_fault Setting word = None
 
--- `follow K` takes posts as they come
-abbrev pub follow_of : List (List ℕ) → Result Request Fault
-follow_of (count ∷ []) = option_map_or (λ n. Ok (request.Follow n)) (count_of most_followed count) (Err BadLine)
-follow_of _ = Err BadLine
+-- there is a word for each argument, but for those that may be left out, and none besides
+abbrev pub are_counted : List Argument → List (List ℕ) → Bool
+are_counted arguments [] = list_all is_optional arguments
+are_counted [] (word ∷ words) = false
+are_counted (argument ∷ arguments) (word ∷ words) = are_counted arguments words
+
+-- the faults of words, each by its argument, and of the options, which are the last
+abbrev pub word_faults : List Argument → List (List ℕ) → List (Option Fault)
+word_faults (Setting ∷ arguments) options = bad_unless (is_some (change_of options)) ∷ []
+word_faults (argument ∷ arguments) (word ∷ words) = word_fault argument word ∷ word_faults arguments words
+word_faults arguments words = []
+
+-- why the words behind a verb are refused
+abbrev pub words_fault : List Argument → List (List ℕ) → Option Fault
+words_fault arguments words = if are_counted arguments words then prior_fault (word_faults arguments words) else Some BadLine
+
+-- what words say that are right
+abbrev pub number_said : List ℕ → ℕ
+number_said word = unwrap_or (number_in_text word) 0
+
+abbrev pub scope_said : List ℕ → Scope
+scope_said word = unwrap_or (scope_of word) All
+
+abbrev pub change_said : List (List ℕ) → Change
+change_said options = unwrap_or (change_of options) no_change
+
+-- the words behind a verb, and the options behind two of them
+abbrev pub second_of : List (List ℕ) → List ℕ
+second_of words = first_of (drop 1 words)
+
+abbrev pub options_behind : List (List ℕ) → List (List ℕ)
+options_behind words = drop 1 (drop 1 words)
+
+abbrev pub third_of : List (List ℕ) → List ℕ
+third_of words = first_of (options_behind words)
+
+-- the request of a verb and the words behind it, where each can stand there
+abbrev pub request_with : Verb → List (List ℕ) → Request
+request_with verb.Mkfs w = request.Run (command.MakeFs (label_bytes (first_of w)) (label_bytes (second_of w)) (label_bytes (third_of w)))
+request_with verb.Mkdir w = request.Run (command.MakeDir (label_bytes (first_of w)) (path_names (second_of w)))
+request_with verb.Newns w = request.Run (command.NewSpace (label_bytes (first_of w)))
+request_with verb.Copyns w = request.Run (command.CopySpace (number_said (first_of w)) (bytes_eq (second_of w) (codes "less")))
+request_with verb.Dropns w = request.Run (command.DropSpace (number_said (first_of w)))
+request_with verb.Mount w = request.Run (command.Mount (number_said (first_of w)) (label_bytes (second_of w)) (path_names (third_of w)))
+request_with verb.Bind w = request.Run (command.Bind (number_said (first_of w)) (path_names (second_of w)) (path_names (third_of w)) false)
+request_with verb.Rbind w = request.Run (command.Bind (number_said (first_of w)) (path_names (second_of w)) (path_names (third_of w)) true)
+request_with verb.Move w = request.Run (command.Move (number_said (first_of w)) (path_names (second_of w)) (path_names (third_of w)))
+request_with verb.Pivot w = request.Run (command.Pivot (number_said (first_of w)) (path_names (second_of w)) (path_names (third_of w)))
+request_with verb.Umount w = request.Run (command.Unmount (number_said (first_of w)) (path_names (second_of w)))
+request_with verb.Detach w = request.Run (command.Detach (number_said (first_of w)) (path_names (second_of w)))
+request_with verb.Setattr w = request.Run (command.SetAttr (number_said (first_of w)) (path_names (second_of w)) (change_said (options_behind w)))
+request_with verb.Show w = request.Show (number_said (first_of w))
+request_with verb.Find w = request.Find (number_said (first_of w)) (path_names (second_of w))
+request_with verb.Watch w = request.Watch (scope_said (first_of w))
+request_with verb.Take w = request.Take (number_said (first_of w))
+request_with verb.Follow w = request.Follow (number_said (first_of w))
+request_with verb.Close w = request.Close
+request_with verb.Quit w = request.Quit
+request_with verb.Stop w = request.Stop
+
+-- what the words behind a verb ask for, or why they are refused
+abbrev pub read_by : Verb → List (List ℕ) → Result Request Fault
+read_by v words = option_map_or (λ f. Err f) (words_fault (verb_arguments v) words) (Ok (request_with v words))
 
 -- a `take` asks for at least one post and for at most 1,024, and a `follow` for at least one and at most 1,048,576
 abbrev pub HasRightCount : Request → Type 0
@@ -223,31 +169,15 @@ HasRightCount (request.Take k) = (0 < k) × (k ≤ most_taken)
 HasRightCount (request.Follow k) = (0 < k) × (k ≤ most_followed)
 HasRightCount r = Unit {0}
 
--- how the words behind a verb are read; `close` ends the watcher, `quit` the session, and `stop` the server
-abbrev pub read_by : Verb → List (List ℕ) → Result Request Fault
-read_by verb.Mkfs = mkfs_of
-read_by verb.Mkdir = mkdir_of
-read_by verb.Newns = newns_of
-read_by verb.Copyns = copyns_of
-read_by verb.Dropns = dropns_of
-read_by verb.Mount = mount_of
-read_by verb.Bind = bind_of false
-read_by verb.Rbind = bind_of true
-read_by verb.Move = move_of
-read_by verb.Pivot = pivot_of
-read_by verb.Umount = umount_of
-read_by verb.Detach = detach_of
-read_by verb.Setattr = setattr_of
-read_by verb.Show = show_of
-read_by verb.Find = find_of
-read_by verb.Watch = watch_of
-read_by verb.Take = take_of
-read_by verb.Follow = follow_of
-read_by verb.Close = one_word request.Close
-read_by verb.Quit = one_word request.Quit
-read_by verb.Stop = one_word request.Stop
+-- the labels and the paths among words have no fault
+abbrev pub AreTexts : List Argument → List (List ℕ) → Type 0
+AreTexts [] words = Unit {0}
+AreTexts (Setting ∷ arguments) words = Unit {0}
+AreTexts (Label ∷ arguments) words = (label_fault (first_of words) ≡ None) × AreTexts arguments (drop 1 words)
+AreTexts (Path ∷ arguments) words = (path_fault (first_of words) ≡ None) × AreTexts arguments (drop 1 words)
+AreTexts (argument ∷ arguments) words = AreTexts arguments (drop 1 words)
 
--- the verb of a line chooses how the words behind it are read; without one it is a bad line
+-- the verb of a line says how the words behind it are read; without one it is a bad line
 abbrev pub by_words : List (List ℕ) → Result Request Fault
 by_words [] = Err BadLine
 by_words (word ∷ rest) = option_map_or (λ v. read_by v rest) (verb_of word) (Err BadLine)

@@ -1,4 +1,4 @@
-//! Labels, as words say them.
+//! Labels, as words give them.
 ghost use Rattle.std.specs.Prelude.{◌≡◌, ◌==◌, None, IfOk, IsOkUnless};
 ghost use Rattle.std.specs.List.{list_any};
 ghost use Rattle.mt_requests.specs.Requests.{text_length, label_fault, label_bytes};
@@ -17,7 +17,7 @@ pub(crate) fn has_byte(bytes: &[u8], byte: u8) -> bool
 
 /// How many bytes a word stands for. Takes no memory.
 ///
-/// None where it is empty, has a zero byte, or has a backslash that begins no escape.
+/// `None` if it is empty, has a zero byte, or has a backslash that begins no escape.
 pub(crate) fn text_length(word: &[u8]) -> Option<usize>
     ensures { result ≡ text_length word.now }
 {
@@ -27,7 +27,7 @@ pub(crate) fn text_length(word: &[u8]) -> Option<usize>
     unescaped_len(word)
 }
 
-/// Why a word is no label, if it is none. Takes no memory.
+/// Why a word is not a label, if it is not. Takes no memory.
 pub(crate) fn label_fault(word: &[u8]) -> Option<Fault>
     ensures { result ≡ label_fault word.now }
 {
@@ -38,7 +38,7 @@ pub(crate) fn label_fault(word: &[u8]) -> Option<Fault>
     }
 }
 
-/// The label that a word without a fault says: the word itself, where it has no escape. Refused as `NoMemory` alone.
+/// The label that a word without a fault gives: the word itself, if it has no escape.
 pub(crate) fn label_of(alloc: Global, word: &[u8]) -> Result<Label, Fault>
     requires { label_fault word.now ≡ None }
     ensures label { IfOk result (λ label. label ≡ label_bytes word.now) }

@@ -1,16 +1,15 @@
 //! Requests, as the lines of a session say them.
 //!
-//! [`request::read_request`] takes the words of a line apart and makes a [`request::Request`] of
-//! them, or says why there is none.
+//! [`request::read_request`] makes a [`request::Request`] of a line, or says why there is none: the table of lines
+//! (mt_protocol) says what each word behind the verb is, and [`arguments`] whether it can stand there.
 //!
-//! Its words are read by [`label`] and [`path`], and those of a `setattr` line by [`options`]; [`watching`] reads the
-//! lines of watchers. [`help`] says all lines in words, and [`laws`] has what is true of them.
+//! Labels and paths are read by [`label`] and [`path`], and the options of a `setattr` line by [`options`]. [`laws`] has what is
+//! true of all lines.
 #![tactic(auto)]
 
-pub mod help;
+pub mod arguments;
 mod label;
 pub mod laws;
 pub mod options;
 mod path;
 pub mod request;
-mod watching;

@@ -2,7 +2,7 @@
 ghost use Rattle.std.specs.Prelude.{◌≡◌, Some, None};
 ghost use Rattle.std.specs.Option.{option_copied, option_map, option_map_or};
 ghost use Rattle.mt_requests.specs.Gathered.{nothing_gathered, gathered_with, options_of, set_with, cleared_with};
-ghost use Rattle.mt_requests.specs.Options.{nothing_set, nothing_cleared, set_words, clr_words, kind_of, change_of};
+ghost use Rattle.mt_requests.specs.Options.{nothing_set, nothing_cleared, no_change, set_words, clr_words, kind_of, change_of};
 
 use mt_lines::words::{Pieces, Words};
 use mt_peers::state::Kind;
@@ -123,6 +123,18 @@ fn nothing_cleared() -> ClrWords
         nosymfollow: false,
         nodiratime: false,
         atime: false,
+    }
+}
+
+/// A change of nothing.
+pub(crate) fn no_change() -> Change
+    ensures { result ≡ no_change }
+{
+    Change {
+        set: nothing_set(),
+        clr: nothing_cleared(),
+        prop: None,
+        recursive: false,
     }
 }
 

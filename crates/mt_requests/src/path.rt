@@ -1,4 +1,4 @@
-//! Paths, as words say them.
+//! Paths, as words give them.
 ghost use Rattle.std.specs.Prelude.{◌≡◌, ◌&&◌, not, nat_eq, nat_lt, false, true, codes, length, map, None, IsSome, IfOk, IsOkUnless};
 ghost use Rattle.std.specs.List.{list_any, list_all};
 ghost use Rattle.std.specs.Option.{option_map_or};
@@ -53,7 +53,7 @@ fn has_only_components(text: &[u8]) -> bool
     Pieces::new(b'/', text).all(|piece| is_component(piece))
 }
 
-/// Why a word is no path, if it is none. Takes no memory.
+/// Why a word is not a path, if it is not. Takes no memory.
 #[tactic(auto, using(crate::proofs::PathLaws::long_pieces))]
 pub(crate) fn path_fault(word: &[u8]) -> Option<Fault>
     ensures { result ≡ path_fault word.now }
@@ -86,7 +86,7 @@ fn is_path(word: &[u8]) -> bool
     has_only_components(&word[1..])
 }
 
-/// The name that a piece of a word says. Refused as `NoMemory` alone.
+/// The name that a piece of a word gives.
 fn name_of(alloc: Global, piece: &[u8]) -> Result<Name, Fault>
     requires { option_map_or is_name (unescaped piece.now) false ≡ true }
     ensures name { IfOk result (λ name. name ≡ label_bytes piece.now) }
@@ -99,7 +99,7 @@ fn name_of(alloc: Global, piece: &[u8]) -> Result<Name, Fault>
     }
 }
 
-/// The names that stand between slashes: as they are, where the text has no escape. Refused as `NoMemory` alone.
+/// The names between slashes: as they are, if the text has no escape.
 fn names_between(alloc: Global, text: &[u8]) -> Result<Names, Fault>
     requires { list_all (λ piece. option_map_or is_name (unescaped piece) false) (pieces 47 text.now) ≡ true }
     ensures names { IfOk result (λ names. names ≡ map label_bytes (pieces 47 text.now)) }
@@ -117,7 +117,7 @@ fn names_between(alloc: Global, text: &[u8]) -> Result<Names, Fault>
     Ok(names)
 }
 
-/// The names of the path that a word without a fault says. Refused as `NoMemory` alone.
+/// The names of the path that a word without a fault gives.
 pub(crate) fn path_of(alloc: Global, word: &[u8]) -> Result<Names, Fault>
     requires { path_fault word.now ≡ None }
     ensures names { IfOk result (λ names. names ≡ path_names word.now) }

@@ -3,13 +3,14 @@ use crate::connections::Connections;
 use crate::parting::{part, turn_away};
 use crate::patient::Patient;
 use crate::patient_writer::PatientWriter;
-use mt_desk::desk::Desk;
-use mt_desk::lines::Naming;
+use mt_desk::desk::{Desk, DeskWitness};
+use mt_desk::lines::{Host, Naming};
 use mt_lines::line::LineReader;
 use mt_session::bell::Bell;
 use mt_session::gate::Gate;
 use mt_session::serving::LINE_LIMIT;
 use mt_session::shared_serving::serve_shared;
+use mt_session::shared_session::SharedSession;
 use mt_skel::fault::Fault;
 use std::alloc::{AllocError, Global};
 use std::io;
@@ -33,6 +34,8 @@ pub struct Premises<'a, Name: Naming, Moments> {
     pub path: &'a str,
     /// The desk of all sessions.
     pub desk: &'a Mutex<Desk<Name>>,
+    /// Who lets sessions in at the desk. No session is lent it.
+    pub host: &'a Host<Name>,
     /// Where sessions that follow rest.
     pub bell: &'a Bell,
     /// The most sessions at once.
@@ -124,6 +127,15 @@ impl<'a, Name: Naming, Moments: Gate> House<'a, Name, Moments> {
         }
     }
 
+    /// Lets a session in at the desk, in a turn of its own.
+    fn admit<Runtime: Wait>(&self, rt: &Runtime) -> DeskWitness<Name> {
+        let turns = self.premises.bell.turns();
+        turns.begin(rt);
+        let witness = self.premises.desk.lock(rt).admit(self.premises.host);
+        turns.end(rt);
+        witness
+    }
+
     /// Serves the lines of a connection; nothing where there is no memory for a reader of lines.
     fn answer<Runtime>(&self, rt: &Runtime, alloc: Global, number: u64, stream: &UnixStream)
     where
@@ -134,6 +146,7 @@ impl<'a, Name: Naming, Moments: Gate> House<'a, Name, Moments> {
             return;
         };
         let mut writer = PatientWriter::new(rt, stream, self.premises.idle);
+        let mut session = SharedSession::new(alloc, self.admit(rt));
         let _end = serve_shared(
             rt,
             alloc,
@@ -143,6 +156,7 @@ impl<'a, Name: Naming, Moments: Gate> House<'a, Name, Moments> {
             self.premises.desk,
             self.premises.bell,
             &Doorkeeper { house: self },
+            &mut session,
         );
     }
 
@@ -189,7 +203,10 @@ impl<'a, Name: Naming, Moments: Gate> House<'a, Name, Moments> {
     fn stop<Runtime: Wait>(&self, rt: &Runtime) {
         let turns = self.premises.bell.turns();
         turns.begin(rt);
-        self.premises.desk.lock(rt).stop();
+        let mut desk = self.premises.desk.lock(rt);
+        let mut witness = desk.admit(self.premises.host);
+        desk.stop(&mut witness);
+        drop(desk);
         turns.end(rt);
     }
 

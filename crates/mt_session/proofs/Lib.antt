@@ -1,8 +1,11 @@
 pub mod PassLaws
 pub mod TurnLaws
 pub mod SessionLaws
+pub mod SightLaws
 pub mod SharedLaws
 pub mod WatcherLaws
+pub mod HistoryLaws
+pub mod LeftLaws
 pub mod SharedLineLaws
 pub mod GivingLaws
 pub mod FollowLaws

@@ -1,7 +1,7 @@
 -- What a request finds at a desk whose watchers take, and what the calls of a desk answer to it.
-use Rattle.std.proofs.Common.{◌≡◌, ◌≢◌, ◌≤◌, ◌∙◌, ℕ, zero, suc, List, [], ◌∷◌, ◌++◌, length, replicate, Option, Some, None, Ok, Err, refl, sym, ap, subst, arith, inl, inr, ◌⊎◌, Result, IfOk}
+use Rattle.std.proofs.Common.{◌≡◌, ◌≢◌, ◌≤◌, ◌∙◌, ℕ, zero, suc, List, [], ◌∷◌, ◌++◌, length, replicate, Option, Some, None, Ok, Err, refl, sym, ap, subst, arith, inl, inr, ◌⊎◌, Result, IfOk, OnOk, OnErr}
 use Rattle.std.specs.Option.{ForSome, option_map_or}
-use Rattle.std.proofs.lemmas.List.{same_from_push}
+use Rattle.std.proofs.lemmas.List.{append-nil, same_from_push}
 use Rattle.mt_skel.specs.declared.fault.Fault.{Fault}
 use Rattle.mt_skel.specs.declared.fault.Fault.TheVariants.{NoMemory, NoWatcher}
 use Rattle.mt_skel.specs.Keyed.{row_at}
@@ -12,7 +12,7 @@ use Rattle.mt_events.specs.declared.opening.Scope.{Scope}
 use Rattle.mt_book.specs.declared.command.Command.{Command}
 use Rattle.mt_book.specs.declared.command.Reply.{Reply}
 use Rattle.mt_requests.specs.declared.request.Request.{Request}
-use Rattle.mt_requests.specs.declared.request.Request.TheVariants.{Watch, Close as AsksClose}
+use Rattle.mt_requests.specs.declared.request.Request.TheVariants.{Run, Watch, Close as AsksClose}
 use Rattle.mt_floor.specs.declared.event.Event.{Event}
 use Rattle.mt_floor.specs.declared.event.Event.TheVariants.{Apply, Open, Take, Close}
 use Rattle.mt_floor.specs.declared.event.Answer.{Answer}
@@ -27,9 +27,15 @@ use Rattle.mt_session.specs.Answers.{refusal, reply_text}
 use Rattle.mt_session.specs.Requests.{replied_text, opened_text, closed_text, answer_to, SessionState}
 use Rattle.mt_session.specs.declared.serving.End.TheVariants.{Memory}
 use Rattle.mt_session.specs.declared.shared_answer.Then.{Then}
-use Rattle.mt_session.specs.SharedTurns.{floor_seen, with_taken_posts, IsBegun, IsUndoneBy, HasTaken}
-use Rattle.mt_session.specs.SharedSession.{HasLeft}
+use Rattle.mt_history.specs.declared.act.Act.{Act}
+use Rattle.mt_history.specs.declared.act.Act.TheVariants as act
+use Rattle.mt_history.specs.declared.act.LogEntry.{LogEntry}
+use Rattle.mt_history.specs.Entries.{WitnessView, entries}
+use Rattle.mt_desk.specs.Held.{HeldView, IsLogged}
+use Rattle.mt_session.specs.SharedTurns.{SharedView, IsAtDesk, SeesOn, accepted_act, acts_at, floor_seen, found_state, with_taken_posts, IsBegun, IsDoneBy, IsUndoneBy, HasTaken, HasEnded}
+use Rattle.mt_session.specs.SharedSession.{IsAnsweredAt, IsNotDoneAt, HasLeft}
 use Rattle.mt_session.specs.SharedServing.{HasEndedAt, EndsWith, IsPiece}
+use Rattle.mt_session.proofs.SightLaws.{sees_at}
 use Rattle.mt_session.proofs.TurnLaws.{apply_told, apply_refused, open_told, open_found, open_refused, close_posts}
 
 -- ---- A floor that only takes
@@ -140,22 +146,86 @@ lost_posts own own' w w' posts most is is' taken within run = λ v at.
     let same : w ≡ v = let both = sym is ∙ at in cc in
     rw (← same) (posts, w', (w.half.told, omega arith, taken, rw taken at run), is', within)
 
--- a session has ended its watcher, and so has left the desk
-pub end_left : (w : Option WatcherView) (posts : Option (List PostView)) → HasEndedAt w posts → HasLeft w
-end_left None posts h = tt
-end_left (Some w) None h = absurd h.3
-end_left (Some w) (Some posts) h = (h.0, posts, h.1, h.2, h.3.0, h.3.1)
+-- ---- What is done while the desk is held
 
--- and is told what had been sent and not taken: the answer to a `close`
-pub close_told : (w w' : Option WatcherView) (posts : Option (List PostView)) (p : Option (List ℕ)) (n : Then) → HasEndedAt w posts → w' ≡ None → (posts ≡ None → EndsWith (refusal NoWatcher) None p n)
-    → ForSome posts (λ told. EndsWith (posts_text told) None p n ⊎ EndsWith (refusal NoMemory) (Some Memory) p n) → IsPiece w AsksClose [] p n w'
+-- an answer of so many acts, of which the session has seen the end
+pub locked_answered : (s s' : SharedView) (r : Request) (d now : HeldView) (answer : Result (List ℕ) Fault)
+    → IsAtDesk s.sight d.desk d.log → IfOk answer (λ text. text ≡ answer_to (found_state d.desk s.own) r) → OnOk answer (IsDoneBy d.desk s.own r now.desk s'.own)
+    → OnOk answer (now.log ≡ d.log ++ entries s.sight.by (acts_at d.desk r)) → s'.sight ≡ record s.sight { seen = now.log } → IfOk answer (λ text. IsAnsweredAt s r text s')
+locked_answered s s' r d now (Ok text) at told done log sight = record {
+  desk = d.desk;
+  log = d.log;
+  now = now.desk;
+  kept = at;
+  done = done;
+  sight = sight ∙ ap (λ (l : List LogEntry). record s.sight { seen = l }) log;
+  answer = told;
+}
+locked_answered s s' r d now (Err f) at told done log sight = told
+
+pub locked_undone : (s s' : SharedView) (r : Request) (d now : HeldView) (answer : Result (List ℕ) Fault)
+    → IsAtDesk s.sight d.desk d.log → OnErr answer (IsUndoneBy d.desk s.own r now.desk s'.own) → OnErr answer (now.log ≡ d.log) → s'.sight ≡ record s.sight { seen = now.log } → OnErr answer (IsNotDoneAt s r s')
+locked_undone s s' r d now (Ok text) at undone log sight = undone
+locked_undone s s' r d now (Err f) at undone log sight =
+    record { desk = d.desk; log = d.log; now = now.desk; kept = at; undone = undone; sight = sight ∙ ap (λ (l : List LogEntry). record s.sight { seen = l }) log }
+
+-- an accepted command, and a refused one
+pub applied_acts : (d now : DeskView) (c : Command) (reply : Reply) → IsApplied d c reply now → acts_at d (Run c) ≡ act.Apply c ∷ []
+applied_acts d now c reply a =
+    let s : FloorView = floor_of_desk d in
+    let answers : ◌≡◌ {A = List (Result Answer Fault)} ((floor_step s (Apply c)).1 ∷ (run (floor_step s (Apply c)).0 a.sends).1) (Ok (Replied reply) ∷ a.told) = ap (λ (p : FloorView × List (Result Answer Fault)). p.1) a.schedule in
+    let first : (floor_step s (Apply c)).1 ≡ Ok (Replied reply) = cc in
+    ap (accepted_act c) first
+
+pub refused_acts : (d : DeskView) (c : Command) (f : Fault) → floor_step (floor_of_desk d) (Apply c) ≡ (floor_of_desk d, Err f) → acts_at d (Run c) ≡ []
+refused_acts d c f is = ap (λ (p : FloorView × Result Answer Fault). accepted_act c p.1) is
+
+-- nothing comes to the history
+pub same_log : (log now : List LogEntry) (by : ℕ) (acts : List Act) → now ≡ log → acts ≡ [] → now ≡ log ++ entries by acts
+same_log log now by acts same none = same ∙ sym (append-nil log) ∙ ap (λ (as' : List Act). log ++ entries by as') (sym none)
+
+pub refused_log : (d now : HeldView) (by : ℕ) (c : Command) (f : Fault) (r : Result (List ℕ) Fault) → now ≡ d → (f ≢ NoMemory → floor_step (floor_of_desk d.desk) (Apply c) ≡ (floor_of_desk d.desk, Err f))
+    → IfOk r (λ text. (text ≡ refusal f) × (f ≢ NoMemory)) → OnOk r (now.log ≡ d.log ++ entries by (acts_at d.desk (Run c)))
+refused_log d now by c f (Ok text) same step told = same_log d.log now.log by (acts_at d.desk (Run c)) (ap (λ (v : HeldView). v.log) same) (refused_acts d.desk c f (step told.1))
+refused_log d now by c f (Err g) same step told = told
+
+-- ---- A session that ends its watcher
+
+ended_left : (d now : DeskView) (w : Option WatcherView) (posts : Option (List PostView)) (seen : List LogEntry) → IsDesk d → IsLogged d seen → HasEnded d w posts now → HasLeft w seen
+ended_left d now None posts seen kept logged h = (d, kept, logged)
+ended_left d now (Some w) None seen kept logged h = absurd h
+ended_left d now (Some w) (Some posts) seen kept logged h = (d, posts, now, kept, logged, h.0, h.1)
+
+-- it has seen the history so far
+ended_seen : (s : SharedView) (posts : Option (List PostView)) (v' : WitnessView) (h : HasEndedAt s posts v') → IsLogged h.desk v'.seen
+ended_seen s posts v' h = subst (λ (l : List LogEntry). IsLogged h.desk l) (sym (ap (λ (v : WitnessView). v.seen) h.sight)) h.kept.1
+
+-- and so has left the desk
+pub end_left : (s : SharedView) (posts : Option (List PostView)) (v' : WitnessView) → HasEndedAt s posts v' → HasLeft s.own v'.seen
+end_left s posts v' h = ended_left h.desk h.now s.own posts v'.seen h.kept.0 (ended_seen s posts v' h) h.ended
+
+pub end_sees : (s : SharedView) (posts : Option (List PostView)) (v' : WitnessView) → HasEndedAt s posts v' → SeesOn s.sight v'
+end_sees s posts v' h = sees_at s.sight v' h.desk h.log h.kept h.sight
+
+-- a close comes to nothing in the history
+close_sight : (s : SharedView) (posts : Option (List PostView)) (v' : WitnessView) (h : HasEndedAt s posts v') → v' ≡ record s.sight { seen = h.log ++ entries s.sight.by (acts_at h.desk AsksClose) }
+close_sight s posts v' h = h.sight ∙ ap (λ (l : List LogEntry). record s.sight { seen = l }) (sym (append-nil h.log))
+
+-- it is told what had been sent and not taken: the answer to a `close`
+pub close_told : (w : Option WatcherView) (v : WitnessView) (s' : SharedView) (posts : Option (List PostView)) (p : Option (List ℕ)) (n : Then)
+    → HasEndedAt (record { own = w; sight = v }) posts s'.sight → s'.own ≡ None → (posts ≡ None → EndsWith (refusal NoWatcher) None p n)
+    → ForSome posts (λ told. EndsWith (posts_text told) None p n ⊎ EndsWith (refusal NoMemory) (Some Memory) p n) → IsPiece (record { own = w; sight = v }) AsksClose [] p n s'
 unfolding answer_to
-close_told None w' None p n h gone none some =
+close_told None v s' None p n h gone none some =
     let last = none refl in
-    rw (last.0, last.1, gone) (inl (inl record { desk = h.0; now = h.1; kept = h.2; done = (h.3.1, refl); answer = refl }, refl))
-close_told None w' (Some posts) p n h gone none some = let is = h.3.0 in cc
-close_told (Some w) w' None p n h gone none some = absurd h.3
-close_told (Some w) w' (Some posts) p n h gone none some = elim (some posts refl) [
-  | inl last ↦ rw (last.0, last.1, gone) (inl (inl record { desk = h.0; now = h.1; kept = h.2; done = (posts, h.3.0, refl, h.3.1); answer = sym (end_told h.0 h.1 w posts h.3.0) }, refl))
-  | inr last ↦ rw (last.0, last.1, gone) (inr ((h.0, h.1, posts, h.2, h.3.0, h.3.1, refl), (h.0, posts, h.1, h.2, h.3.0, h.3.1), refl))
-]
+    let sight = close_sight (record { own = None; sight = v }) None s'.sight h in
+    rw (last.0, last.1) (inl (inl record { desk = h.desk; log = h.log; now = h.now; kept = h.kept; done = (h.ended.1, gone); sight = sight; answer = refl }, refl))
+close_told None v s' (Some posts) p n h gone none some = let is = h.ended.0 in cc
+close_told (Some w) v s' None p n h gone none some = absurd h.ended
+close_told (Some w) v s' (Some posts) p n h gone none some =
+    let s : SharedView = record { own = Some w; sight = v } in
+    let left : HasLeft (Some w) s'.sight.seen = (h.desk, posts, h.now, h.kept.0, ended_seen s (Some posts) s'.sight h, h.ended.0, h.ended.1) in
+    elim (some posts refl) [
+      | inl last ↦ rw (last.0, last.1) (inl (inl record { desk = h.desk; log = h.log; now = h.now; kept = h.kept; done = (posts, h.ended.0, gone, h.ended.1); sight = close_sight s (Some posts) s'.sight h; answer = sym (end_told h.desk h.now w posts h.ended.0) }, refl))
+      | inr last ↦ rw (last.0, last.1) (inr ((h.desk, h.now, posts, h.kept.0, ended_seen s (Some posts) s'.sight h, h.ended.0, h.ended.1, refl), rw gone left, end_sees s (Some posts) s'.sight h, refl))
+    ]

@@ -5,6 +5,7 @@ pub mod Requests
 pub mod Serving
 pub mod Session
 pub mod SharedHeadline
+pub mod SharedHistory
 pub mod SharedServing
 pub mod SharedSession
 pub mod SharedTurns

@@ -26,29 +26,33 @@ use Rattle.mt_requests.specs.Requests.{request_of}
 use Rattle.mt_session.specs.Answers.{refusal}
 use Rattle.mt_session.specs.Serving.{IsSent}
 use Rattle.mt_session.specs.Session.{ends_by}
-use Rattle.mt_session.specs.SharedTurns.{HasTaken, GoesOn, IsUndoneBy, HasEnded}
+use Rattle.mt_history.specs.declared.act.LogEntry.{LogEntry}
+use Rattle.mt_history.specs.Entries.{WitnessView}
+use Rattle.mt_desk.specs.Held.{IsLogged}
+use Rattle.mt_session.specs.SharedTurns.{SharedView, IsAtDesk, SeesOn, HasTaken, GoesOn, HasEnded}
 use Rattle.mt_session.specs.SharedSession.{IsSpent, IsTurn, IsLost, EndsOfAnswer, HasLeft}
 
--- there was no memory to do a request at some desk
-abbrev pub IsUndoneAt : Option WatcherView → Request → Option WatcherView → Type 0
-IsUndoneAt w r w' = (desk : DeskView) × (now : DeskView) × IsDesk desk × IsUndoneBy desk w r now w'
+-- a session has met the desk after so much of the history, if it has a watcher; what this has taken is in order by a schedule of the desk
+abbrev pub HasMet : Option WatcherView → Option Meeting → Option WatcherView → List LogEntry → Type 0
+HasMet None met w' seen = (met ≡ None) × (w' ≡ None)
+HasMet (Some w) met w' seen =
+    (desk : DeskView) × (now : DeskView) × (m : Meeting) × (after : WatcherView) × IsDesk desk × IsLogged desk seen × IsMet desk w m now after × (met ≡ Some m)
+    × (w' ≡ Some after) × IsScheduledBy (Meets w m after) now
 
--- a session has met some desk, if it has a watcher; what this has taken is in order by a schedule of the desk
-abbrev pub HasMet : Option WatcherView → Option Meeting → Option WatcherView → Type 0
-HasMet None met w' = (met ≡ None) × (w' ≡ None)
-HasMet (Some w) met w' =
-    (desk : DeskView) × (now : DeskView) × (m : Meeting) × (after : WatcherView) × IsDesk desk × IsMet desk w m now after × (met ≡ Some m) × (w' ≡ Some after)
-    × IsScheduledBy (Meets w m after) now
+-- a session has ended its watcher at the desk after this beginning of the history, if it has one, and these posts were sent to it and not taken
+pub record HasEndedAt (s : SharedView) (posts : Option (List PostView)) (v' : WitnessView) : Type 0 where
+  pub desk : DeskView
+  pub log : List LogEntry
+  pub now : DeskView
+  pub kept : IsAtDesk s.sight desk log
+  pub ended : HasEnded desk s.own posts now
+  pub sight : v' ≡ record s.sight { seen = log }
 
--- a session has ended its watcher at some desk, if it has one, and these posts were sent to it and not taken
-abbrev pub HasEndedAt : Option WatcherView → Option (List PostView) → Type 0
-HasEndedAt w posts = (desk : DeskView) × (now : DeskView) × IsDesk desk × HasEnded desk w posts now
-
--- what becomes of a session's watcher, if it has one: it goes on, or the session leaves it
-abbrev pub IsKeptOrLeft : Option WatcherView → Option WatcherView → Type 0
-IsKeptOrLeft None w' = ⊤
-IsKeptOrLeft (Some w) None = HasLeft (Some w)
-IsKeptOrLeft (Some w) (Some w') = GoesOn w w'
+-- what becomes of a session's watcher, if it has one: it goes on, or the session leaves it, after so much of the history
+abbrev pub IsKeptOrLeft : Option WatcherView → Option WatcherView → List LogEntry → Type 0
+IsKeptOrLeft None w' seen = ⊤
+IsKeptOrLeft (Some w) None seen = HasLeft (Some w) seen
+IsKeptOrLeft (Some w) (Some w') seen = GoesOn w w'
 
 -- ---- posts that are taken
 
@@ -66,12 +70,12 @@ pub record HasPortion (w : WatcherView) (most : ℕ) (printed : PrintedPosts) (w
   pub count : printed.posts ≡ length posts
 
 -- what a session finds that takes up to so many posts: some, none, no watcher, or no memory to print those that it took
-abbrev pub IsPortion : Option WatcherView → ℕ → Result Portion Fault → Option WatcherView → Type 0
-IsPortion None most (Ok p) w' = ⊥
-IsPortion None most (Err f) w' = (f ≡ NoWatcher) × (w' ≡ None)
-IsPortion (Some w) most (Ok (Posts printed)) w' = HasPortion w most printed w'
-IsPortion (Some w) most (Ok (Empty phase)) w' = (after : WatcherView) × IsSpent w phase after × HasTaken w [] after × (w' ≡ Some after)
-IsPortion (Some w) most (Err f) w' = (f ≡ WantsMemory) × (lost : List PostView) × (after : WatcherView) × HasTaken w lost after × (w' ≡ Some after) × (length lost ≤ most)
+abbrev pub IsPortion : Option WatcherView → ℕ → Result Portion Fault → Option WatcherView → List LogEntry → Type 0
+IsPortion None most (Ok p) w' seen = ⊥
+IsPortion None most (Err f) w' seen = (f ≡ NoWatcher) × (w' ≡ None)
+IsPortion (Some w) most (Ok (Posts printed)) w' seen = HasPortion w most printed w'
+IsPortion (Some w) most (Ok (Empty phase)) w' seen = (after : WatcherView) × IsSpent w phase after seen × HasTaken w [] after × (w' ≡ Some after)
+IsPortion (Some w) most (Err f) w' seen = (f ≡ WantsMemory) × (lost : List PostView) × (after : WatcherView) × HasTaken w lost after × (w' ≡ Some after) × (length lost ≤ most)
 
 -- ---- pieces of an answer
 
@@ -90,26 +94,28 @@ pub record Follows (w : Option WatcherView) (r : Request) (out : List ℕ) (told
   pub text : out ≡ flat_map post_text posts
 
 -- what is out of an answer before its next piece: nothing, or so many posts that a `follow` has told
-abbrev pub IsSoFar : Option WatcherView → Request → List ℕ → ℕ → Option WatcherView → Type 0
-IsSoFar w r out told w' = ((out ≡ []) × (told ≡ 0) × (w' ≡ w)) ⊎ Follows w r out told w'
+abbrev pub IsSoFar : SharedView → Request → List ℕ → ℕ → SharedView → Type 0
+IsSoFar s r out told s' = ((out ≡ []) × (told ≡ 0) × (s' ≡ s)) ⊎ (Follows s.own r out told s'.own × SeesOn s.sight s'.sight)
 
 -- a `follow` has told no more posts than it was asked for
 abbrev pub IsWithin : Request → ℕ → Type 0
 IsWithin r told = (most : ℕ) → r ≡ Follow most → told ≤ most
 
 -- a whole answer, and how the session ends with it: by want of memory where posts were lost
-abbrev pub AnswersWhole : Option WatcherView → Result Request Fault → List ℕ → Option End → Option WatcherView → Type 0
-AnswersWhole w asked text end w' = (IsTurn w asked text w' × (end ≡ ends_by asked)) ⊎ (IsLost w asked text × IsKeptOrLeft w w' × (end ≡ Some Memory))
+abbrev pub AnswersWhole : SharedView → Result Request Fault → List ℕ → Option End → SharedView → Type 0
+AnswersWhole s asked text end s' =
+    (IsTurn s asked text s' × (end ≡ ends_by asked))
+    ⊎ (IsLost s.own asked text s'.sight.seen × IsKeptOrLeft s.own s'.own s'.sight.seen × SeesOn s.sight s'.sight × (end ≡ Some Memory))
 
 -- a piece is the last one, of this text, and so the session ends with it, if it does
 abbrev pub EndsWith : List ℕ → Option End → Option (List ℕ) → Then → Type 0
 EndsWith text end piece next = (piece ≡ Some text) × (next ≡ Over end)
 
 -- A piece behind this text: a part of the answer to a `follow`, of no text where the session has rested, or the rest of an answer.
-abbrev pub IsPiece : Option WatcherView → Request → List ℕ → Option (List ℕ) → Then → Option WatcherView → Type 0
-IsPiece w r out piece (More told) w' = Follows w r (out ++ unwrap_or piece []) told w'
-IsPiece w r out (Some text) (Over end) w' = AnswersWhole w (Ok r) (out ++ text) end w'
-IsPiece w r out None (Over end) w' = ⊥
+abbrev pub IsPiece : SharedView → Request → List ℕ → Option (List ℕ) → Then → SharedView → Type 0
+IsPiece s r out piece (More told) s' = Follows s.own r (out ++ unwrap_or piece []) told s'.own × SeesOn s.sight s'.sight
+IsPiece s r out (Some text) (Over end) s' = AnswersWhole s (Ok r) (out ++ text) end s'
+IsPiece s r out None (Over end) s' = ⊥
 
 -- so many bytes of a piece are out where it was cut: not all, or none where it has no text
 abbrev pub IsCutPiece : ℕ → Option (List ℕ) → Type 0
@@ -119,20 +125,20 @@ IsCutPiece sent (Some text) = sent < length text
 -- ---- lines
 
 -- what was asked is answered in this text, or the session ends by it
-abbrev pub IsOutcome : Option End → Option WatcherView → Result Request Fault → List ℕ → Option WatcherView → Type 0
-IsOutcome None w asked out w' = IsTurn w asked out w' × (ends_by asked ≡ None)
-IsOutcome (Some by) w asked out w' = EndsOfAnswer by w asked out
+abbrev pub IsOutcome : Option End → SharedView → Result Request Fault → List ℕ → SharedView → Type 0
+IsOutcome None s asked out s' = IsTurn s asked out s' × (ends_by asked ≡ None)
+IsOutcome (Some by) s asked out s' = EndsOfAnswer by s asked out s'
 
 -- what was asked is answered after what was sent, or the session ends by it
-pub record ServesAsked (w : Option WatcherView) (asked : Result Request Fault) (sent written : Option (List ℕ)) (result : Option End) (w' : Option WatcherView) : Type 0 where
+pub record ServesAsked (s : SharedView) (asked : Result Request Fault) (sent written : Option (List ℕ)) (result : Option End) (s' : SharedView) : Type 0 where
   pub out : List ℕ
   pub written_is : Appends sent written out
-  pub outcome : IsOutcome result w asked out w'
-  pub watcher : IsKeptOrLeft w w'
+  pub outcome : IsOutcome result s asked out s'
+  pub watcher : IsKeptOrLeft s.own s'.own s'.sight.seen
 
 -- what a reader said of a line is answered, or the session ends by it
-abbrev pub ServesLine : Line → List ℕ → Option WatcherView → Option (List ℕ) → Option (List ℕ) → Option End → Option WatcherView → Type 0
-ServesLine Text bytes w sent written result w' = ServesAsked w (request_of bytes) sent written result w'
-ServesLine TooLong bytes w sent written result w' = (w' ≡ w) × IsSent sent written (refusal LineTooLong) None result
-ServesLine Unended bytes w sent written result w' = (w' ≡ w) × IsSent sent written (refusal BadLine) (Some Input) result
-ServesLine NoLine bytes w sent written result w' = (w' ≡ w) × Keeps sent written × (result ≡ Some Input)
+abbrev pub ServesLine : Line → List ℕ → SharedView → Option (List ℕ) → Option (List ℕ) → Option End → SharedView → Type 0
+ServesLine Text bytes s sent written result s' = ServesAsked s (request_of bytes) sent written result s'
+ServesLine TooLong bytes s sent written result s' = (s' ≡ s) × IsSent sent written (refusal LineTooLong) None result
+ServesLine Unended bytes s sent written result s' = (s' ≡ s) × IsSent sent written (refusal BadLine) (Some Input) result
+ServesLine NoLine bytes s sent written result s' = (s' ≡ s) × Keeps sent written × (result ≡ Some Input)

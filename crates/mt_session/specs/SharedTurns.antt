@@ -1,6 +1,6 @@
--- What a request does to a desk and to the watcher of a session in a thread of its own.
+-- What a request does to a desk, to its history, and to a session in a thread of its own.
 -- A word with no source is this project's rule.
-use Rattle.std.specs.Prelude.{◌≡◌, ◌⊎◌, ℕ, ◌+◌, ◌<◌, ◌≤◌, Bool, true, false, List, [], ◌++◌, length, replicate, Option, Some, None, Err}
+use Rattle.std.specs.Prelude.{◌≡◌, ◌⊎◌, ℕ, ◌+◌, ◌<◌, ◌≤◌, Bool, true, false, List, [], ◌∷◌, ◌++◌, length, replicate, Option, Some, None, Result, Ok, Err}
 use Rattle.std.specs.List.{flat_map}
 use Rattle.std.specs.Option.{option_map, option_map_or}
 use Rattle.mt_skel.specs.declared.fault.Fault.{Fault}
@@ -11,9 +11,15 @@ use Rattle.mt_events.specs.Following.{IsRun}
 use Rattle.mt_book.specs.declared.command.Command.{Command}
 use Rattle.mt_book.specs.declared.command.Reply.{Reply}
 use Rattle.mt_floor.specs.declared.event.Event.TheVariants.{Apply, Open, Take as TakePost}
+use Rattle.mt_floor.specs.declared.event.Answer.{Answer}
 use Rattle.mt_floor.specs.Watcher.{opening_of}
 use Rattle.mt_floor.specs.Schedule.{FloorView, floor_step, run}
-use Rattle.mt_desk.specs.Desk.{DeskRow, DeskView, row_key, floor_of_desk, with_watcher, halted_desk}
+use Rattle.mt_history.specs.declared.act.Act.{Act}
+use Rattle.mt_history.specs.declared.act.Act.TheVariants as act
+use Rattle.mt_history.specs.declared.act.LogEntry.{LogEntry}
+use Rattle.mt_history.specs.Entries.{WitnessView, IsSeen}
+use Rattle.mt_desk.specs.Desk.{DeskRow, DeskView, IsDesk, row_key, floor_of_desk, with_watcher, halted_desk}
+use Rattle.mt_desk.specs.Held.{IsLogged}
 use Rattle.mt_desk.specs.Calls.{WatcherView, unseen, IsApplied, IsClosed}
 use Rattle.mt_desk.specs.Headline.{Close as Closes, IsScheduledBy}
 use Rattle.mt_requests.specs.declared.request.Request.{Request}
@@ -21,6 +27,29 @@ use Rattle.mt_requests.specs.declared.request.Request.TheVariants.{Run, Show, Fi
 use Rattle.mt_events.specs.Texts.{lines_of_posts}
 use Rattle.mt_session.specs.Requests.{SessionState, session_state}
 use Rattle.mt_events.specs.declared.texts.PrintedPosts.{PrintedPosts}
+
+-- a session: its watcher, if it has one, and what it has seen of the history
+pub record SharedView : Type 0 where
+  pub own : Option WatcherView
+  pub sight : WitnessView
+
+-- A session that has seen so much is at this desk, after this beginning of the one history: all that it has seen stands there, and all that it did is in that.
+abbrev pub IsAtDesk : WitnessView → DeskView → List LogEntry → Type 0
+IsAtDesk v d log = IsDesk d × IsLogged d log × IsSeen v.by v.seen log
+
+-- a session has seen more of the history, or as much, and has done nothing in between
+abbrev pub SeesOn : WitnessView → WitnessView → Type 0
+SeesOn v v' = (v' ≡ record v { seen = v'.seen }) × IsSeen v.by v.seen v'.seen
+
+-- what a request comes to in the history: a command that is accepted at this desk, or a stop
+abbrev pub accepted_act : Command → Result Answer Fault → List Act
+accepted_act c (Ok a) = act.Apply c ∷ []
+accepted_act c (Err f) = []
+
+abbrev pub acts_at : DeskView → Request → List Act
+acts_at d (Run c) = accepted_act c (floor_step (floor_of_desk d) (Apply c)).1
+acts_at d Stop = act.Stop ∷ []
+acts_at d r = []
 
 -- the floor of a desk once it has seen what the session's watcher took
 abbrev pub floor_seen : DeskView → Option WatcherView → FloorView

@@ -2,6 +2,7 @@
 ghost use Rattle.mt_session.specs.Forms.{AnswersHaveForms};
 ghost use Rattle.mt_session.specs.Headline.{SessionsFollow, AnswersTell};
 ghost use Rattle.mt_session.specs.SharedHeadline.{SharedSessionsFollow};
+ghost use Rattle.mt_session.specs.SharedHistory.{SharedSessionsAct, SharedStopsHold};
 
 /// The lines of a plain session are a schedule of its floor, after the events that were done before them. So of a watcher
 /// that one of these lines begins, the posts that the later ones tell, by `take`, `follow` and `close`, are a prefix of
@@ -17,9 +18,20 @@ pub fn sessions_follow()
 /// Behind each line of a session in a thread of its own, and whatever the other sessions do: what its watcher has taken,
 /// and so all that `take` and `follow` have told of it or lost, is a prefix of what was posted for the namespaces it
 /// follows since its opening, each once and in order; and applied to the opening that `watch` told, it gives each
-/// namespace's table as of its last taken number. That is so by the history of the desk at which the watcher was closed.
+/// namespace's table as of its last taken number. That is so by the events that led to the desk at which the watcher was
+/// closed, whose commands are those of a beginning of what the session has seen of the one history in the end.
 pub fn shared_sessions_follow()
     ensures { SharedSessionsFollow }
+{}
+
+/// What a session in a thread of its own did stands in the one history of its desk, by its number: the commands that were
+/// accepted and the stop of its lines, once each and in order, and nothing else. Each of its lines but `take` and `follow` is
+/// answered as at the desk after a beginning of the history, and each of these beginnings has all that the session had seen
+/// before, and done. That is so up to each line, and once the session has ended (`acts`). Once it has seen a stop in the
+/// history, no command of it is accepted (`stops`).
+pub fn shared_sessions_act()
+    ensures acts { SharedSessionsAct }
+    ensures stops { SharedStopsHold }
 {}
 
 /// Each answer refuses, or has the form of the verb that its line begins with: that form by which a client knows how many

@@ -8,9 +8,9 @@ ghost use Rattle.mt_desk.specs.Calls.{WatcherView};
 ghost use Rattle.mt_requests.specs.declared.request.Request.TheVariants.{Take, Close};
 ghost use Rattle.mt_session.specs.declared.serving.End.TheVariants.{Memory};
 ghost use Rattle.mt_session.specs.Answers.{refusal};
-ghost use Rattle.mt_session.specs.SharedTurns.{is_under_lock};
-ghost use Rattle.mt_session.specs.SharedSession.{IsAnsweredAt, HasLeft};
-ghost use Rattle.mt_session.specs.SharedServing.{IsUndoneAt, HasMet, HasEndedAt, IsPortion, EndsWith, IsPiece};
+ghost use Rattle.mt_session.specs.SharedTurns.{is_under_lock, SeesOn};
+ghost use Rattle.mt_session.specs.SharedSession.{IsAnsweredAt, IsNotDoneAt, HasLeft};
+ghost use Rattle.mt_session.specs.SharedServing.{HasMet, HasEndedAt, IsPortion, EndsWith, IsPiece};
 
 use crate::bell::Bell;
 use crate::gate::Gate;
@@ -108,7 +108,7 @@ fn do_locked<J: Naming, G: Gate, R: Wait>(
     requires { is_under_lock request.now ≡ true }
     ensures answered { IfOk result (λ text. IsAnsweredAt session.old request.now text session.new) }
     ensures memory { IsOkUnless result Fault.NoMemory }
-    ensures undone { OnErr result (IsUndoneAt session.old request.now session.new) }
+    ensures undone { OnErr result (IsNotDoneAt session.old request.now session.new) }
 {
     shared.bell.turns().begin(rt);
     let mut desk = shared.desk.lock(rt);
@@ -127,7 +127,8 @@ fn meet<J: Naming, G: Gate, R: Wait>(
     shared: &Shared<'_, J, G>,
     session: &mut SharedSession<J>,
 ) -> Option<Meeting>
-    ensures { HasMet session.old result session.new }
+    ensures met { HasMet session.old.own result session.new.own session.new.sight.seen }
+    ensures sight { SeesOn session.old.sight session.new.sight }
 {
     shared.bell.turns().begin(rt);
     let mut desk = shared.desk.lock(rt);
@@ -143,8 +144,8 @@ fn end_watcher<J: Naming, G: Gate, R: Wait>(
     shared: &Shared<'_, J, G>,
     session: &mut SharedSession<J>,
 ) -> Option<SharedPosts>
-    ensures none { session.new ≡ None }
-    ensures ended { HasEndedAt session.old result }
+    ensures none { session.new.own ≡ None }
+    ensures ended { HasEndedAt session.old result session.new.sight }
 {
     shared.bell.turns().begin(rt);
     let mut desk = shared.desk.lock(rt);
@@ -154,14 +155,16 @@ fn end_watcher<J: Naming, G: Gate, R: Wait>(
     posts
 }
 
-/// Closes the session's watcher, if it has one. The desk is held until it is closed, and not while posts are let go.
+/// Closes the session's watcher, if it has one, at the desk after so much of the history as the session has seen then. The
+/// desk is held until it is closed, and not while posts are let go.
 pub fn leave<J: Naming, G: Gate, R: Wait>(
     rt: &R,
     shared: &Shared<'_, J, G>,
     session: &mut SharedSession<J>,
 )
-    ensures none { session.new ≡ None }
-    ensures left { HasLeft session.old }
+    ensures none { session.new.own ≡ None }
+    ensures left { HasLeft session.old.own session.new.sight.seen }
+    ensures sight { SeesOn session.old.sight session.new.sight }
 {
     let _posts = end_watcher(rt, shared, session);
 }
@@ -243,8 +246,9 @@ fn take_met<J: Naming, G: Gate, R: Wait>(
     most: u64,
 ) -> Result<Portion, Fault>
     requires some { 0 < most }
-    requires running { ForSome session.old (λ (w : WatcherView). IsRun w.half.opening w.half.taken) }
-    ensures { IsPortion session.old most result session.new }
+    requires running { ForSome session.old.own (λ (w : WatcherView). IsRun w.half.opening w.half.taken) }
+    ensures portion { IsPortion session.old.own most result session.new.own session.new.sight.seen }
+    ensures sight { SeesOn session.old.sight session.new.sight }
 {
     let Some(meeting) = meet(rt, shared, session) else {
         return Err(Fault::NoWatcher);
@@ -265,7 +269,8 @@ pub(crate) fn take_posts<J: Naming, G: Gate, R: Wait>(
     most: u64,
 ) -> Result<Portion, Fault>
     requires { 0 < most }
-    ensures { IsPortion session.old most result session.new }
+    ensures portion { IsPortion session.old.own most result session.new.own session.new.sight.seen }
+    ensures sight { SeesOn session.old.sight session.new.sight }
 {
     let printed = session.pops(rt, most)?;
     if printed.posts == 0 {

@@ -1,12 +1,12 @@
 //! How a session in a thread of its own follows posts, piece by piece.
-ghost use Rattle.std.specs.Prelude.{◌≡◌, ◌≢◌, ◌<◌, ◌≤◌, List, ℕ, Option, None, Some};
+ghost use Rattle.std.specs.Prelude.{◌≡◌, ◌≢◌, ◌<◌, ◌≤◌, List, ℕ, None, Some};
 ghost use Rattle.mt_skel.specs.declared.fault.Fault.TheVariants.{NoMemory};
 ghost use Rattle.mt_events.specs.Texts.{count_text};
-ghost use Rattle.mt_desk.specs.Calls.{WatcherView};
 ghost use Rattle.mt_requests.specs.declared.request.Request.TheVariants.{Follow};
 ghost use Rattle.mt_session.specs.declared.serving.End.TheVariants.{Memory};
 ghost use Rattle.mt_session.specs.Answers.{refusal};
 ghost use Rattle.mt_session.specs.Requests.{by_phase};
+ghost use Rattle.mt_session.specs.SharedTurns.{SharedView};
 ghost use Rattle.mt_session.specs.SharedServing.{EndsWith, IsSoFar, IsPiece};
 
 use crate::gate::Gate;
@@ -87,7 +87,7 @@ pub(crate) fn follow<J: Naming, G: Gate, R: Wait + Clock>(
 ) -> Piece
     requires some { 0 < most }
     requires within { told ≤ most }
-    ensures { (w : Option WatcherView) (out : List ℕ) → IsSoFar w (Follow most) out told session.old → IsPiece w (Follow most) out result.text result.then session.new }
+    ensures { (s : SharedView) (out : List ℕ) → IsSoFar s (Follow most) out told session.old → IsPiece s (Follow most) out result.text result.then session.new }
 {
     if told == most {
         return last(rt, shared, Text::reply(Reply::Number(told)));

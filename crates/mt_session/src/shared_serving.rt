@@ -1,11 +1,12 @@
 //! A session in a thread of its own: lines in, answers out, at a desk that others share.
 ghost use Rattle.std.specs.Prelude.{◌≡◌, ◌<◌, ◌≤◌, ◌⊎◌, ℕ, List, [], take, unwrap_or, Option, IsTrue, IfErr, OnOk, OnErr, Ok, None, Some};
-ghost use Rattle.mt_desk.specs.Calls.{WatcherView};
+ghost use Rattle.mt_history.specs.Entries.{WitnessView};
 ghost use Rattle.std.specs.Io.KnownBytes.{Appends};
 ghost use Rattle.mt_lines.specs.Reading.{known_left, failed_calls, last_faults, limit_of, fault_of};
 ghost use Rattle.mt_lines.specs.Stream.{HasFailed, IsInterrupted};
 ghost use Rattle.mt_requests.specs.Requests.{request_of, HasRightCount};
 ghost use Rattle.mt_session.specs.Session.{line_limit, IsReadEnd, IsReadEndRun, IsCutCause, IsCutRun};
+ghost use Rattle.mt_session.specs.SharedTurns.{SharedView, SeesOn};
 ghost use Rattle.mt_session.specs.SharedSession.{ServedShared, ServedSharedLine, HasLeft};
 ghost use Rattle.mt_session.specs.SharedServing.{IsSoFar, IsPiece, IsWithin, IsCutPiece, ServesAsked, ServesLine};
 
@@ -36,7 +37,7 @@ fn next_piece<J: Naming, G: Gate, R: Wait + Clock>(
 ) -> Piece
     requires count { HasRightCount request.now }
     requires within { IsWithin request.now told }
-    ensures { (w : Option WatcherView) (out : List ℕ) → IsSoFar w request.now out told session.old → IsPiece w request.now out result.text result.then session.new }
+    ensures { (s : SharedView) (out : List ℕ) → IsSoFar s request.now out told session.old → IsPiece s request.now out result.text result.then session.new }
 {
     if let Request::Follow(most) = request {
         return follow(rt, shared, session, *most, told);
@@ -174,10 +175,10 @@ fn serve_all<J: Naming, I: Input + Drop, O: Output, G: Gate, R: Wait + Clock>(
     lines: &mut LineReader<I>,
     writer: &mut O,
 ) -> End
-    requires none { session.old ≡ None }
+    requires none { session.old.own ≡ None }
     requires fresh { fault_of lines.old ≡ None }
     requires limit { limit_of lines.old ≡ line_limit }
-    ensures served { HasLeft session.new → ServedShared (known_left lines.old) (known_left lines.new) (O.contents writer.old) (O.contents writer.new) result }
+    ensures served { (v : WitnessView) → HasLeft session.new.own v.seen → SeesOn session.new.sight v → ServedShared (known_left lines.old) (known_left lines.new) (O.contents writer.old) (O.contents writer.new) result session.old.sight v }
     ensures read { IsTrue I.counts → IsReadEnd (Some result) (failed_calls lines.old) (failed_calls lines.new) }
     ensures read_run { IsTrue I.counts → last_faults lines.old ≡ [] → IsReadEndRun (Some result) (last_faults lines.new) }
     ensures cut { IsTrue O.counts → IsCutCause (Some result) (O.failed writer.old) (O.failed writer.new) }
@@ -208,6 +209,12 @@ fn serve_all<J: Naming, I: Input + Drop, O: Output, G: Gate, R: Wait + Clock>(
 /// the last one a part; what the end says of it are the bytes of its last piece, for the answer to a `follow` goes out in
 /// pieces of at most 64 posts.
 ///
+/// The session is lent: it has no watcher, neither before nor after that, and has seen a beginning of the one history of
+/// the desk. Each line but `take` and `follow` is answered as at the desk after a beginning of the history. That has all
+/// that the session had seen before, and what the session then did comes next in it. A `take` or `follow` that finds no post
+/// met the desk, and the session's end closed its watcher there, after as much of the history as the session had then seen.
+/// So its acts in the history are those of its lines, once each and in order (`shared_sessions_act` of laws.rt).
+///
 /// Whatever the other sessions do, what its watcher has taken behind each line is in order, and gives the tables
 /// (`shared_sessions_follow` of laws.rt).
 pub fn serve_shared<J, I, O, G, R>(
@@ -219,6 +226,7 @@ pub fn serve_shared<J, I, O, G, R>(
     desk: &Mutex<Desk<J>>,
     bell: &Bell,
     gate: &G,
+    session: &mut SharedSession<J>,
 ) -> End
 where
     J: Naming,
@@ -226,9 +234,11 @@ where
     O: Output,
     G: Gate,
     R: Wait + Clock,
+    requires none { session.old.own ≡ None }
     requires fresh { fault_of lines.old ≡ None }
     requires limit { limit_of lines.old ≡ line_limit }
-    ensures served { ServedShared (known_left lines.old) (known_left lines.new) (O.contents writer.old) (O.contents writer.new) result }
+    ensures served { ServedShared (known_left lines.old) (known_left lines.new) (O.contents writer.old) (O.contents writer.new) result session.old.sight session.new.sight }
+    ensures none { session.new.own ≡ None }
 
     // A fault of the reader ends it only where the reader's last call failed, and 1,000 interruptions
     // only where so many calls were interrupted in succession. At every other end the reader's last
@@ -247,8 +257,7 @@ where
         number,
         alloc,
     };
-    let mut session = SharedSession::new(alloc);
-    let end = serve_all(rt, &shared, &mut session, lines, writer);
-    leave(rt, &shared, &mut session);
+    let end = serve_all(rt, &shared, session, lines, writer);
+    leave(rt, &shared, session);
     end
 }

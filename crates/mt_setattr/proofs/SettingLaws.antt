@@ -111,7 +111,7 @@ among-more ids k l j = let n : k + 1 ≡ suc k = omega arith in rw n (go ids k l
 pub same_tests : {f g : ℕ → Bool} → ((j : ℕ) → f j ≡ g j) → f ≡ g
 same_tests same = λ t j. same j t
 
--- so many of a list are changed, and then the next one
+-- this many of a list are changed, and then the next one
 module _ (c : Change) (ids : List ℕ) (k : ℕ) (old now : List Mount) (within : k < length ids) (so_far : now ≡ map (changed_mount c (among (take k ids))) old) where
   abbrev next : ℕ
   next = get_or ids k 0

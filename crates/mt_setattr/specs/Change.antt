@@ -17,18 +17,19 @@ use Rattle.mt_propagate.specs.World.{WorldView}
 use Rattle.mt_propagate.specs.Named.{place_or_nowhere, is_mount_root}
 use Rattle.mt_setattr.specs.declared.change.Change.{Change}
 
--- two access times are set, or one that clr makes no room for (mount_setattr(2), MOUNT_ATTR__ATIME and EINVAL; that this holds
--- for relatime too is this project's rule)
+-- two access times are set, or one for which clr makes no room (mount_setattr(2), MOUNT_ATTR__ATIME and EINVAL; that this holds for
+-- relatime too is this project's rule)
 abbrev pub clashes : Change → Bool
 clashes c = (c.set.relatime && c.set.noatime || c.set.relatime && c.set.strictatime || c.set.noatime && c.set.strictatime)
     || ((c.set.relatime || c.set.noatime || c.set.strictatime) && not c.clr.atime)
 
--- the access time that is set, or relatime where it was only taken away (mount_setattr(2), MOUNT_ATTR__ATIME; the second half:
--- this project's rule)
+-- the access time that is set, or relatime if it was only taken away (mount_setattr(2), MOUNT_ATTR__ATIME; the second half: this
+-- project's rule)
 abbrev pub changed_atime : Change → Atime → Atime
 changed_atime c a = cond c.set.noatime Noatime (cond c.set.strictatime Strictatime (cond (c.set.relatime || c.clr.atime) Relatime a))
 
--- what clr has goes, and then what set has comes (mount_setattr(2), attr_clr and attr_set)
+-- what clr names is removed, and then what set names is added (mount_setattr(2), attr_clr and
+-- attr_set)
 abbrev pub changed_attrs : Change → Attrs → Attrs
 changed_attrs c a = record {
   ro = (a.ro && not c.clr.ro) || c.set.ro;
@@ -44,7 +45,7 @@ changed_attrs c a = record {
 abbrev pub changed_mount : Change → (ℕ → Bool) → Mount → Mount
 changed_mount c chosen m = record m { attrs = cond (chosen m.id) (changed_attrs c m.attrs) m.attrs }
 
--- a change is of the named mount i, and if it is recursive of all below it (mount_setattr(2), AT_RECURSIVE)
+-- a change applies to the named mount i, and if it is recursive to all mounts below it (mount_setattr(2), AT_RECURSIVE)
 abbrev pub is_chosen : WorldView → Change → ℕ → ℕ → Bool
 is_chosen w c i j = (i == j) || (c.recursive && is_below w.forest i j)
 

@@ -4,7 +4,7 @@ use mt_peers::state::Kind;
 
 /// What is to be added to the attributes: `attr_set` of mount_setattr(2).
 ///
-/// At most one of the three access times, and only where [`ClrWords::atime`] makes room for it.
+/// At most one of the three access times, and only if [`ClrWords::atime`] makes room for it.
 #[derive(Clone, Copy, PartialEq, Eq, Debug)]
 pub struct SetWords {
     /// Nothing can be written.
@@ -19,7 +19,7 @@ pub struct SetWords {
     pub nosymfollow: bool,
     /// The times of access of directories are not updated.
     pub nodiratime: bool,
-    /// Times of access are updated where they are not later than the last change, or a day old.
+    /// Times of access are updated if they are not later than the last change, or a day old.
     pub relatime: bool,
     /// Times of access are never updated.
     pub noatime: bool,
@@ -46,7 +46,7 @@ pub struct ClrWords {
     pub atime: bool,
 }
 
-/// A change of one mount, or of a mount and all below it.
+/// A change of one mount, or of a mount and all mounts below it.
 #[derive(Clone, Copy, PartialEq, Eq, Debug)]
 pub struct Change {
     /// What is added, after `clr` was taken away.
@@ -55,6 +55,7 @@ pub struct Change {
     pub clr: ClrWords,
     /// What the mounts are made, all at once, or `None` to leave their propagation as it is.
     pub prop: Option<Kind>,
-    /// Whether it is also for all mounts below the named one: `AT_RECURSIVE` of mount_setattr(2).
+    /// Whether it also applies to all mounts below the named one: `AT_RECURSIVE` of
+    /// mount_setattr(2).
     pub recursive: bool,
 }

@@ -17,7 +17,7 @@ use mt_propagate::world::World;
 use mt_skel::fault::Fault;
 use mt_skel::name::Name;
 
-/// Whether a change sets two access times, or one that it makes no room for.
+/// Whether a change sets two access times, or one for which it makes no room.
 fn clashes(change: &Change) -> bool
     ensures { result ≡ clashes change.now }
 {
@@ -68,8 +68,8 @@ fn attrs_after(change: &Change, attrs: &Attrs) -> Attrs
     }
 }
 
-/// Changes the attributes of these mounts. One that is listed twice is changed once, since a change
-/// that comes again does nothing. There is room for as many changes.
+/// Changes the attributes of these mounts. One that is listed twice is changed once, since
+/// repeating a change does nothing. There is room for as many changes.
 fn change_attrs(forest: &mut Forest, ids: &[MountId], change: &Change)
     requires room { length ids.now ≤ forest.old.room }
     ensures mounts { forest.new.mounts ≡ map (changed_mount change.now (among ids.now)) forest.old.mounts }
@@ -82,8 +82,8 @@ fn change_attrs(forest: &mut Forest, ids: &[MountId], change: &Change)
     }
 }
 
-/// Makes room for a change of so many mounts, and changes nothing: new attributes need it for each of them,
-/// and a new propagation for as many mounts as there are. Refused as `NoMemory` alone.
+/// Makes room for a change of this many mounts, and changes nothing: new attributes need it for each of them, and a new
+/// propagation for as many mounts as there are.
 fn reserve_change(world: &mut World, count: usize, change: &Change) -> Result<(), Fault>
     ensures attrs { OnOk result (count ≤ world.new.forest.room) }
     ensures room { OnOk result (IsTrue (is_some change.now.prop) → length world.new.peers.peers ≤ world.new.peers.room) }
@@ -112,7 +112,7 @@ fn change_all(world: &mut World, ids: &[MountId], change: &Change)
     }
 }
 
-/// Changes a mount, and if the change is recursive all below it.
+/// Changes a mount, and if the change is recursive all mounts below it.
 fn change_from(world: &mut World, top: MountId, change: &Change) -> Result<(), Fault>
     requires there { IsTrue (has id_of top world.old.forest.mounts) }
     requires numbered { world.old.peers.next < 2 ^ 63 }
@@ -135,10 +135,10 @@ fn change_from(world: &mut World, top: MountId, change: &Change) -> Result<(), F
 /// Changes the mount that a path names in a namespace, and if the change is recursive all mounts
 /// below it, all at once. It may be a root mount. An empty change changes nothing.
 ///
-/// Refused as `NoNamespace` where the namespace is not there, `NoEntry` where a directory of the
-/// path is not, `NotMountRoot` where the path does not end at the root of a mount, `BadAttr` where
-/// two access times are set, or one while the access time is not taken away, and as `NoMemory`;
-/// then nothing has changed.
+/// Refused as `NoNamespace` if the namespace is not there, `NoEntry` if a directory of the path is
+/// not, `NotMountRoot` if the path does not end at the root of a mount, `BadAttr` if two access
+/// times are set, or one while the access time is not taken away, and as `NoMemory`; then nothing
+/// has changed.
 #[tactic(auto, unfolding(crate::specs::Change::attributed))]
 pub fn set_attr(
     world: &mut World,

@@ -10,7 +10,7 @@ use Rattle.mt_skel.specs.Skeleton.{Skeleton, Filesystem, IsSkeleton, is_filesyst
 use Rattle.mt_skel.proofs.ListLaws.{take_front}
 use Rattle.mt_skel.proofs.SkeletonLaws.{at_number, number_at, at_directory, child_number, filesystem_within}
 
--- a filesystem whose name is free: refused at a limit, and else added
+-- a filesystem whose name is free: refused at a limit, and otherwise added
 module _ (s : Skeleton) (f : Filesystem) (free : fs_named s f.name ≡ None) where
   pub many_fs : (256 ≤ length s.filesystems) ⊎ (16384 ≤ length s.directories) → added_fs s f ≡ Err TooMany
   many_fs full = grind (arith, nat_tests)

@@ -14,7 +14,7 @@ unescaped-plain x (a ∷ []) h = rw (ne_eqb x 92 h) refl
 unescaped-plain x (a ∷ b ∷ []) h = rw (ne_eqb x 92 h) refl
 unescaped-plain x (a ∷ b ∷ c ∷ rest) h = rw (ne_eqb x 92 h) refl
 
--- a backslash with fewer than three characters behind it begins no escape
+-- a backslash with fewer than three characters after it begins no escape
 pub unescaped-short : (xs : List ℕ) → length xs < 3 → unescaped (92 ∷ xs) ≡ None
 unfolding unescaped
 unescaped-short [] h = refl
@@ -32,14 +32,14 @@ unescaped-code (a ∷ b ∷ c ∷ rest) h =
     let e : take (length (a ∷ b ∷ c ∷ rest) - 3) rest ≡ rest = take_all (length (a ∷ b ∷ c ∷ rest) - 3) rest (omega arith) in
     ap (λ x. cons_to (byte_of_digits a b c) (unescaped x)) (sym e)
 
--- the rest of a text behind its first byte, as a slice has it
+-- the rest of a text after its first byte, as a slice has it
 abbrev pub rest_of : List ℕ → List ℕ
 rest_of text = take (length text - 1) (drop 1 text)
 
 pub rest_of-cons : (x : ℕ) (xs : List ℕ) → rest_of (x ∷ xs) ≡ xs
 rest_of-cons x xs = take_all (length (x ∷ xs) - 1) xs (omega arith)
 
--- a text by its first byte: one that is no backslash, and a backslash with too few characters behind it or with three
+-- a text by its first byte: one that is no backslash, and a backslash with too few characters after it or with three
 pub first_plain : (text : List ℕ) → 0 < length text → get_or text 0 0 ≢ 92 → unescaped text ≡ cons_to (Some (get_or text 0 0)) (unescaped (rest_of text))
 first_plain [] h ne = absurd (omega arith)
 first_plain (x ∷ xs) h ne = rw (rest_of-cons x xs) (unescaped-plain x xs ne)

@@ -44,7 +44,7 @@ take_next xs i x l e = take_more xs i x l ∙ ap (λ y. take i xs ++ y ∷ []) (
 pub split_next : {X : Type 0} (xs : List X) (i : ℕ) (x : X) → i < length xs → x ≡ get_or xs i x → xs ≡ (take i xs ++ x ∷ []) ++ drop (i + 1) xs
 split_next xs i x l e = sym (take-append-drop (i + 1) xs) ∙ ap (λ l. l ++ drop (i + 1) xs) (take_next xs i x l e)
 
--- the front of a list with the element that was found behind it
+-- the front of a list with the element that was found after it
 pub take_found : {X : Type 0} (w : List X) (i : ℕ) (x : X) → slice_get w i ≡ Some x → take (i + 1) w ≡ take i w ++ x ∷ []
 take_found w i x e = take_next w i x (slice_get_within w i x e) (sym (get_or_from_slice_get w i x x e))
 
@@ -58,7 +58,7 @@ take_front xs front x e =
 pub walked_more : {X : Type 0} (here up done more whole : List X) (x y : X) → here ≡ up ++ x ∷ [] → here ++ reverse done ≡ whole → more ≡ done ++ y ∷ [] → y ≡ x → up ++ reverse more ≡ whole
 walked_more here up done more whole x y e w m same = rw (m, reverse-append done (y ∷ []), same, ← append_assoc up (x ∷ []) (reverse done), ← e) w
 
--- the last so many of an empty list, and of one with one element more
+-- the last n of an empty list, and of one with one element more
 pub last_none : {X : Type 0} (here : List X) (n : ℕ) → here ≡ [] → drop (length here - n) here ≡ []
 last_none here n e = rw e (drop_all (0 - n) [] (omega arith))
 

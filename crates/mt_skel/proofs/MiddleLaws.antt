@@ -39,7 +39,7 @@ module _ {X : Type 0} (key : X → ℕ) where
   without_mid [] back x h = grind (arith, nat_tests, none_above (key x) back)
   without_mid (z ∷ front) back x h = grind (arith, nat_tests, below_mid front back z x h, without_mid front back x)
 
--- the element behind the front is set, removed or read at its place
+-- the element after the front is set, removed or read at its place
 pub set_mid : {X : Type 0} (front back : List X) (x y : X) → set (front ++ x ∷ back) (length front) y ≡ front ++ y ∷ back
 set_mid [] back x y = refl
 set_mid (z ∷ front) back x y = ap (λ l. z ∷ l) (set_mid front back x y)

@@ -1,4 +1,4 @@
--- Paths as they lie: the names, each behind a slash, and the way back.
+-- Paths as they lie: the names, each preceded by a slash, and the way back.
 use Rattle.std.proofs.Common.{◌≡◌, ◌≢◌, ℕ, List, [], ◌∷◌, ◌++◌, true, refl, sym, ap, ◌∙◌, arith, append-nil, append_assoc}
 use Rattle.std.specs.List.{list_all, join_with_byte}
 use Rattle.std.specs.Str.{bytes_eq}

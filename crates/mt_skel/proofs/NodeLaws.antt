@@ -78,7 +78,7 @@ dirs_from_push : (done : List Directory) (ns : List Node) (n : Node) → dirs_fr
 dirs_from_push done [] n = refl
 dirs_from_push done (x ∷ ns) n = dirs_from_push (done ++ dir_of done x ∷ []) ns n
 
--- one node more is one directory more, behind the others
+-- one node more is one directory more, after the others
 pub dirs_push : (ns : List Node) (n : Node) → dirs_of (ns ++ n ∷ []) ≡ dirs_of ns ++ dir_of (dirs_of ns) n ∷ []
 unfolding dirs_of
 dirs_push ns n = dirs_from_push [] ns n

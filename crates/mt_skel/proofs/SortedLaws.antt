@@ -40,7 +40,7 @@ unfolding IsDistinct
 distinct [] once = tt
 distinct (x ∷ xs) once = (apart x xs (grind (arith, nat_tests, once x)), distinct xs (λ q. grind (arith, once q)))
 
--- in a list that rises a number stands once where it is found, and else never
+-- in a list that rises a number stands once where it is found, and otherwise never
 found-once : (q : ℕ) (xs : List ℕ) → rises (λ n. n) xs ≡ true → occ q xs ≡ option_map_or (λ n. 1) (row_at (λ n. n) q xs) 0
 found-once q xs up = count-same (λ n. n == q) _ (λ n. grind arith) xs ∙ count-row (λ n. n) (λ n. true) q xs up
 

@@ -26,7 +26,7 @@ apart-new done m new None = refl
 apart-new done m new (Some k) = grind (arith, nat_tests, any-zero (λ j. eqb j m) done new)
 
 module _ (next : ℕ → Option ℕ) (g : ℕ) where
-  -- g is h, or is met from h by so many steps at most
+  -- g is h, or is met from h by this many steps at most
   abbrev pub within : ℕ → ℕ → Bool
   within n h = list_any (λ k. k == g) (chain next n h)
 

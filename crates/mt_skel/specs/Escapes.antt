@@ -19,7 +19,7 @@ is_backslash b = b == 92
 abbrev pub escaped : List ℕ → List ℕ
 escaped bytes = flat_map escaped_byte bytes
 
--- the byte that three digits behind a backslash stand for
+-- the byte that three digits after a backslash stand for
 abbrev pub byte_of_digits : ℕ → ℕ → ℕ → Option ℕ
 byte_of_digits a b c =
     if a == 48 && b == 52 && c == 48 then Some 32
@@ -33,7 +33,7 @@ cons_to (Some b) (Some bytes) = Some (b ∷ bytes)
 cons_to (Some b) None = None
 cons_to None rest = None
 
--- the bytes that a text of a line stands for; none where a backslash begins no escape
+-- the bytes that a text of a line stands for; none if a backslash begins no escape
 unfoldable pub unescaped : List ℕ → Option (List ℕ)
 unescaped [] = Some []
 unescaped (x ∷ []) = if x == 92 then None else Some (x ∷ [])

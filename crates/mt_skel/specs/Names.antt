@@ -13,11 +13,11 @@ is_label l = nat_le 1 (length l) && nat_le (length l) 255 && list_all (λ b. not
 abbrev pub is_name : List ℕ → Bool
 is_name l = is_label l && list_all (λ b. not (b == 47)) l && not (bytes_eq l (codes ".")) && not (bytes_eq l (codes ".."))
 
--- names, each behind a slash
+-- names, each preceded by a slash
 abbrev pub names_text : List (List ℕ) → List ℕ
 names_text names = flat_map (λ n. 47 ∷ n) names
 
--- the names that stand each behind a slash
+-- the names in a text, each preceded by a slash
 abbrev pub names_in : List ℕ → List (List ℕ)
 names_in [] = []
 names_in (b ∷ text) = pieces 47 text

@@ -26,7 +26,8 @@ pub record Skeleton : Type 0 where
 abbrev pub empty_skeleton : Skeleton
 empty_skeleton = record { filesystems = []; directories = [] }
 
--- the limits of the server: filesystems, directories with the roots, and names from a root down
+-- the limits of the server: filesystems, directories including the roots, and names from a root
+-- down
 abbrev pub filesystem_limit : ℕ
 filesystem_limit = 256
 
@@ -99,7 +100,7 @@ added_fs s f =
     ∷ refuse_if (nat_le directory_limit (length s.directories)) TooMany ∷ [])
     (with_fs s f)
 
--- a new directory, with its refusals in order; its parent has to be there, and a root is there already
+-- a new directory, with its refusals in order; its parent must be there, and a root is there already
 abbrev pub added_dir : Skeleton → List ℕ → List (List ℕ) → Result Skeleton Fault
 added_dir s fs path =
     let f = unwrap_or (fs_named s fs) 0 in

@@ -44,7 +44,7 @@ impl Children {
         }
     }
 
-    /// An equal table. Refused as `NoMemory` alone.
+    /// An equal table.
     pub(crate) fn copy(&self) -> Result<Children, Fault>
         ensures copy { IfOk result (λ children. children ≡ self.now) }
         ensures memory { IsOkUnless result Fault.NoMemory }
@@ -55,14 +55,15 @@ impl Children {
         })
     }
 
-    /// The directory of this name in a directory; none also where the directory is not there.
+    /// The directory of this name in a directory; `None` if there is none, or if that directory is
+    /// not there.
     pub(crate) fn child(&self, dir: Dir, name: &Name) -> Option<Dir>
         ensures { result ≡ child_in self.now dir name.now }
     {
         self.maps.get(dir as usize)?.get(name).copied()
     }
 
-    /// Adds a directory with none in it. Refused as `NoMemory` alone; then nothing has changed.
+    /// Adds a directory with none in it.
     pub(crate) fn push_root(&mut self) -> Result<(), Fault>
         ensures length { OnOk result (length self.new ≡ length self.old + 1) }
         ensures child { OnOk result ((d : ℕ) (other : List ℕ) → child_in self.new d other ≡ child_in self.old d other) }
@@ -73,8 +74,7 @@ impl Children {
         Ok(())
     }
 
-    /// Adds a directory with none in it, which has this number and this name in one that is there.
-    /// Refused as `NoMemory` alone; then nothing has changed.
+    /// Adds a directory with none in it, which has this number, and this name in one that is there.
     pub(crate) fn push_child(&mut self, dir: Dir, name: Name, child: Dir) -> Result<(), Fault>
         requires { dir < length self.old }
         ensures length { OnOk result (length self.new ≡ length self.old + 1) }

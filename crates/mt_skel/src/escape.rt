@@ -10,8 +10,6 @@ use crate::fault::Fault;
 use std::alloc::{AllocError, Global};
 
 /// The text of these bytes in a line.
-///
-/// Refused as `NoMemory` alone.
 pub fn escape(alloc: Global, bytes: &[u8]) -> Result<Vec<u8>, Fault>
     ensures text { IfOk result (λ text. text.items ≡ escaped bytes.now) }
     ensures memory { IsOkUnless result Fault.NoMemory }
@@ -42,8 +40,7 @@ fn has_backslash(text: &[u8]) -> bool
     text.iter().any(|byte| *byte == b'\\')
 }
 
-/// Appends the text of these bytes to a line. Fails for want of memory alone, and what stood there stays in front then
-/// too.
+/// Appends the text of these bytes to a line.
 #[tactic(auto, using(crate::proofs::EscapeLaws::bare_escaped))]
 pub fn push_escaped(text: &mut Vec<u8>, bytes: &[u8]) -> Result<(), AllocError>
     ensures text { OnOk result (text.new.items ≡ text.old.items ++ escaped bytes.now) }
@@ -76,7 +73,7 @@ fn push_byte(text: &mut Vec<u8>, byte: u8) -> Result<(), AllocError>
 /// The bytes that a text of a line stands for.
 ///
 /// Refused as `BadLine` exactly where a backslash begins none of the four escapes, which is found
-/// out without memory, and else as `NoMemory` alone.
+/// out without memory, and otherwise only as `NoMemory`.
 #[tactic(auto, using(crate::proofs::EscapeLaws::stands_for, crate::proofs::EscapeLaws::bare_unescaped))]
 pub fn unescape(alloc: Global, text: &[u8]) -> Result<Vec<u8>, Fault>
     ensures bytes { IfOk result (λ bytes. unescaped text.now ≡ Some bytes.items) }
@@ -101,7 +98,7 @@ pub fn unescape(alloc: Global, text: &[u8]) -> Result<Vec<u8>, Fault>
     Ok(bytes)
 }
 
-/// How many bytes a text stands for, or None where a backslash begins no escape. Takes no memory.
+/// How many bytes a text stands for, or `None` where a backslash begins no escape. Takes no memory.
 #[tactic(auto, using(crate::proofs::EscapeLaws::bare_unescaped))]
 pub fn unescaped_len(text: &[u8]) -> Option<usize>
     ensures { result ≡ option_map (λ bytes. length bytes) (unescaped text.now) }
@@ -119,7 +116,7 @@ pub fn unescaped_len(text: &[u8]) -> Option<usize>
     Some(length)
 }
 
-/// The byte that three digits behind a backslash stand for.
+/// The byte that three digits after a backslash stand for.
 fn byte_of_digits(a: u8, b: u8, c: u8) -> Option<u8>
     ensures { result ≡ byte_of_digits a b c }
 {
@@ -132,7 +129,7 @@ fn byte_of_digits(a: u8, b: u8, c: u8) -> Option<u8>
     }
 }
 
-/// The first byte that a text stands for, and the text behind it; None at the end, and where a
+/// The first byte that a text stands for, and the text after it; None at the end, and where a
 /// backslash begins no escape.
 #[tactic(auto, using(crate::proofs::EscapeLaws::first_plain, crate::proofs::EscapeLaws::first_short))]
 fn first_byte(text: &[u8]) -> Option<(u8, &[u8])>

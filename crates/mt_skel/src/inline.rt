@@ -1,4 +1,4 @@
-//! Bytes that lie in the value itself where they are few.
+//! Bytes that lie in the value itself if they are few.
 ghost use Rattle.std.specs.Prelude.{◌≡◌, IfOk};
 ghost use Rattle.mt_skel.specs.Kept.{bytes_of};
 
@@ -26,7 +26,7 @@ impl Drop for Bytes {
 }
 
 impl Bytes {
-    /// These bytes. Where they are few, their memory is let go.
+    /// These bytes. If they are few, their memory is freed.
     pub(crate) fn new(bytes: Vec<u8>) -> Bytes
         ensures { bytes_of result ≡ bytes.items }
     {
@@ -37,7 +37,7 @@ impl Bytes {
         }
     }
 
-    /// Bytes that are equal to these. Fails for want of memory alone.
+    /// Bytes that are equal to these.
     pub(crate) fn copied(alloc: Global, bytes: &[u8]) -> Result<Bytes, AllocError>
         ensures { IfOk result (λ copy. bytes_of copy ≡ bytes.now) }
     {
@@ -59,7 +59,7 @@ impl Bytes {
     }
 }
 
-/// The same bytes once more.
+/// The same bytes again.
 fn copied(short: &Few) -> Few
     ensures { result.items ≡ short.now.items }
 {

@@ -1,11 +1,11 @@
-//! Names, directories and refusals: what every layer of the mount server stands on.
+//! Names, directories and refusals, on which every layer of the mount server is built.
 //!
 //! A [`Skel`] is the directory skeleton of all filesystems. It is made once and only grows: mounts
 //! never change a directory.
 //!
-//! [`name`] has labels and names, whose bytes lie in the value itself where they are few ([`inline`]), [`names`] has
-//! paths, and [`escape`] how all of them stand in lines. [`skel`] has the directories, which [`children`] finds by their names.
-//! [`fault`] has the refusals, and [`list`] what is asked of a list of numbers.
+//! [`name`] has labels and names, whose bytes lie in the value itself if they are few ([`inline`]), [`names`] has
+//! paths, and [`escape`] says how all of them are written in lines. [`skel`] has the directories, which [`children`]
+//! finds by their names. [`fault`] has the refusals, and [`list`] has questions about lists of numbers.
 #![tactic(auto)]
 
 mod children;

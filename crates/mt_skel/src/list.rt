@@ -1,4 +1,4 @@
-//! What is asked of a list of numbers.
+//! Questions about lists of numbers.
 ghost use Rattle.std.specs.Prelude.{◌≡◌};
 ghost use Rattle.mt_skel.specs.Keyed.{among, rises};
 ghost use Rattle.mt_skel.specs.Rising.{is_above};

@@ -59,7 +59,7 @@ fn is_name(bytes: &[u8]) -> bool
 }
 
 impl Label {
-    /// The label of these bytes, or the bytes back where they are none.
+    /// The label of these bytes, or the bytes themselves if they are no label.
     pub fn new(bytes: Vec<u8>) -> Result<Label, Vec<u8>>
         ensures valid { IsOk result ↔ IsTrue (is_label bytes.items) }
         ensures label { IfOk result (λ label. label ≡ bytes.items) }
@@ -74,7 +74,7 @@ impl Label {
         }
     }
 
-    /// The label of these bytes, which are one. Refused as `NoMemory` alone.
+    /// The label of these bytes, which are one.
     pub fn of(alloc: Global, bytes: &[u8]) -> Result<Label, Fault>
         requires { IsTrue (is_label bytes.now) }
         ensures label { IfOk result (λ label. label ≡ bytes.now) }
@@ -93,7 +93,7 @@ impl Label {
         self.bytes.as_slice()
     }
 
-    /// An equal label. Refused as `NoMemory` alone.
+    /// An equal label.
     pub fn copy(&self) -> Result<Label, Fault>
         ensures copy { IfOk result (λ label. label ≡ self.now) }
         ensures memory { IsOkUnless result Fault.NoMemory }
@@ -138,7 +138,7 @@ impl Model for Name {
 }
 
 impl Name {
-    /// The name of these bytes, or the bytes back where they are none.
+    /// The name of these bytes, or the bytes themselves if they are no name.
     pub fn new(bytes: Vec<u8>) -> Result<Name, Vec<u8>>
         ensures valid { IsOk result ↔ IsTrue (is_name bytes.items) }
         ensures name { IfOk result (λ name. name ≡ bytes.items) }
@@ -155,7 +155,7 @@ impl Name {
         }
     }
 
-    /// The name of these bytes, which are one. Refused as `NoMemory` alone.
+    /// The name of these bytes, which are one.
     pub(crate) fn of(alloc: Global, bytes: &[u8]) -> Result<Name, Fault>
         requires { IsTrue (is_name bytes.now) }
         ensures name { IfOk result (λ name. name ≡ bytes.now) }
@@ -174,7 +174,7 @@ impl Name {
         self.label.bytes()
     }
 
-    /// An equal name. Refused as `NoMemory` alone.
+    /// An equal name.
     pub fn copy(&self) -> Result<Name, Fault>
         ensures copy { IfOk result (λ name. name ≡ self.now) }
         ensures memory { IsOkUnless result Fault.NoMemory }

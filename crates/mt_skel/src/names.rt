@@ -12,7 +12,7 @@ use std::alloc::{AllocError, Global};
 use std::marker::Model;
 
 /// The components of a path from a root directory down; the root itself has none. They lie in one piece of memory, each
-/// behind a slash, which no name has.
+/// preceded by a slash, which no name has.
 pub struct Names {
     text: Vec<u8>,
 }
@@ -45,7 +45,7 @@ impl Names {
         }
     }
 
-    /// The path whose names stand between the slashes of a text. Refused as `NoMemory` alone.
+    /// The path whose names are between the slashes of a text.
     #[tactic(auto, using(crate::proofs::NamesLaws::text_between))]
     pub fn between(alloc: Global, text: &[u8]) -> Result<Names, Fault>
         requires names { IsTrue (list_all is_name (pieces 47 text.now)) }
@@ -58,7 +58,7 @@ impl Names {
         Ok(Names { text: all })
     }
 
-    /// The path with one name more at its end. Fails for want of memory alone.
+    /// The path with one more name at its end.
     pub fn with(self, name: &Name) -> Result<Names, AllocError>
         ensures { IfOk result (λ names. names ≡ self ++ name.now ∷ []) }
     {
@@ -68,7 +68,7 @@ impl Names {
         Ok(Names { text })
     }
 
-    /// The names, each behind a slash.
+    /// The names, each preceded by a slash.
     pub fn text(&self) -> &[u8]
         ensures text { result.now ≡ names_text self.now }
         ensures valid { IsTrue (list_all is_name self.now) }
@@ -84,7 +84,7 @@ impl Names {
         self.text() == other.text()
     }
 
-    /// Equal names. Refused as `NoMemory` alone.
+    /// Equal names.
     pub fn copy(&self) -> Result<Names, Fault>
         ensures copy { IfOk result (λ names. names ≡ self.now) }
         ensures memory { IsOkUnless result Fault.NoMemory }
@@ -94,7 +94,7 @@ impl Names {
         })
     }
 
-    /// The names, one by one. Refused as `NoMemory` alone.
+    /// The names, one by one.
     pub fn to_vec(&self) -> Result<Vec<Name>, Fault>
         ensures names { IfOk result (λ names. names.items ≡ self.now) }
         ensures memory { IsOkUnless result Fault.NoMemory }

@@ -13,10 +13,11 @@ use crate::names::Names;
 use std::alloc::{AllocError, Global};
 use std::marker::Model;
 
-/// The number of a filesystem, from 1 in the order of making: the minor number of its device.
+/// The number of a filesystem, counted from 1 in the order of making: the minor number of its
+/// device.
 pub type FsId = u64;
 
-/// The number of a directory, from 0 in the order of making.
+/// The number of a directory, counted from 0 in the order of making.
 pub type Dir = u64;
 
 const MOST_FILESYSTEMS: usize = 256;
@@ -48,8 +49,8 @@ struct Node {
 
 /// The filesystems and their directories, which are only added to.
 ///
-/// At most 256 filesystems, 16,384 directories in all with the roots, and 32 names from a root down.
-/// The directory of a name in another is found by a table of the names in that one.
+/// There are at most 256 filesystems, 16,384 directories including the roots, and 32 names from a
+/// root down. The directory of a name in another is found by a table of the names in that one.
 pub struct Skel {
     filesystems: Vec<Filesystem>,
     nodes: Vec<Node>,
@@ -92,7 +93,7 @@ impl Skel {
         }
     }
 
-    /// An equal skeleton. Refused as `NoMemory` alone.
+    /// An equal skeleton.
     pub fn copy(&self) -> Result<Skel, Fault>
         ensures copy { IfOk result (λ skel. skel ≡ self.now) }
         ensures sound { IsSkeleton self.now }
@@ -108,8 +109,8 @@ impl Skel {
 
     /// Adds a filesystem with its root directory, and answers its number.
     ///
-    /// Refused as `FilesystemExists` where the name is taken, as `TooMany` at the limit of
-    /// filesystems or directories, and as `NoMemory`; then nothing has changed.
+    /// Refused as `FilesystemExists` if the name is taken, as `TooMany` at the limit of filesystems
+    /// or directories, and as `NoMemory`; then nothing has changed.
     pub fn add_fs(&mut self, name: Label, kind: Label, source: Label) -> Result<FsId, Fault>
         ensures done { IfOk result (λ fs. (added_fs self.old (record { name = name; kind = kind; source = source }) ≡ Ok self.new) × (fs ≡ length self.new.filesystems)) }
         ensures refused { IfErr result (λ fault. fault ≢ Fault.NoMemory → added_fs self.old (record { name = name; kind = kind; source = source }) ≡ Err fault) }
@@ -138,9 +139,9 @@ impl Skel {
 
     /// Adds the directory of this path in the filesystem of this name, and answers its number.
     ///
-    /// Refused as `NoFilesystem`, as `NoEntry` where its parent is not there, as `EntryExists` where
-    /// it is there, the root always, as `TooMany` below the depth or above the number that the
-    /// server holds, and as `NoMemory`; then nothing has changed.
+    /// Refused as `NoFilesystem`, as `NoEntry` if its parent is not there, as `EntryExists` if it is
+    /// there, as the root always is, as `TooMany` beyond the depth or the number that the server
+    /// allows, and as `NoMemory`; then nothing has changed.
     pub fn add_dir(&mut self, fs: &Label, path: &[Name]) -> Result<Dir, Fault>
         ensures done { IfOk result (λ dir. (added_dir self.old fs.now path.now ≡ Ok self.new) × (dir ≡ length self.old.directories)) }
         ensures refused { IfErr result (λ fault. fault ≢ Fault.NoMemory → added_dir self.old fs.now path.now ≡ Err fault) }
@@ -211,7 +212,8 @@ impl Skel {
         self.nodes[dir as usize].fs
     }
 
-    /// The directory of this name in a directory; None also where the directory is not there.
+    /// The directory of this name in a directory; `None` if there is none, or if that directory is
+    /// not there.
     #[tactic(auto, using(crate::proofs::IndexLaws::child_is))]
     pub fn child(&self, dir: Dir, name: &Name) -> Option<Dir>
         ensures child { result ≡ child self.now dir name.now }
@@ -220,7 +222,7 @@ impl Skel {
         self.children.child(dir, name)
     }
 
-    /// Whether the outer directory is the inner one, or above it; false where the inner one is not
+    /// Whether the outer directory is the inner one, or above it; false if the inner one is not
     /// there.
     pub fn holds(&self, outer: Dir, inner: Dir) -> bool
         ensures { result ≡ holds self.now outer inner }
@@ -238,7 +240,7 @@ impl Skel {
         true
     }
 
-    /// The names from the root of its filesystem down to a directory. Refused as `NoMemory` alone.
+    /// The names from the root of its filesystem down to a directory.
     pub fn path_of(&self, dir: Dir) -> Result<Vec<Name>, Fault>
         requires { IsTrue (is_directory self.now dir) }
         ensures path { IfOk result (λ path. path.items ≡ (directory self.now dir).path) }
@@ -268,9 +270,8 @@ impl Skel {
         depth
     }
 
-    /// Appends the last so many of the names from the root of its filesystem down to a directory, each behind a slash
-    /// and with its escapes; all of them where there are no more. Fails for want of memory alone, and what stood there
-    /// stays in front then too.
+    /// Appends the last `count` of the names from the root of its filesystem down to a directory, each after a slash
+    /// and with its escapes; all of them if there are no more.
     pub fn push_path(&self, text: &mut Vec<u8>, dir: Dir, count: usize) -> Result<(), AllocError>
         requires { IsTrue (is_directory self.now dir) }
         ensures text { OnOk result (text.new.items ≡ text.old.items ++ flat_map (λ n. 47 ∷ escaped n) (drop (length (directory self.now dir).path - count) (directory self.now dir).path)) }
@@ -288,8 +289,8 @@ impl Skel {
         Ok(())
     }
 
-    /// A path with the last so many of the names from the root of its filesystem down to a directory at its end; all of
-    /// them where there are no more. Fails for want of memory alone.
+    /// A path with the last `count` of the names from the root of its filesystem down to a directory at its end; all of
+    /// them if there are no more.
     pub fn add_path(&self, path: Names, dir: Dir, count: usize) -> Result<Names, AllocError>
         requires { IsTrue (is_directory self.now dir) }
         ensures { IfOk result (λ names. names ≡ path ++ drop (length (directory self.now dir).path - count) (directory self.now dir).path) }
@@ -317,7 +318,7 @@ impl Skel {
         Some(here)
     }
 
-    /// Adds the directory of this name in a directory that has none of it.
+    /// Adds the directory of this name to a directory that has none of this name.
     fn push_node(&mut self, fs: FsId, parent: Dir, name: Name) -> Result<Dir, Fault>
         requires there { IsTrue (is_directory self.old parent) }
         requires same { fs ≡ (directory self.old parent).fs }

@@ -156,7 +156,7 @@ module _ (w : WorldView) (h : IsWellFormed w) (ids : List ℕ) (can : CanGo w (a
         ∙ map-alike (λ (m : Mount). record m { place = place_after (filter_map past ids) m.id m.place }) (moved w goes) rest (λ m e i. record m { place = comes-to m e i })),
   )
 
--- the mounts of a list are taken away, and others placed, also where the world is read once more
+-- the mounts of a list are taken away, and others placed, even where the world is read once more
 pub replaced : (w : WorldView) → IsWellFormed w → (ids : List ℕ) → rises (λ k. k) ids ≡ true → CanGo w (among ids) → (v : WorldView) (relocations : List (ℕ × Place)) → v ≡ w → relocations ≡ filter_map (relocation_past w (among ids)) ids
     → IsFree relocations (staying ids v.forest) × (resettled ids relocations v ≡ once_gone w (among ids))
 replaced w h ids rising can v relocations again same =

@@ -19,7 +19,8 @@ use Rattle.mt_unmount.specs.Sliding.{place_of, inside, once_gone}
 abbrev pub standing_at : WorldView → List ℕ → ℕ → List ℕ
 standing_at w ts d = filter_map (λ t. option_map id_of (on w.forest (record { mount = t; dir = d }))) ts
 
--- from each mount that its parent propagates to a mount receives the one at the same directory (`sharedsubtree`, unmount semantics)
+-- a mount receives, from each mount to which its parent propagates, the one at the same directory (`sharedsubtree`, unmount
+-- semantics)
 abbrev pub received : WorldView → ℕ → List ℕ
 received w i = option_map_or (λ (p : Place). standing_at w (hits w p) p.dir) (place_of w i) []
 
@@ -31,12 +32,12 @@ candidates w i = subtree w.forest i ++ flat_map (received w) (subtree w.forest i
 abbrev pub is_candidate : WorldView → ℕ → ℕ → Bool
 is_candidate w i j = among (candidates w i) j
 
--- each candidate goes of which all that is inside it are candidates (`propagate_umount`)
+-- each candidate goes if everything inside it is a candidate (`propagate_umount`)
 abbrev pub is_detached : WorldView → ℕ → ℕ → Bool
 is_detached w i j = is_candidate w i j && list_all (is_candidate w i) (inside w j)
 
--- the world once a mount is detached, with all below it, there and wherever that propagates (umount2(2), MNT_DETACH; the masters
--- after it: this project's rule)
+-- the world once a mount is detached, with all mounts below it, there and wherever that propagates (umount2(2), MNT_DETACH; the
+-- masters after it: this project's rule)
 unfoldable pub without_tree : WorldView → ℕ → WorldView
 without_tree w i = once_gone w (is_detached w i)
 

@@ -11,7 +11,7 @@ use Rattle.mt_propagate.specs.World.{WorldView}
 use Rattle.mt_propagate.specs.Named.{is_mount_root}
 use Rattle.mt_unmount.specs.Sliding.{place_of, is_inside}
 
--- the mounts that stand on a candidate and are none
+-- the mounts that stand on a candidate and are not candidates
 abbrev pub staying_on : WorldView → (ℕ → Bool) → ℕ → List ℕ
 staying_on w candidate i = filter (λ j. not (candidate j)) (children w.forest i)
 
@@ -23,16 +23,16 @@ candidate_under w candidate j = option_and_then (λ i. cond (candidate i) (Some 
 abbrev pub around : WorldView → ℕ → Option ℕ
 around w j = option_and_then (λ (p : Place). cond (is_mount_root w p) None (Some p.mount)) (place_of w j)
 
--- a mount holds the one that it stands on if it is no candidate, or if one holds it
+-- a mount holds the one on which it stands if it is not a candidate, or if another one holds it
 pub record AreHolding (w : WorldView) (candidate : ℕ → Bool) (ids : List ℕ) : Type 0 where
-  -- each mount that stands on a candidate and is none
+  -- each mount that stands on a candidate and is not one
   pub starts : (i j : ℕ) → candidate i ≡ true → parent w.forest j ≡ Some i → candidate j ≡ false → IsTrue (among ids j)
-  -- each candidate that one of them stands on
+  -- each candidate on which one of them stands
   pub closed : (i j : ℕ) → candidate i ≡ true → parent w.forest j ≡ Some i → IsTrue (among ids j) → IsTrue (among ids i)
-  -- and no other mount: below each of them there is one that is no candidate, or it is that one
+  -- and no other mount: each of them is not a candidate, or has a mount below it that is not one
   pub sound : (i : ℕ) → IsTrue (among ids i) → (j : ℕ) × (m : Mount) × (mount_at w.forest j ≡ Some m) × (candidate j ≡ false) × IsTrue (is_below w.forest i j)
 
--- a candidate inside which a mount is that is no candidate is held, and no other one
+-- a candidate is held if a mount inside it is not a candidate, and otherwise it is not
 pub record AreHeld (w : WorldView) (candidate : ℕ → Bool) (held : ℕ → Bool) : Type 0 where
   pub each : (i j : ℕ) (m : Mount) → candidate i ≡ true → mount_at w.forest j ≡ Some m → candidate j ≡ false → is_inside w i j ≡ true → IsTrue (held i)
   pub only : (i : ℕ) → IsTrue (held i) → (j : ℕ) × (m : Mount) × (mount_at w.forest j ≡ Some m) × (candidate j ≡ false) × IsTrue (is_inside w i j)

@@ -8,7 +8,7 @@ use Rattle.mt_unmount.specs.Sliding.{place_of, CanGo}
 use Rattle.mt_unmount.specs.Unmounting.{unmounted}
 use Rattle.mt_unmount.specs.Detaching.{is_candidate, is_detached, detached}
 
--- a world stays well-formed when an unmount is accepted, so of a mount that is no root mount and has no child
+-- a world stays well-formed when an unmount is accepted, that is, of a mount that is not a root mount and has no child
 abbrev pub UnmountingKeeps : Type 0
 UnmountingKeeps = (w : WorldView) → IsWellFormed w → (n : ℕ) (path : List (List ℕ)) (v : WorldView) → unmounted w n path ≡ Ok v → IsWellFormed v
 
@@ -32,7 +32,7 @@ DetachingKeepsContained = (k : ℕ) (w : WorldView) (n : ℕ) (path : List (List
 abbrev pub DetachingStaysInside : Type 0
 DetachingStaysInside = (w : WorldView) (n : ℕ) (path : List (List ℕ)) (v : WorldView) → IsWellFormed w → IsContained n w → detached w n path ≡ Ok v → IsSameOutside n w v
 
--- all that goes can go where the mount is no root mount
+-- all that goes can go if the mount is not a root mount
 abbrev pub DetachingTakesWhole : Type 0
 DetachingTakesWhole = (w : WorldView) → IsWellFormed w → (i : ℕ) → is_none (place_of w i) ≡ false → CanGo w (is_detached w i)
 

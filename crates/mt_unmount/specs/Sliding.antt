@@ -16,11 +16,11 @@ use Rattle.mt_propagate.specs.Named.{mount_or_unknown}
 abbrev pub place_of : WorldView → ℕ → Option Place
 place_of w i = (mount_or_unknown w i).place
 
--- a mount stands on mount i at another directory than its root
+-- a mount stands on mount i at a directory other than its root
 abbrev pub stands_inside : WorldView → ℕ → ℕ → Bool
 stands_inside w i j = option_map_or (λ (p : Place). (p.mount == i) && not (p.dir == root_dir w i)) (place_of w j) false
 
--- inside mount i is each mount that stands on it at another directory than its root, and all below that one
+-- inside mount i is each mount that stands on it at a directory other than its root, and everything below that one
 abbrev pub is_inside : WorldView → ℕ → ℕ → Bool
 is_inside w i j = list_any (stands_inside w i) (parents_up w.forest j)
 
@@ -28,8 +28,8 @@ is_inside w i j = list_any (stands_inside w i) (parents_up w.forest j)
 abbrev pub inside : WorldView → ℕ → List ℕ
 inside w i = filter (is_inside w i) (map id_of w.forest)
 
--- mounts can go where none of them is a root mount, and with each of them goes all that is inside it (`propagate_umount`:
--- such a set of mounts is not shifting)
+-- mounts can go if none of them is a root mount, and with each of them goes everything inside it (`propagate_umount`: such a set of
+-- mounts is not shifting)
 pub record CanGo (w : WorldView) (goes : ℕ → Bool) : Type 0 where
   pub placed : (i : ℕ) (m : Mount) → goes i ≡ true → mount_at w.forest i ≡ Some m → (p : Place) × (m.place ≡ Some p)
   pub inside : (i j : ℕ) → goes i ≡ true → is_inside w i j ≡ true → goes j ≡ true

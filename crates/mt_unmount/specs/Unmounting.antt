@@ -24,7 +24,7 @@ may_go w m = list_all (λ c. option_map_or (λ p. p.dir == m.root) c.place false
 abbrev pub going_at : WorldView → List ℕ → ℕ → List ℕ
 going_at w ts d = map id_of (filter (may_go w) (filter_map (λ t. on w.forest (record { mount = t; dir = d })) ts))
 
--- the named mount goes, and from each mount that its parent propagates to the mount at the same directory, if it may
+-- the named mount goes, and from each mount to which its parent propagates the mount at the same directory, if it may
 -- (`sharedsubtree`, unmount semantics)
 abbrev pub removed : WorldView → ℕ → List ℕ
 removed w i = i ∷ option_map_or (λ p. going_at w (hits w p) p.dir) (place_of w i) []

@@ -1,4 +1,4 @@
-//! Detaching a mount with all below it.
+//! Detaching a mount with all mounts below it.
 ghost use Rattle.std.specs.Prelude.{◌≡◌, ◌≢◌, ◌++◌, Ok, Err, IfOk, IfErr, OnOk, OnErr, IsOkUnless};
 ghost use Rattle.std.specs.List.{flat_map};
 ghost use Rattle.mt_propagate.specs.World.{world_view};
@@ -18,7 +18,7 @@ use mt_skel::fault::Fault;
 use mt_skel::name::Name;
 use mt_skel::skel::Dir;
 
-/// Appends the mounts that stand at this directory of these mounts. Refused as `NoMemory` alone.
+/// Appends the mounts that stand at this directory of these mounts.
 fn push_standing(
     world: &World,
     targets: &[MountId],
@@ -40,8 +40,7 @@ fn push_standing(
     Ok(())
 }
 
-/// Appends what a mount receives: at each target of its place the mount at the same directory. Refused as `NoMemory`
-/// alone.
+/// Appends what a mount receives: at each target of its place the mount at the same directory.
 fn push_received(world: &World, id: MountId, ids: &mut Vec<MountId>) -> Result<(), Fault>
     ensures ids { OnOk result (ids.new.items ≡ ids.old.items ++ received (world_view world.now) id) }
     ensures memory { IsOkUnless result Fault.NoMemory }
@@ -53,7 +52,7 @@ fn push_received(world: &World, id: MountId, ids: &mut Vec<MountId>) -> Result<(
     Ok(())
 }
 
-/// Appends what each of these mounts receives. Refused as `NoMemory` alone.
+/// Appends what each of these mounts receives.
 fn push_all_received(world: &World, tree: &[MountId], ids: &mut Vec<MountId>) -> Result<(), Fault>
     ensures ids { OnOk result (ids.new.items ≡ ids.old.items ++ flat_map (received (world_view world.now)) tree.now) }
     ensures memory { IsOkUnless result Fault.NoMemory }
@@ -64,7 +63,7 @@ fn push_all_received(world: &World, tree: &[MountId], ids: &mut Vec<MountId>) ->
     Ok(())
 }
 
-/// The candidates: the tree of a mount, and what each mount of it receives. Refused as `NoMemory` alone.
+/// The candidates: the tree of a mount, and what each mount of it receives.
 fn candidates(world: &World, id: MountId) -> Result<Vec<MountId>, Fault>
     ensures candidates { IfOk result (λ ids. ids.items ≡ candidates (world_view world.now) id) }
     ensures memory { IsOkUnless result Fault.NoMemory }
@@ -76,7 +75,7 @@ fn candidates(world: &World, id: MountId) -> Result<Vec<MountId>, Fault>
     Ok(ids)
 }
 
-/// The candidates that go: all that is inside them are candidates. Refused as `NoMemory` alone.
+/// The candidates that go: everything inside them is a candidate.
 fn gone(world: &World, id: MountId) -> Result<Gone, Fault>
     requires well_formed { IsWellFormed (world_view world.now) }
     ensures gone { IfOk result (AreGone (is_detached (world_view world.now) id)) }
@@ -87,15 +86,14 @@ fn gone(world: &World, id: MountId) -> Result<Gone, Fault>
     Ok(candidates.without(&held))
 }
 
-/// Detaches the mount that the path names in a namespace, the topmost one there, with all below it,
-/// and what each mount of this tree receives: at each propagation target of its place the mount at
-/// the same directory. Of what is received each mount stays inside which, at another directory than its
-/// root or below what stands there, there is one that is neither of the tree nor received. What stands on
-/// the root of a mount that goes slides to the place that gets free.
+/// Detaches the mount that the path names in a namespace, the topmost one there, with all mounts below it, and what
+/// each mount of this tree receives: at each propagation target of its place, the mount at the same directory. A
+/// received mount stays if inside it, that is, at a directory other than its root or below what stands there, is a
+/// mount that is neither in the tree nor received. What stands on the root of a mount that goes slides to the place
+/// that becomes free.
 ///
-/// Refused as `NoNamespace`, `NoEntry` where a component is not there, `NotMountRoot` where the path
-/// ends below the root of a mount, `RootPlace` where it names the root mount, and as `NoMemory`; then
-/// nothing has changed.
+/// Refused as `NoNamespace`, `NoEntry` if a component is not there, `NotMountRoot` if the path ends below the root of a
+/// mount, `RootPlace` if it names the root mount, and as `NoMemory`; then nothing has changed.
 pub fn detach(world: &mut World, space: SpaceId, path: &[Name]) -> Result<(), Fault>
     requires well_formed { IsWellFormed (world_view world.old) }
     ensures done { OnOk result (detached (world_view world.old) space path.now ≡ Ok (world_view world.new)) }

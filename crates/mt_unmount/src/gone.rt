@@ -34,7 +34,7 @@ impl Gone {
         Gone { ids }
     }
 
-    /// Those of them that are none of the others.
+    /// Those of them that are not among the others.
     pub(crate) fn without(self, others: &Gone) -> Self
         requires rising { IsTrue (rises (λ k. k) self) }
         ensures rising { IsTrue (rises (λ k. k) result) }

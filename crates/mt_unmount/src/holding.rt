@@ -1,7 +1,8 @@
-//! Which candidates of a detach stay: those inside which there is a mount that is no candidate.
+//! Which candidates of a detach stay: those that have a mount inside that is not a candidate.
 //!
-//! A mount holds the one that it stands on if it is no candidate, or if one holds it. These are met upwards from those
-//! that stand on candidates and are none, each once. So what is gone over is the candidates and what stands on them.
+//! A mount holds the one on which it stands if it is not a candidate, or if another one holds it. These are found by
+//! going up from the mounts that stand on candidates and are not candidates, each once. So only the candidates and what
+//! stands on them are gone over.
 ghost use Rattle.std.specs.Prelude.{◌≡◌, ◌++◌, ℕ, nat_eq, IfOk, OnOk, IsOkUnless};
 ghost use Rattle.std.specs.List.{flat_map};
 ghost use Rattle.mt_skel.specs.Keyed.{among};
@@ -19,7 +20,7 @@ use mt_propagate::named::is_mount_root;
 use mt_propagate::world::World;
 use mt_skel::fault::Fault;
 
-/// Adds the mounts that stand on one and are no candidates. Refused as `NoMemory` alone.
+/// Adds the mounts that stand on one and are not candidates.
 fn push_staying(
     world: &World,
     candidates: &Gone,
@@ -38,7 +39,7 @@ fn push_staying(
     Ok(())
 }
 
-/// The mounts that stand on candidates and are none. Refused as `NoMemory` alone.
+/// The mounts that stand on candidates and are not candidates.
 fn staying(world: &World, candidates: &Gone) -> Result<Vec<MountId>, Fault>
     ensures staying { IfOk result (λ ids. ids.items ≡ flat_map (staying_on (world_view world.now) (among candidates.now)) candidates.now) }
     ensures memory { IsOkUnless result Fault.NoMemory }
@@ -74,7 +75,7 @@ fn candidate_under(world: &World, candidates: &Gone, id: MountId) -> Option<Moun
     }
 }
 
-/// Adds a mount behind the others, if there is one and it is none of them.
+/// Adds a mount after the others, if there is one and it is not among them.
 fn add(set: &mut IndexSet<MountId>, id: Option<MountId>) -> Result<(), Fault>
     ensures keys { OnOk result (set.new.keys ≡ option_map_or (insert_key nat_eq set.old.keys) id set.old.keys) }
     ensures memory { IsOkUnless result Fault.NoMemory }
@@ -85,7 +86,7 @@ fn add(set: &mut IndexSet<MountId>, id: Option<MountId>) -> Result<(), Fault>
     Ok(())
 }
 
-/// The mounts that hold others where these are candidates. Refused as `NoMemory` alone.
+/// The mounts that hold others where these are candidates.
 fn holding(world: &World, candidates: &Gone) -> Result<IndexSet<MountId>, Fault>
     requires well_formed { IsWellFormed (world_view world.now) }
     ensures holding { IfOk result (λ set. AreHolding (world_view world.now) (among candidates.now) set.keys) }
@@ -115,8 +116,8 @@ fn around(world: &World, id: MountId) -> Option<MountId>
     }
 }
 
-/// The candidates inside which there is a mount that is none, in any order, and maybe other mounts. One may be there
-/// more than once. Refused as `NoMemory` alone.
+/// The candidates that have a mount inside that is not a candidate, in any order, and maybe other mounts. One may be
+/// there more than once.
 pub(crate) fn held(world: &World, candidates: &Gone) -> Result<Vec<MountId>, Fault>
     requires well_formed { IsWellFormed (world_view world.now) }
     ensures held { IfOk result (λ ids. AreHeld (world_view world.now) (among candidates.now) (among ids.items)) }

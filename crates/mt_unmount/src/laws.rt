@@ -1,5 +1,5 @@
-//! What is true of an unmount and of a detach, whatever finds the mounts that go. The functions do
-//! nothing: their contracts are the laws.
+//! What is true of an unmount and of a detach, however the mounts that go are found. The functions
+//! do nothing: their contracts are the laws.
 ghost use Rattle.mt_unmount.specs.Laws.{UnmountingKeeps, UnmountingKeepsContained, UnmountingStaysInside};
 ghost use Rattle.mt_unmount.specs.Laws.{DetachingKeeps, DetachingKeepsContained, DetachingStaysInside};
 ghost use Rattle.mt_unmount.specs.Laws.{DetachingTakesWhole, DetachingTakesMost};
@@ -10,29 +10,28 @@ pub fn unmounting_keeps_worlds()
     ensures { UnmountingKeeps }
 {}
 
-/// A contained namespace stays contained through an accepted unmount, in whichever namespace (`kept`).
-/// An unmount in it changes nothing outside: what goes is in it, and so is all that slides or loses a
-/// master by that (`inside`).
+/// A contained namespace stays contained through an accepted unmount, in whichever namespace (`kept`). An unmount in it
+/// changes nothing outside: what goes is in it, and so is everything that slides or loses a master by that (`inside`).
 pub fn unmounting_stays_inside()
     ensures kept { UnmountingKeepsContained }
     ensures inside { UnmountingStaysInside }
 {}
 
-/// An accepted detach leaves a well-formed world well-formed: with each mount goes all that is inside it, so
-/// that what stays stands on a mount that stays.
+/// An accepted detach leaves a well-formed world well-formed: with each mount goes everything inside it, so that what
+/// stays stands on a mount that stays.
 pub fn detaching_keeps_worlds()
     ensures { DetachingKeeps }
 {}
 
-/// A contained namespace stays contained through an accepted detach, in whichever namespace (`kept`).
-/// A detach in it changes nothing outside: the tree is in it, and so is all that is received (`inside`).
+/// A contained namespace stays contained through an accepted detach, in whichever namespace (`kept`). A detach in it
+/// changes nothing outside: the tree is in it, and so is everything that is received (`inside`).
 pub fn detaching_stays_inside()
     ensures kept { DetachingKeepsContained }
     ensures inside { DetachingStaysInside }
 {}
 
-/// With each mount that a detach takes away goes all that is inside it, and none that goes is a root mount
-/// (`whole`). No set of candidates of which this is true has a mount that the detach leaves (`most`).
+/// With each mount that a detach takes away goes everything inside it, and none that goes is a root mount (`whole`). No
+/// set of candidates for which this is true has a mount that the detach leaves (`most`).
 pub fn detaching_takes_most()
     ensures whole { DetachingTakesWhole }
     ensures most { DetachingTakesMost }

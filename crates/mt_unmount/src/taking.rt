@@ -77,7 +77,6 @@ fn relocations(world: &World, gone: &Gone) -> Result<Vec<(MountId, Place)>, Faul
 }
 
 /// Makes room to take these mounts away, to move others and to change the states of all, and changes nothing.
-/// Refused as `NoMemory` alone.
 fn make_room(world: &mut World, gone: &Gone, relocations: &[(MountId, Place)]) -> Result<(), Fault>
     ensures mounts { OnOk result (length gone.now + length relocations.now ≤ world.new.forest.room) }
     ensures states { OnOk result (length world.new.peers.peers ≤ world.new.peers.room) }
@@ -89,7 +88,7 @@ fn make_room(world: &mut World, gone: &Gone, relocations: &[(MountId, Place)]) -
     world.reserve_states()
 }
 
-/// Takes these mounts away, and moves others to the places that get free. [`make_room`] has made room.
+/// Takes these mounts away, and moves others to the places that become free. [`make_room`] has made room.
 fn replace(world: &mut World, gone: &Gone, relocations: &[(MountId, Place)])
     requires order { IsPeering (peering_of world.old.peers) }
     requires states { length world.old.peers.peers ≤ world.old.peers.room }
@@ -103,8 +102,7 @@ fn replace(world: &mut World, gone: &Gone, relocations: &[(MountId, Place)])
     move_all(&mut world.forest, relocations);
 }
 
-/// Takes these mounts away, and lets what stands on their roots slide. Refused as `NoMemory` alone; then nothing has
-/// changed.
+/// Takes these mounts away, and lets what stands on their roots slide.
 pub(crate) fn take_away(world: &mut World, gone: &Gone) -> Result<(), Fault>
     requires well_formed { IsWellFormed (world_view world.old) }
     requires rising { IsTrue (rises (λ k. k) gone.now) }

@@ -25,7 +25,7 @@ fn has_child(world: &World, id: MountId) -> bool
     world.forest.child_count(id) > 0
 }
 
-/// Whether a mount goes with one at the same directory: nothing stands on it, or one mount alone, at
+/// Whether a mount goes with one at the same directory: nothing stands on it, or only one mount, at
 /// its root.
 fn may_go(world: &World, mount: &Mount) -> bool
     requires well_formed { IsWellFormed (world_view world.now) }
@@ -90,12 +90,12 @@ fn gone(world: &World, id: MountId) -> Result<Gone, Fault>
 }
 
 /// Unmounts the mount that the path names in a namespace, and at each propagation target of its
-/// place the mount at the same directory, unless another stands below its root. What stands on the
-/// root of a mount that goes slides to the place that gets free.
+/// place the mount at the same directory, unless another stands on that below its root. What stands
+/// on the root of a mount that goes slides to the place that becomes free.
 ///
-/// Refused as `NoNamespace`, `NoEntry` where a component is not there, `NotMountRoot` where the path
-/// ends below the root of a mount, `RootPlace` where it names the root mount, `Busy` where a mount
-/// stands on the named one, and as `NoMemory`; then nothing has changed.
+/// Refused as `NoNamespace`, `NoEntry` if a component is not there, `NotMountRoot` if the path ends
+/// below the root of a mount, `RootPlace` if it names the root mount, `Busy` if a mount stands on
+/// the named one, and as `NoMemory`; then nothing has changed.
 pub fn unmount(world: &mut World, space: SpaceId, path: &[Name]) -> Result<(), Fault>
     requires well_formed { IsWellFormed (world_view world.old) }
     ensures done { OnOk result (unmounted (world_view world.old) space path.now ≡ Ok (world_view world.new)) }

@@ -1,4 +1,4 @@
-//! One forest is brought to what another one is. What comes, goes or is changed on the way is not noted.
+//! One forest is made equal to another one. What comes, goes or is changed on the way is not noted.
 ghost use Rattle.std.specs.Prelude.{◌≡◌, ◌+◌, ◌<◌, ◌≤◌, [], ◌∷◌, true, false, length, Some, None, OnOk, IsOkUnless};
 ghost use Rattle.std.specs.Option.{ForSome};
 ghost use Rattle.mt_lists.specs.Log.{AreAlikeBut};
@@ -13,8 +13,8 @@ use mt_skel::fault::Fault;
 
 impl Forest {
     /// Brings the mounts with these IDs to what they are in another forest, from which no other mount differs, and
-    /// begins. A mount that differs in attributes alone keeps its slot, and no index is told of it. Refused as `NoMemory`
-    /// alone, before anything has changed.
+    /// begins. A mount that differs only in attributes keeps its slot, and no index is told of it. A refusal comes
+    /// before anything has changed.
     pub fn follow(&mut self, other: &Forest, ids: &[MountId]) -> Result<(), Fault>
         requires alike { AreAlikeBut ids.now (mount_at self.old.mounts) (mount_at other.now.mounts) }
         ensures mounts { OnOk result (self.new.mounts ≡ other.now.mounts) }
@@ -30,7 +30,7 @@ impl Forest {
     }
 
     /// Takes away those of these mounts that are not in another forest or stand elsewhere there, and gives the others
-    /// the attributes that they have there. Answers whether that forest may have mounts beside those that are left.
+    /// the attributes that they have there. Answers whether that forest may have other mounts than those that are left.
     fn let_all_go(&mut self, other: &Forest, ids: &[MountId]) -> bool
         requires alike { AreAlikeBut ids.now (mount_at self.old.mounts) (mount_at other.now.mounts) }
         ensures part { IsPartOf [] (mount_at self.new.mounts) (mount_at other.now.mounts) }
@@ -49,7 +49,7 @@ impl Forest {
         lacks
     }
 
-    /// Answers whether the mount is in another forest and not here any more.
+    /// Answers whether the mount is in another forest and no longer here.
     fn let_go(&mut self, other: &Forest, id: MountId) -> bool
         ensures part { ForSome (mount_at self.new.mounts id) (λ m. mount_at other.now.mounts id ≡ Some m) }
         ensures whole { result ≡ false → mount_at self.new.mounts id ≡ mount_at other.now.mounts id }
@@ -67,7 +67,8 @@ impl Forest {
         true
     }
 
-    /// Makes the mount with the ID of this one, if it differs in attributes alone, this one. Answers whether it did.
+    /// Replaces the mount with the ID of this one by this one, if the two differ only in attributes. Answers whether it
+    /// did.
     fn renew(&mut self, mount: Mount) -> bool
         ensures here { result ≡ true → mount_at self.new.mounts mount.id ≡ Some mount }
         ensures others { AreAlikeBut (mount.id ∷ []) (mount_at self.old.mounts) (mount_at self.new.mounts) }
@@ -92,7 +93,7 @@ impl Forest {
         }
     }
 
-    /// Adds those of these mounts that another forest has beside the mounts that are here.
+    /// Adds those of these mounts that another forest has but this one does not.
     fn take_all_in(&mut self, other: &Forest, ids: &[MountId])
         requires room { length ids.now ≤ self.old.room }
         requires part { IsPartOf [] (mount_at self.old.mounts) (mount_at other.now.mounts) }

@@ -1,5 +1,5 @@
-//! What many mounts change at once: groups that are made and left, masters that are settled, and states that are taken
-//! over from other peers.
+//! Changes of many mounts at once: groups are made and left, masters are settled, and states are taken over from other
+//! peers.
 ghost use Rattle.std.specs.Prelude.{◌≡◌, ◌+◌, ◌<◌, ◌≤◌, ◌^◌, length, nat_eq, IsTrue, OnOk, IsOkUnless};
 ghost use Rattle.mt_skel.specs.Keyed.{among, without};
 ghost use Rattle.mt_lists.specs.Log.{AreAlikeBut};
@@ -20,7 +20,7 @@ use mt_mounts::mount::MountId;
 use mt_skel::fault::Fault;
 
 impl Peers {
-    /// Makes these mounts so, whatever becomes of masters: it goes over all states.
+    /// Makes these mounts so, whatever that does to masters: it goes over all states.
     fn change_all(&mut self, ids: &[MountId], kind: Kind)
         requires room { length self.old.peers ≤ self.old.room }
         requires numbered { IsTrue (is_shared kind) → self.old.next < 2 ^ 63 }
@@ -61,8 +61,8 @@ impl Peers {
         self.masters_live = true;
     }
 
-    /// Makes a mount shared, private, a slave or unbindable. An ID that is not there changes nothing. It
-    /// needs no memory: [`reserve`](Peers::reserve) has made room, as for as many as there are.
+    /// Makes a mount shared, private, a slave or unbindable. An ID that is not there changes nothing. It needs no
+    /// memory: [`reserve`](Peers::reserve) has made room for as many as there are.
     pub fn make(&mut self, id: MountId, kind: Kind)
         requires room { length self.old.peers ≤ self.old.room }
         requires numbered { self.old.next < 2 ^ 63 }
@@ -138,9 +138,8 @@ impl Peers {
         self.masters_live = false;
     }
 
-    /// Takes mounts away as [`leave_all`](Peers::leave_all) does, where groups and masters are in order: then
-    /// it settles no master where no group goes that has slaves which stay, and no more mounts are named than
-    /// there are.
+    /// Takes mounts away as [`leave_all`](Peers::leave_all) does, if groups and masters are in order: it settles no
+    /// master if no group goes that has slaves that stay, and no more mounts are named than there are.
     pub fn leave_in_order(&mut self, ids: &[MountId])
         requires order { IsPeering (peering_of self.old) }
         requires room { length self.old.peers ≤ self.old.room }
@@ -161,8 +160,8 @@ impl Peers {
     }
 
     /// Brings the states of these mounts to what they are in other peers, from which no other differs, takes over the
-    /// number of the next group, and begins; nothing is noted on the way. Where many are named the list of states is
-    /// copied as a whole. Refused as `NoMemory` alone, before anything has changed.
+    /// number of the next group, and begins; nothing is noted on the way. If many are named, the list of states is
+    /// copied as a whole. A refusal comes before anything has changed.
     pub fn follow(&mut self, other: &Peers, ids: &[MountId]) -> Result<(), Fault>
         requires alike { AreAlikeBut ids.now (state_at self.old.peers) (state_at other.now.peers) }
         ensures peering { OnOk result (peering_of self.new ≡ peering_of other.now) }

@@ -15,7 +15,7 @@ use crate::peers::Peers;
 use crate::state::{Kind, State};
 use mt_mounts::mount::MountId;
 
-/// How many states are gone over in about the time in which one is sought and written.
+/// How many states are gone over in about the time in which one is looked up and written.
 const SWEEP: usize = 8;
 
 /// Whether a mount that gets another state keeps its master, and its group if it has one.
@@ -25,8 +25,8 @@ fn gains(was: &State, state: &State) -> bool
     was.master == state.master && (was.group.is_none() || was.group == state.group)
 }
 
-/// Whether it is known that each master has a member also once a mount has this state, in the place of the one that it
-/// had, if it is there.
+/// Whether it is known that each master still has a member once a mount has this state in place of the one that it had,
+/// if it is there.
 pub(crate) fn stays_live(live: bool, was: Option<State>, state: &State) -> bool
     ensures live { IsTrue result → IsTrue live }
     ensures gains { IsTrue result → IsTrue (option_map_or (λ s. gains s state.now) was true) }

@@ -8,3 +8,6 @@ returns-in_err-line-clause-broken g c = handed_on _ _ _ c.from_residual.ensures.
 
 pub returns-clause-connection : goal.returns-clause-connection
 returns-clause-connection g c is u v = rw (c.as_slice.ensures.value, c.in_ok-line.ensures) at (c.ask_line.ensures.connection is u v)
+
+pub returns-clause-asked : goal.returns-clause-asked
+returns-clause-asked g c = rw (c.as_slice.ensures.value, c.in_ok-line.ensures) at c.ask_line.ensures.asked

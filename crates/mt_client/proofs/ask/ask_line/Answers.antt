@@ -1,8 +1,8 @@
-use Rattle.std.proofs.Common.{rules, refl, inl, inr}
+use Rattle.std.proofs.Common.{rules, refl, ◌∙◌, inl, inr}
 use Rattle.std.proofs.KnownBytes.{Keeps-refl}
 use Rattle.mt_client.proofs.EndingLaws.{refused_passed}
-use Rattle.mt_client.proofs.CallLaws.{handed_on, no_memory≢output, passes_passed, refused_of}
-use Rattle.mt_client.proofs.RelayLaws.{same_fault, unprinted}
+use Rattle.mt_client.proofs.CallLaws.{out_as, handed_on, no_memory≢output, passes_passed, refused_of}
+use Rattle.mt_client.proofs.RelayLaws.{on_ok, same_fault, unprinted}
 use Rattle.std.proofs.lemmas.Result.{IfOk-weaker, IfErr-at_err}
 use Rattle.mt_client.proofs.ask.ask_line.Goals as goal
 
@@ -24,3 +24,11 @@ pub returns-clause-connection : goal.returns-clause-connection
 returns-clause-connection g c is u v =
     let fault = rw (c.form_of.ensures, c.send_request.ensures.unread (search rules)) at (IfErr-at_err _ is c.pass_answer.ensures.fault) in
     inr (fault.cut refl u)
+
+pub returns-then-not-branch-clause-asked : goal.returns-then-not-branch-clause-asked
+returns-then-not-branch-clause-asked g c = inr (c.send_request.ensures.cause (search rules))
+
+pub returns-clause-asked : goal.returns-clause-asked
+returns-clause-asked g c =
+    let sent = out_as (c.as_slice.ensures.value ∙ c.in_ok-request.ensures) (c.send_request.ensures.sent (search rules)) in
+    on_ok c.pass_answer.result (inl sent.went)

@@ -3,9 +3,9 @@ use Rattle.std.proofs.Common.{◌∙◌, rules, inl, inr, subst}
 use Rattle.std.proofs.lemmas.Result.{IfErr-weaker, on_ok_weaker}
 use Rattle.mt_lines.specs.Reading.{last_line}
 use Rattle.mt_client.specs.Reading.{known_lines, IsSentPart}
-use Rattle.mt_client.proofs.CallLaws.{reads_both, writes_both, out_both, out_as, handed_on, no_memory≢output, fault_as, passes_passed, passes_read, refused_of, as_fault, effect_behind}
+use Rattle.mt_client.proofs.CallLaws.{reads_both, writes_both, out_both, out_as, handed_on, no_memory≢output, fault_as, passes_passed, passes_read, refused_of, as_fault, effect_behind, first_asked, more_asked, asked_alone}
 use Rattle.mt_client.proofs.MissingLaws.{missing_later}
-use Rattle.mt_client.proofs.RelayLaws.{unprinted, part_first, part_second, part_one}
+use Rattle.mt_client.proofs.RelayLaws.{on_ok_at, unprinted, part_first, part_second, part_one}
 use Rattle.mt_client.specs.Missing.{IsWaiting, IsMissing, IsMissingAnswer}
 use Rattle.mt_client.specs.Awaited.{IsRefusedOr}
 use Rattle.mt_client.proofs.effects.tell_answered.Goals as goal
@@ -53,6 +53,12 @@ pub returns-then-not-branch-2-clause-refused : goal.returns-then-not-branch-2-cl
 returns-then-not-branch-2-clause-refused g c is =
     inr (inl (rw (c.if-not-branch-2.true, c.form_of.ensures, c.send_request.ensures.unread (search rules), c.send_request.ensures.unprinted (search rules)) at (passes_passed c.in_ok-pass_answer.ensures.passed)))
 
+pub returns-then-not-branch-clause-asked : goal.returns-then-not-branch-clause-asked
+returns-then-not-branch-clause-asked g c is = inr (c.send_request.ensures.cause (search rules))
+
+pub returns-then-not-branch-2-clause-asked : goal.returns-then-not-branch-2-clause-asked
+returns-then-not-branch-2-clause-asked g c is = first_asked _ _ (inl (out_as (c.as_slice.ensures.value ∙ c.in_ok-request.ensures) (c.send_request.ensures.sent (search rules))))
+
 pub returns : goal.returns
 returns g c =
     let sent = out_as (c.as_slice.ensures.value ∙ c.in_ok-request.ensures) (c.send_request.ensures.sent (search rules)) in
@@ -62,6 +68,7 @@ returns g c =
       refused = λ is. inr (inr (known_lines c.pass_answer.new.lines, g.O.Output.contents c.pass_answer.new.out, passes_passed passed, c.tell_changes.ensures.refused is));
       broken = IfErr-weaker c.tell_changes.result _ _ (λ f q. inr (known_lines c.pass_answer.new.lines, g.O.Output.contents c.pass_answer.new.out, passes_passed passed, q)) c.tell_changes.ensures.broken;
       sent = λ is. out_both sent (c.tell_changes.ensures.sent is);
+      asked = λ is. more_asked _ _ sent (asked_alone g.W.Output _ (on_ok_at c.tell_changes.result is c.tell_changes.ensures.asked));
       part = part_second _ _ _ _ _ sent.went c.tell_changes.ensures.part;
       on = on_ok_weaker c.tell_changes.result (λ q. reads_both passed.read.on q) c.tell_changes.ensures.on;
       prints = on_ok_weaker c.tell_changes.result (λ q. writes_both passed.out.on q) c.tell_changes.ensures.prints;

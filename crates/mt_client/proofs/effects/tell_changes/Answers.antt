@@ -3,7 +3,7 @@ use Rattle.std.proofs.lemmas.Result.{IfErr-weaker}
 use Rattle.mt_client.specs.declared.fault.ClientFault.TheVariants.{Output}
 use Rattle.mt_client.proofs.TellingLaws.{unsaid_of}
 use Rattle.mt_client.proofs.CallLaws.{handed_on, fault_as, as_fault}
-use Rattle.mt_client.proofs.RelayLaws.{same_fault}
+use Rattle.mt_client.proofs.RelayLaws.{on_ok, same_fault}
 use Rattle.mt_client.proofs.effects.tell_changes.Goals as goal
 
 pub returns-in_err-send_request-clause-broken : goal.returns-in_err-send_request-clause-broken
@@ -23,3 +23,9 @@ pub returns-clause-fault : goal.returns-clause-fault
 returns-clause-fault g c =
     IfErr-weaker c.tell_taken.result _ _ (λ f q. fault_as (λ none v. inl none) (λ b. b) q)
     (rw (c.send_request.ensures.unread (search rules), c.send_request.ensures.unprinted (search rules)) at c.tell_taken.ensures.fault)
+
+pub returns-then-not-branch-clause-asked : goal.returns-then-not-branch-clause-asked
+returns-then-not-branch-clause-asked g c = inr (c.send_request.ensures.cause (search rules))
+
+pub returns-clause-asked : goal.returns-clause-asked
+returns-clause-asked g c = let sent = c.send_request.ensures.sent (search rules) in on_ok c.tell_taken.result (inl sent.went)

@@ -1,6 +1,7 @@
 use Rattle.std.proofs.Common.{rules, Err, ap, ◌∙◌}
 use Rattle.mt_lines.specs.Reading.{last_line}
-use Rattle.mt_events.specs.Mirrors.{is_next, mirrored}
+use Rattle.mt_events.specs.Mirrors.{mirrored}
+use Rattle.mt_client.specs.Mirroring.{may_come}
 use Rattle.mt_client.specs.Reading.{known_lines}
 use Rattle.mt_client.proofs.FollowLaws.{followed_by_post, such_needs_post, such_needs_such, only_applied}
 use Rattle.mt_client.proofs.OpeningLaws.{needs_line, refused_some, no_refusal, unrefused_or}
@@ -21,10 +22,10 @@ pub returns-in_err-post-clause-fault : goal.returns-in_err-post-clause-fault
 returns-in_err-post-clause-fault g c =
     handed_on _ _ _ c.from_residual-in_err-post.ensures.1
     (fault_behind c.in_ok-next_text.ensures.read.on
-    (λ none. let came = c.in_ok-next_text.ensures.read.came in unrefused_or (no_refusal came (search rules)) (such_needs_post (is_next c.args.mirror.now) _ _ _ came none)) (λ b. b) c.in_err-post.ensures.fault)
+    (λ none. let came = c.in_ok-next_text.ensures.read.came in unrefused_or (no_refusal came (search rules)) (such_needs_post (may_come c.args.mirror.now) _ _ _ came none)) (λ b. b) c.in_err-post.ensures.fault)
 
 pub returns-in_err-apply_next-clause-fault : goal.returns-in_err-apply_next-clause-fault
 returns-in_err-apply_next-clause-fault g c =
     handed_on _ _ _ c.from_residual-in_err-apply_next.ensures.1
     (fault_checked (c.in_ok-post.ensures.on.limit ∙ c.in_ok-next_text.ensures.read.on.limit)
-    (λ e. let came = c.in_ok-next_text.ensures.read.came in unrefused_or (no_refusal came (search rules)) (such_needs_such (is_next c.args.mirror.now) _ _ _ _ c.in_ok-post.post came c.in_ok-post.ensures.only (c.in_err-apply_next.ensures.refused (ap Err e)))) (λ e. c.in_err-apply_next.ensures.kind (ap Err e)))
+    (λ e. let came = c.in_ok-next_text.ensures.read.came in unrefused_or (no_refusal came (search rules)) (such_needs_such (may_come c.args.mirror.now) _ _ _ _ c.in_ok-post.post came c.in_ok-post.ensures.only (c.in_err-apply_next.ensures.refused (ap Err e)))) (λ e. c.in_err-apply_next.ensures.kind (ap Err e)))

@@ -1,4 +1,4 @@
-use Rattle.std.proofs.Common.{rules, arith, ap, inl, inr}
+use Rattle.std.proofs.Common.{rules, arith, ap, ◌∙◌, inl, inr}
 use Rattle.std.proofs.lemmas.Bool.{MatchBool-at_true, MatchBool-at_false}
 use Rattle.mt_events.specs.Posts.{ended}
 use Rattle.mt_client.specs.Reading.{known_lines}
@@ -44,3 +44,12 @@ pub returns-clause-followed : goal.returns-clause-followed
 returns-clause-followed g c is =
     let followed = rw (c.send_request.ensures.unread (search rules)) at c.in_ok-follow_posts.ensures.followed in
     MatchBool-at_true _ _ c.if-not-branch-2.false followed
+
+pub returns-then-not-branch-clause-asked : goal.returns-then-not-branch-clause-asked
+returns-then-not-branch-clause-asked g c = inr (c.send_request.ensures.cause (search rules))
+
+pub returns-then-not-branch-2-clause-asked : goal.returns-then-not-branch-2-clause-asked
+returns-then-not-branch-2-clause-asked g c = inl (out_as (c.as_slice.ensures.value ∙ c.in_ok-follow.ensures) (c.send_request.ensures.sent (search rules))).went
+
+pub returns-clause-asked : goal.returns-clause-asked
+returns-clause-asked g c = inl (out_as (c.as_slice.ensures.value ∙ c.in_ok-follow.ensures) (c.send_request.ensures.sent (search rules))).went

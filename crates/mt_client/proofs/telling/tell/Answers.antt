@@ -3,7 +3,7 @@ use Rattle.std.proofs.lemmas.Option.{MatchOption-at_some}
 use Rattle.std.proofs.lemmas.Result.{IfErr-at_err, IfErr-weaker, on_ok_weaker}
 use Rattle.mt_lines.specs.Reading.{last_line}
 use Rattle.mt_client.proofs.TellingLaws.{unsaid_of, telling_first, told_whole, telling_stopped}
-use Rattle.mt_client.proofs.CallLaws.{handed_on, ask_cut, talk_cut}
+use Rattle.mt_client.proofs.CallLaws.{either, handed_on, ask_cut, talk_cut}
 use Rattle.mt_client.proofs.MissingLaws.{telling_needs_opening, telling_needs_posts}
 use Rattle.mt_client.proofs.RelayLaws.{part_second, same_fault}
 use Rattle.mt_client.proofs.telling.tell.Goals as goal
@@ -26,7 +26,7 @@ pub returns-in_default-clause-part : goal.returns-in_default-clause-part
 returns-in_default-clause-part g c = telling_first c.args.scope _ _ c.watch.ensures.part
 
 pub returns-in_default-clause-told : goal.returns-in_default-clause-told
-returns-in_default-clause-told g c = let a = c.watch.ensures.refused (search rules) in inl (last_line c.watch.new.lines, a.refused, a.out.went)
+returns-in_default-clause-told g c = let a = c.watch.ensures.refused (search rules) in inl (last_line c.watch.new.lines, a.refused, a.out.went, either (λ o. o.went) (λ b. b) a.gone)
 
 pub returns : goal.returns
 returns g c =
@@ -36,7 +36,7 @@ returns g c =
     let same = MatchOption-at_some {o = c.in_ok-mirrors.field-0} _ _ c.in-Some.mirrors (search rules) c.in_ok-mirrors.ensures.unprinted in
     let on = c.in_ok-mirrors.ensures.on in
     record {
-      told = on_ok_weaker c.tell_portions.result (λ h. inr (told_whole _ _ _ found h)) (rw same at c.tell_portions.ensures.told);
+      told = on_ok_weaker c.tell_portions.result (λ h. inr (told_whole _ _ _ found sent h)) (rw same at c.tell_portions.ensures.told);
       broken = IfErr-weaker c.tell_portions.result _ _ (λ f q. telling_stopped found q) (rw same at c.tell_portions.ensures.broken);
       part = let p = c.tell_portions.ensures.part in (p.0, part_second _ _ _ _ _ sent.went p.1);
       connection = λ is. talk_cut on sent unrefused (telling_needs_posts c.args.scope c.in-Some.mirrors.items _ _ found unrefused) (IfErr-at_err _ is c.tell_portions.ensures.fault) refl;

@@ -19,5 +19,5 @@ invariant-portions g l = record {
   rising : IsTrue (rises mirror_space l.mirrors.items);
   goes : Came (portions_of l.initial.count l.initial.scope) l._portion l.initial.mirrors.items l.mirrors.items (known_lines l.initial.lines) (known_lines l.lines);
   sent : Appends (g.W.Output.contents l.initial.writer) (g.W.Output.contents l.writer) (follows_text l.initial.count l._portion);
-  told : AreToldBefore l.initial.named l.initial.count l.initial.scope l.initial.mirrors.items l.mirrors.items (known_lines l.initial.lines) (known_lines l.lines) (g.O.Output.contents l.initial.out) (g.O.Output.contents l.out);
+  told : AreToldBefore l.initial.named l.initial.count l.initial.scope l._portion l.initial.mirrors.items l.mirrors.items (known_lines l.initial.lines) (known_lines l.lines) (g.O.Output.contents l.initial.out) (g.O.Output.contents l.out);
 }

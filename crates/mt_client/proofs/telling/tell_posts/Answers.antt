@@ -1,4 +1,4 @@
-use Rattle.std.proofs.Common.{rules, ◌≡◌, Ok, ap, arith, inl}
+use Rattle.std.proofs.Common.{rules, ◌≡◌, Ok, ap, refl, arith, inl}
 use Rattle.std.proofs.KnownBytes.{Keeps-refl}
 use Rattle.std.proofs.lemmas.Bool.{MatchBool-at_true, MatchBool-at_false}
 use Rattle.std.proofs.lemmas.Result.{IfOk-weaker, IfErr-weaker, on_ok_weaker, MatchResult-at_ok}
@@ -24,7 +24,7 @@ returns-in_err-tell_post-clause-broken g c = handed_on _ _ _ c.from_residual.ens
 
 pub returns-then-not-branch-clause-told : goal.returns-then-not-branch-clause-told
 returns-then-not-branch-clause-told g c =
-    all_few (omega (arith, c.posts-test.true)) c.posts.invariant.told (MatchBool-at_false _ _ c.if-not-branch.true c.in_ok-tell_post.ensures.told)
+    (all_few (omega (arith, c.posts-test.true)) c.posts.invariant.told (MatchBool-at_false _ _ c.if-not-branch.true c.in_ok-tell_post.ensures.told), refl)
 
 pub posts-preserved : goal.posts-preserved
 posts-preserved g c = record {
@@ -45,7 +45,7 @@ returns g c =
     let h = c.posts.invariant in
     let all : c.posts._post ≡ c.args.count = search rules in
     record {
-      told = IfOk-weaker c.read_end.result _ _ (λ going e. match_bool going (portion_whole all h.told) (λ r. all_few (omega (arith, all)) h.told (Keeps-refl _, r)) e) c.read_end.ensures.ended;
+      told = IfOk-weaker c.read_end.result _ _ (λ going e. match_bool going (portion_whole all h.told) (λ r. (all_few (omega (arith, all)) h.told (Keeps-refl _, r), refl)) e) c.read_end.ensures.ended;
       rising = search rules;
       broken = IfErr-weaker c.read_end.result _ _ (λ f q. up_to_some (omega (arith, all)) h.told (inl (unsaid_of f _ _ _ (unprinted f _ _ _ q.cause (Keeps-refl _)) (λ other. Keeps-refl _)))) c.read_end.ensures.fault;
       applied = λ is. posts_whole c.args.count c.posts._post c.args.scope _ _ _ _ _ c.posts-test.false h.goes (c.read_end.ensures.unrefused is) (MatchResult-at_ok _ _ _ is c.read_end.ensures.ended);

@@ -2,6 +2,6 @@ use Rattle.mt_propagate.specs.World.{world_view}
 use Rattle.mt_propagate.specs.WellFormed.{IsWellFormed}
 use Rattle.mt_examples.proofs.receivers.is_agreed_after_all.Given as goal
 
--- the world is in order behind each command
+-- the world is in order after each command
 abbrev pub invariant-commands : goal.invariant-commands
 invariant-commands l = IsWellFormed (world_view l.world)

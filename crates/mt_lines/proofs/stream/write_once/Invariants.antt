@@ -3,7 +3,7 @@ use Rattle.std.specs.Io.KnownBytes.{Keeps}
 use Rattle.mt_lines.specs.Stream.{interruptions}
 use Rattle.mt_lines.proofs.stream.write_once.Given as goal
 
--- so many writes were interrupted
+-- this many writes were interrupted
 abbrev pub invariant-trying : goal.invariant-trying
 invariant-trying g l = record {
   known : Keeps (g.W.Output.contents l.initial.writer) (g.W.Output.contents l.writer);

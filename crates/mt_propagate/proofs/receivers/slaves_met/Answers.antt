@@ -35,7 +35,7 @@ left c =
     let es = c.args.world.now.peers.peers in
     walk-some (slaves es c.args.master) c.in-Some.id c.slaves.next (rises-picked es (has_master c.args.master) c.requires.rising) (met c) c.in-Some.is
 
--- and behind it one less is left
+-- and after it one less is left
 next : (c : After-slave_after-own) → c.slave_after-own.result.1 ≡ above c.in-Some.id (slaves c.args.world.now.peers.peers c.args.master)
 next c = c.slave_after-own.ensures.next ∙ slave-next c.args.world.now.peers.peers c.args.master c.in-Some.id c.requires.rising (rw c.in-Some.is at c.slaves.invariant.inside)
 

@@ -1,6 +1,6 @@
 use Rattle.std.proofs.Common.{◌≡◌, true, List, [], ◌∷◌, rules, refl}
-use Rattle.mt_reasons.specs.declared.argument.Argument.{Argument}
-use Rattle.mt_reasons.specs.Arguments.{are_right}
+use Rattle.mt_protocol.specs.declared.argument.Argument.{Argument}
+use Rattle.mt_reasons.specs.Reasons.{are_right}
 use Rattle.mt_reasons.proofs.line.words_reason.Goals as goal
 
 no_word : (arguments : List Argument) → are_right arguments [] ≡ true

@@ -1,8 +1,7 @@
 use Rattle.std.proofs.Common.{◌≡◌, true, false, length}
 use Rattle.std.specs.List.{list_any}
 use Rattle.mt_reasons.specs.declared.reason.Reason.{Reason}
-use Rattle.mt_reasons.specs.Arguments.{are_right}
-use Rattle.mt_reasons.specs.Reasons.{is_empty_word, IsToldOf}
+use Rattle.mt_reasons.specs.Reasons.{is_empty_word, are_right, IsToldOf}
 use Rattle.mt_reasons.proofs.line.words_reason.Given as goal
 
 abbrev pub invariant-words : goal.invariant-words

@@ -1,8 +1,8 @@
-use Rattle.std.proofs.Common.{◌≡◌, ◌++◌, drop, map}
-use Rattle.std.specs.Prelude.{not}
+use Rattle.std.proofs.Common.{◌≡◌, ◌++◌, drop, map, not}
 use Rattle.std.specs.List.{filter}
-use Rattle.mt_render.specs.Forest.{without_lines, is_drawn, strays, tree}
+use Rattle.mt_render.specs.Steps.{top_step, has_step}
 use Rattle.mt_render.proofs.forest.strays.Given as goal
 
+-- the rows that were found, and those to come
 abbrev pub invariant-rows : goal.invariant-rows
-invariant-rows l = l.others.items ++ map without_lines (filter (λ r. not (is_drawn (tree l.table) r.id)) (drop l.row-index l.table)) ≡ strays l.table
+invariant-rows l = l.others.items ++ map top_step (filter (λ r. not (has_step l.drawn r.id)) (drop l.row-index l.rows)) ≡ map top_step (filter (λ r. not (has_step l.drawn r.id)) l.rows)

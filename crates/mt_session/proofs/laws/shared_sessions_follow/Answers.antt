@@ -1,4 +1,4 @@
-use Rattle.mt_session.proofs.WatcherLaws.{shared_sessions_follow}
+use Rattle.mt_session.proofs.LeftLaws.{shared_sessions_follow}
 use Rattle.mt_session.proofs.laws.shared_sessions_follow.Goals as goal
 
 pub returns : goal.returns

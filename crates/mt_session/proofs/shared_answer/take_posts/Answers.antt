@@ -5,13 +5,13 @@ use Rattle.mt_session.proofs.WatcherLaws.{popped_runs, popped_same, portion_at_o
 use Rattle.mt_session.proofs.shared_answer.take_posts.Goals as goal
 
 pub take_met-requires-clause-running : goal.take_met-requires-clause-running
-take_met-requires-clause-running g c = popped_runs c.args.session.now c.pops.new.self c.args.most c.in_ok-printed.printed c.in_ok-printed.ensures.popped c.in_ok-printed.ensures.watched
+take_met-requires-clause-running g c = popped_runs c.args.session.now.own c.pops.new.self.own c.args.most c.in_ok-printed.printed c.in_ok-printed.ensures.popped c.in_ok-printed.ensures.watched
 
-pub returns-then-printed-eq0 : goal.returns-then-printed-eq0
-returns-then-printed-eq0 g c =
-    let same = popped_same c.args.session.now c.pops.new.self c.args.most c.in_ok-printed.printed c.in_ok-printed.ensures.popped c.in_ok-printed.ensures.watched (omega (arith, c.if-printed-eq0.true)) in
-    subst (λ (w : Option WatcherView). IsPortion w c.args.most c.take_met.result c.take_met.new.session) same c.take_met.ensures
+pub returns-then-printed-eq0-clause-portion : goal.returns-then-printed-eq0-clause-portion
+returns-then-printed-eq0-clause-portion g c =
+    let same = popped_same c.args.session.now.own c.pops.new.self.own c.args.most c.in_ok-printed.printed c.in_ok-printed.ensures.popped c.in_ok-printed.ensures.watched (omega (arith, c.if-printed-eq0.true)) in
+    subst (λ (w : Option WatcherView). IsPortion w c.args.most c.take_met.result c.take_met.new.session.own c.take_met.new.session.sight.seen) same c.take_met.ensures.portion
 
-pub returns : goal.returns
-returns g c =
-    portion_at_once c.args.session.now c.pops.new.self c.args.most c.in_ok-printed.printed c.in_ok-printed.ensures.popped c.in_ok-printed.ensures.watched (λ none. absurd (omega (arith, none, c.if-printed-eq0.false)))
+pub returns-clause-portion : goal.returns-clause-portion
+returns-clause-portion g c =
+    portion_at_once c.args.session.now.own c.pops.new.self.own c.args.most c.in_ok-printed.printed _ c.in_ok-printed.ensures.popped c.in_ok-printed.ensures.watched (λ none. absurd (omega (arith, none, c.if-printed-eq0.false)))

@@ -28,9 +28,9 @@ lines-preserved g c =
     }
 
 pub returns-in-Some-clause-served : goal.returns-in-Some-clause-served
-returns-in-Some-clause-served g c left =
+returns-in-Some-clause-served g c v left sees =
     let i = c.lines.invariant.going in
-    served_ending i.0 _ _ _ c.args.session.now _ _ _ _ _ c.in-Some.end c.requires.none i.2 c.in-Some.ensures.served (omega (arith, i.1, c.lines-test.true)) left
+    served_ending i.0 _ _ _ c.args.session.now _ _ _ _ _ c.in-Some.end v c.requires.none i.2 c.in-Some.ensures.served (omega (arith, i.1, c.lines-test.true)) left sees
 
 pub returns-in-Some-clause-read : goal.returns-in-Some-clause-read
 returns-in-Some-clause-read g c t = read_more c.in-Some.end _ _ _ (c.lines.invariant.read t) (c.in-Some.ensures.read t)
@@ -45,6 +45,6 @@ pub returns-in-Some-clause-cut_run : goal.returns-in-Some-clause-cut_run
 returns-in-Some-clause-cut_run g c t none = c.in-Some.ensures.cut_run t (c.lines.invariant.cut_run t none)
 
 pub returns-clause-served : goal.returns-clause-served
-returns-clause-served g c left =
+returns-clause-served g c v left sees =
     let i = c.lines.invariant.going in
-    served_spent i.0 _ _ c.args.session.now _ _ _ c.requires.none i.2 (omega (arith, i.1, c.lines.auto._count-end, c.lines-test.false)) left
+    served_spent i.0 _ _ c.args.session.now _ _ _ v c.requires.none i.2 (omega (arith, i.1, c.lines.auto._count-end, c.lines-test.false)) left sees

@@ -10,7 +10,7 @@ invariant_of-self-in_err-resize c =
     tied-same (tie_in c.self.inside.ties.items) (tie_in c.resize.new.self.items) (rows_in c.self.inside.ties.items) (rows_in c.resize.new.self.items) c.self.inside.tops c.reserve.new.self
     (λ k. ap (λ s. tie_in s k) c.in_err-resize.ensures.items) (ap rows_in c.in_err-resize.ensures.items) c.reserve.ensures.entries c.self.invariant
 
--- there are as many slots as before, or so many
+-- there are as many slots as before, or this many
 wider : (c : goal.In_ok-resize) → c.resize.new.self.items ≡ c.self.inside.ties.items ++ replicate (c.args.width - length c.self.inside.ties.items) None
 wider c =
     wide c.self.inside.ties.items c.resize.new.self.items c.args.width (vec_len c.self.inside.ties) c.max.result c.self.inside.ties.ok.0 (c.max.ensures ∙ ap (λ n. max n c.args.width) c.len.ensures) c.in_ok-resize.ensures.items

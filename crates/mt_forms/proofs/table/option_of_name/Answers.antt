@@ -1,0 +1,18 @@
+use Rattle.mt_forms.specs.Tables.{option_of_name}
+use Rattle.mt_forms.proofs.table.option_of_name.Goals as goal
+
+pub returns-in-Mount : goal.returns-in-Mount
+unfolding option_of_name
+returns-in-Mount c = rw c.in-Mount.is c.among_names.ensures
+
+pub returns-in-Umount : goal.returns-in-Umount
+unfolding option_of_name
+returns-in-Umount c = rw c.in-Umount.is c.among_names-in-Umount.ensures
+
+pub returns-in-Unshare : goal.returns-in-Unshare
+unfolding option_of_name
+returns-in-Unshare c = rw c.in-Unshare.is c.among_names-in-Unshare.ensures
+
+pub returns-in-Nsenter : goal.returns-in-Nsenter
+unfolding option_of_name
+returns-in-Nsenter c = rw c.in-Nsenter.is c.among_names-in-Nsenter.ensures

@@ -1,0 +1,14 @@
+pub mod Written
+pub mod Lookup
+pub mod Attributes
+pub mod Beginnings
+pub mod Effects
+pub mod Tables
+pub mod ListedWords
+pub mod Given
+pub mod Reading
+pub mod Operations
+pub mod Lines
+pub mod Settings
+pub mod Scripts
+pub mod Splitting

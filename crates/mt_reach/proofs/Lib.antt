@@ -1,0 +1,15 @@
+pub mod ShortLaws
+pub mod MeetLaws
+pub mod WayLaws
+pub mod FoundLaws
+pub mod MasterLaws
+pub mod BeginLaws
+pub mod SeenLaws
+pub mod HitLaws
+pub mod NewLaws
+pub mod ParentLaws
+pub mod WitnessLaws
+pub mod MissingLaws
+pub mod DownLaws
+pub mod GroupsLaws
+pub mod WalkedLaws
