@@ -1,0 +1,7 @@
+use Rattle.std.proofs.Common.{arith}
+use Rattle.mt_propagate.specs.World.{world_view}
+use Rattle.mt_world.proofs.HiddenLaws.{beside_on}
+use Rattle.mt_world.proofs.hidden.hide_masters.Goals as goal
+
+pub returns-in_err-place-clause-beside : goal.returns-in_err-place-clause-beside
+returns-in_err-place-clause-beside c = beside_on c.rows.space (world_view c.args.world.now) (world_view c.rows.world) (world_view c.hide_master.new.world) c.rows.invariant.beside c.hide_master.ensures.beside
