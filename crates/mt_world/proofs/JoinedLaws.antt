@@ -1,6 +1,6 @@
 -- Which mounts of rows have their states stays known where one gets its own, and where one stays private.
-use Rattle.std.proofs.Common.{◌≡◌, ◌≢◌, ℕ, ◌<◌, List, map, length, slice_get, Option, Some, None, refl, sym, ap, subst, ◌∙◌, inl, inr, arith}
-use Rattle.std.specs.Prelude.{unwrap_or}
+use Rattle.std.proofs.Common.{◌≡◌, ◌≢◌, ℕ, ◌<◌, List, length, slice_get, Option, Some, None, refl, sym, ap, subst, ◌∙◌, inl, inr, arith}
+use Rattle.std.specs.Prelude.{unwrap_or, IfSome}
 use Rattle.std.specs.Option.{is_some}
 use Rattle.std.proofs.lemmas.Bool.{cases_eq}
 use Rattle.std.proofs.lemmas.Option.{same_Some}
@@ -15,7 +15,7 @@ use Rattle.mt_world.specs.declared.misfit.Misfit.{Misfit}
 use Rattle.mt_world.specs.declared.misfit.Misfit.TheVariants.{NoMaster}
 use Rattle.mt_world.specs.declared.row.TableRow.{TableRow}
 use Rattle.mt_world.specs.Kept.{IsSetAt, is_kept}
-use Rattle.mt_world.specs.States.{with_joined, AreThere, AreJoined}
+use Rattle.mt_world.specs.States.{with_joined, AreThere, AreJoined, IsSameButStates}
 
 -- the states once a mount got one
 state_there : (w : WorldView) (i : ℕ) (s : State) (m : Mount) → IsWellFormed w → mount_at w.forest i ≡ Some m → state_of (with_joined w i s) i ≡ s
@@ -67,3 +67,13 @@ module _ (w v : WorldView) (rows : List TableRow) (left lone next : List (Option
       | inr ne ↦ a.private i x y e f (sym (set.others i ne) ∙ o)
     ];
   })
+
+  -- whether it got its state or not
+  pub joined_end : (was : Misfit) (o : Option Misfit) → (o ≡ None → v ≡ with_joined w r.id r.state) → IfSome o (λ _. v ≡ w) → IsWellFormed v → slice_get lone k ≡ Some (Some was) → IsSetAt lone next k o → AreJoined v rows left next
+  joined_end was None made same well waits set = joined_put (made refl) well set
+  joined_end was (Some why) made same well waits set = joined_left why was same waits set
+
+-- only states change
+pub joined_same : (w v : WorldView) (i : ℕ) (s : State) (o : Option Misfit) → (o ≡ None → v ≡ with_joined w i s) → IfSome o (λ _. v ≡ w) → IsSameButStates w v
+joined_same w v i s None made same = subst (IsSameButStates w) (sym (made refl)) refl
+joined_same w v i s (Some why) made same = subst (IsSameButStates w) (sym same) refl

@@ -18,7 +18,9 @@ range_more a (suc n) = grind (arith, range_more (a + 1) n)
 -- one turn more
 pub turn_more : (turns : List Turn) (n : ℕ) (t : Turn) → map (λ (t : Turn). t.number) turns ≡ range_with_len 0 n → t.number ≡ n → map (λ (t : Turn). t.number) (turns ++ t ∷ []) ≡ range_with_len 0 (n + 1)
 turn_more turns n t e is =
-    map-append (λ (t : Turn). t.number) turns (t ∷ []) ∙ ap (λ l. l ++ t.number ∷ []) e ∙ ap (λ k. range_with_len 0 n ++ k ∷ []) (omega (arith, is)) ∙ sym (range_more 0 n) ∙ ap (range_with_len 0) (omega arith)
+    let last : t.number ≡ 0 + n = omega (arith, is) in
+    let one : suc n ≡ n + 1 = omega arith in
+    map-append (λ (t : Turn). t.number) turns (t ∷ []) ∙ ap (λ (l : List ℕ). l ++ t.number ∷ []) e ∙ ap (λ (k : ℕ). range_with_len 0 n ++ k ∷ []) last ∙ sym (range_more 0 n) ∙ ap (range_with_len 0) one
 
 pub ordered : (count k : ℕ) (olds news : List Turn) (numbers : List ℕ) → k < count → map (λ (t : Turn). t.number) olds ≡ range_with_len 0 count → IsPermutation olds news → numbers ≡ map (λ (t : Turn). t.number) news → among numbers k ≡ true
 ordered count k olds news numbers l ranged moved is =

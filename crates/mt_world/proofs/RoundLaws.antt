@@ -23,9 +23,9 @@ either true b e f = absurd (cc)
 either false true e f = refl
 either false false e f = e
 
-module _ (rows : List TableRow) (old new : List (Option Misfit)) (later ws : List ℕ) (i n : ℕ) (within : i < length ws) (here : n ≡ get_or ws i n) where
+module _ (rows : List TableRow) (old new : List (Option Misfit)) (later ws : List ℕ) (i n d : ℕ) (within : i < length ws) (here : n ≡ get_or ws i d) where
   rest : drop i ws ≡ n ∷ drop (i + 1) ws
-  rest = drop_more ws i n within ∙ ap (λ x. x ∷ drop (i + 1) ws) (sym here)
+  rest = drop_more ws i d within ∙ ap (λ x. x ∷ drop (i + 1) ws) (sym here)
 
   pub still_waiting : (flag : Bool) → ((k : ℕ) → waits_for_parent old k → (among later k || among (drop i ws) k) ≡ true) → ((k : ℕ) → waits_for_parent new k → waits_for_parent old k) → (flag ≡ false → waits_for_parent new n → ⊥)
       → (k : ℕ) → waits_for_parent new k → (among (later ++ cond flag (n ∷ []) []) k || among (drop (i + 1) ws) k) ≡ true

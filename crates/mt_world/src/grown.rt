@@ -72,6 +72,14 @@ impl Kept {
         })
     }
 
+    /// Why rows have no mount.
+    fn into_left(self) -> Vec<Option<Misfit>>
+        ensures { result.items ≡ self.left.items }
+    {
+        let Kept { put: _put, left } = self;
+        left
+    }
+
     /// The row of the mount on which that of a row stands, if that has its mount.
     fn parent_of<'r>(&self, rows: &'r [TableRow], row: &TableRow) -> Option<&'r TableRow>
         ensures found { IfSome result (λ above. (k : ℕ) × (get nat_eq self.now.put row.now.parent ≡ Some k) × (slice_get rows.now k ≡ Some above.now) × (above.now.space ≡ row.now.space)) }
@@ -127,13 +135,15 @@ impl Kept {
         ensures memory { IsOkUnless result Fault.NoMemory }
     {
         let Some(why) = put_row(world, row, above)? else {
-            return self.keep(number, row.id);
+            self.keep(number, row.id)?;
+            return Ok(());
         };
         self.leave(number, why);
         Ok(())
     }
 
     /// Adds the mount of the row of a number, or notes why not, unless that was done before. Whether it waits: what it stands on is not there.
+    #[tactic(auto, using(crate::proofs::KeptLaws::parentless))]
     fn try_row(
         &mut self,
         world: &mut World,
@@ -254,6 +264,5 @@ pub(crate) fn grow(
     let order = order_of(alloc, ties.as_slice())?;
     let mut kept = Kept::new(alloc, rows)?;
     kept.grow(alloc, world, rows, order)?;
-    let left = Vec::from_slice(alloc, kept.left.as_slice())?;
-    Ok(left)
+    Ok(kept.into_left())
 }

@@ -1,10 +1,11 @@
 //! The peer groups and masters of mounts.
-ghost use Rattle.std.specs.Prelude.{◌≡◌, ◌⊎◌, ℕ, ◌<◌, ◌≤◌, false, true, length, map, Some, None, IfOk, IfSome, OnOk, OnErr, IsOkUnless, IsTrue};
+ghost use Rattle.std.specs.Prelude.{◌≡◌, ◌⊎◌, ℕ, ◌<◌, ◌≤◌, false, true, length, map, slice_get, Some, None, IfOk, IfSome, OnOk, OnErr, IsOkUnless, IsTrue};
 ghost use Rattle.mt_mounts.specs.declared.mount.Mount.{Mount as MountOf};
 ghost use Rattle.mt_mounts.specs.Forest.{mount_at};
 ghost use Rattle.mt_peers.specs.Peers.{has_member};
 ghost use Rattle.mt_propagate.specs.World.{world_view, private, state_of};
 ghost use Rattle.mt_propagate.specs.WellFormed.{IsWellFormed, fs_at};
+ghost use Rattle.mt_world.specs.Kept.{is_kept};
 ghost use Rattle.mt_world.specs.States.{HasMember, MayHave, with_joined, AreThere, ArePrivate, AreJoined, IsSameButStates, waits_if_kept};
 
 use crate::misfit::Misfit;
@@ -162,11 +163,35 @@ fn try_join(
     let Some(Some(Misfit::NoMaster)) = lone.get(number) else {
         return Ok(false);
     };
+    join_row(world, rows, left, number, row, lone)
+}
+
+/// Whether a mount waits for its master, which is private for this reason, or is not.
+fn waits_for_master(why: Option<Misfit>) -> bool {
+    matches!(why, Some(Misfit::NoMaster))
+}
+
+/// Gives the mount of the row of a number its state, or notes why it stays private. Whether it waits for a master.
+fn join_row(
+    world: &mut World,
+    rows: &[TableRow],
+    left: &[Option<Misfit>],
+    number: usize,
+    row: &TableRow,
+    lone: &mut Vec<Option<Misfit>>,
+) -> Result<bool, Fault>
+    requires joined { AreJoined (world_view world.old) rows.now left.now lone.old.items }
+    requires here { slice_get rows.now number ≡ Some row.now }
+    requires kept { is_kept left.now number }
+    requires waits { slice_get lone.old.items number ≡ Some (Some Misfit.NoMaster) }
+    ensures kept { IsWellFormed (world_view world.new) }
+    ensures joined { OnOk result (AreJoined (world_view world.new) rows.now left.now lone.new.items) }
+    ensures same { IsSameButStates (world_view world.old) (world_view world.new) }
+    ensures memory { IsOkUnless result Fault.NoMemory }
+{
     let why = join(world, row.id, row.state)?;
-    if let Some(here) = lone.get_mut(number) {
-        *here = why;
-    }
-    Ok(why == Some(Misfit::NoMaster))
+    lone[number] = why;
+    Ok(waits_for_master(why))
 }
 
 /// Gives the mounts of rows their states in turn, notes why some stay private, and answers the rows that wait for a master.

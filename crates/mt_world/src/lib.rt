@@ -20,5 +20,3 @@ pub mod misfit;
 mod order;
 pub mod put;
 pub mod row;
-#[cfg(test)]
-mod tests;

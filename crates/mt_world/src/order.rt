@@ -123,7 +123,8 @@ pub(crate) fn order_of(alloc: Global, ties: &[Tie]) -> Result<Vec<usize>, Fault>
     let depths = depths_of(alloc, ties)?;
     let mut turns = turns_of(alloc, ties.len(), depths.as_slice())?;
     turns.sort_unstable_by_key(|turn| (turn.depth, turn.number));
-    numbers_of(alloc, turns.as_slice())
+    let order = numbers_of(alloc, turns.as_slice())?;
+    Ok(order)
 }
 
 /// Appends a number to a list, if it is to be there.

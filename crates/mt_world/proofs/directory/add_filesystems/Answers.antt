@@ -20,4 +20,4 @@ rows-preserved c = record {
 }
 
 pub returns-clause-named : goal.returns-clause-named
-returns-clause-named c k r e = c.rows.invariant.named k r (ap (λ l. slice_get l k) (take_all c.args.rows.now c.rows.row-index c.rows-test.false) ∙ e)
+returns-clause-named c k r e = c.rows.invariant.named k r (ap (λ l. slice_get l k) (take_all c.rows.row-index c.args.rows.now c.rows-test.false) ∙ e)

@@ -18,4 +18,4 @@ rows-preserved c = record {
 }
 
 pub returns-clause-numbers : goal.returns-clause-numbers
-returns-clause-numbers c k r e n = c.rows.invariant.numbers k r (ap (λ l. slice_get l k) (take_all c.args.rows.now c.rows.row-index c.rows-test.false) ∙ e) n
+returns-clause-numbers c k r e n = c.rows.invariant.numbers k r (ap (λ l. slice_get l k) (take_all c.rows.row-index c.args.rows.now c.rows-test.false) ∙ e) n

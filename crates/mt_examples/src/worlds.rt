@@ -1,14 +1,17 @@
 //! Worlds of rows, with their tables as lines.
-use crate::made::{Made, world_of};
-use crate::misfit::Misfit;
-use crate::row::TableRow;
+ghost use Rattle.mt_propagate.specs.World.{world_view};
+ghost use Rattle.mt_propagate.specs.WellFormed.{IsWellFormed};
+
 use mt_info::print::push_row;
 use mt_info::read::read_row;
+use mt_info::row::Row;
 use mt_info::table::table_of;
 use mt_lines::words::Pieces;
 use mt_skel::fault::Fault;
+use mt_world::made::{Made, world_of};
+use mt_world::misfit::Misfit;
+use mt_world::row::TableRow;
 use std::alloc::Global;
-use std::process::Abort;
 
 /// The rows of tables, each line behind the number of its table.
 fn rows_of(alloc: Global, text: &[u8]) -> Result<Vec<TableRow>, Fault> {
@@ -23,18 +26,26 @@ fn rows_of(alloc: Global, text: &[u8]) -> Result<Vec<TableRow>, Fault> {
 }
 
 /// The tables of these namespaces as lines, each behind the number of its namespace.
-fn tables_text(alloc: Global, made: &Made, spaces: &[u8]) -> Result<Vec<u8>, Fault> {
+fn tables_text(alloc: Global, made: &Made, spaces: &[u8]) -> Result<Vec<u8>, Fault>
+    requires { IsWellFormed (world_view made.now.world) }
+{
     let mut text = Vec::new(alloc);
     for space in spaces {
         let table = table_of(&made.world, u64::from(*space))?;
-        for row in table.rows() {
-            text.push(space.saturating_add(b'0'))?;
-            text.push(b' ')?;
-            push_row(&mut text, row)?;
-            text.push(b'\n')?;
-        }
+        push_rows(&mut text, *space, table.rows())?;
     }
     Ok(text)
+}
+
+/// Appends rows as lines, each behind the number of their namespace.
+fn push_rows(text: &mut Vec<u8>, space: u8, rows: &[Row]) -> Result<(), Fault> {
+    for row in rows {
+        text.push(space.saturating_add(b'0'))?;
+        text.push(b' ')?;
+        push_row(text, row)?;
+        text.push(b'\n')?;
+    }
+    Ok(())
 }
 
 /// Whether the world of tables has these tables.
