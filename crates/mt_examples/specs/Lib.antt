@@ -1,5 +1,6 @@
 pub mod Commands
 pub mod Floors
+pub mod Histories
 pub mod Computing
 pub mod Starts
 pub mod Prelude
