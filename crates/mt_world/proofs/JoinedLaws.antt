@@ -14,7 +14,7 @@ use Rattle.mt_propagate.proofs.ShownLaws.{mount-state}
 use Rattle.mt_world.specs.declared.misfit.Misfit.{Misfit}
 use Rattle.mt_world.specs.declared.misfit.Misfit.TheVariants.{NoMaster}
 use Rattle.mt_world.specs.declared.row.TableRow.{TableRow}
-use Rattle.mt_world.specs.Kept.{IsSetAt, is_kept}
+use Rattle.mt_world.specs.Kept.{IsSetAt, keeps_row}
 use Rattle.mt_world.specs.States.{with_joined, AreThere, AreJoined, IsSameButStates}
 
 -- the states once a mount got one
@@ -27,9 +27,9 @@ pub state_else : (w : WorldView) (i j : ℕ) (s : State) → j ≢ i → state_o
 state_else w i j s ne = ap (λ o. unwrap_or o private) (other_state i s j w.peering.peers ne)
 
 module _ (w v : WorldView) (rows : List TableRow) (left lone next : List (Option Misfit)) (k : ℕ) (r : TableRow) (a : AreJoined w rows left lone)
-    (here : slice_get rows k ≡ Some r) (kept : is_kept left k) where
+    (here : slice_get rows k ≡ Some r) (kept : keeps_row left k) where
   -- another row that is kept has another mount
-  elsewhere : (i : ℕ) (x : TableRow) → slice_get rows i ≡ Some x → is_kept left i → k ≢ i → x.id ≢ r.id
+  elsewhere : (i : ℕ) (x : TableRow) → slice_get rows i ≡ Some x → keeps_row left i → k ≢ i → x.id ≢ r.id
   elsewhere i x e f ne same = ne (sym (a.there.apart i k x r e here f kept same))
 
   row_is : (i : ℕ) (x : TableRow) → slice_get rows i ≡ Some x → k ≡ i → r ≡ x

@@ -21,9 +21,9 @@ use Rattle.mt_world.specs.declared.row.TableRow.{TableRow}
 use Rattle.mt_world.specs.Fitting.{why_unfit, why_unplaced, why_unplaced_on, why_second_root}
 use Rattle.mt_world.specs.Leaves.{IsSound, HasMore, IsGrown, HasSameNumbers, with_leaf}
 use Rattle.mt_world.specs.Places.{IsMountOf, IsPlaceOn, IsWhyUnmade, IsWhyUnplaced, IsWhyNone, IsWhyNotPut, IsPut, HasSameMounts}
-use Rattle.mt_world.specs.Rows.{is_root_row}
+use Rattle.mt_world.specs.Rows.{is_root_of_table}
 use Rattle.mt_world.specs.Told.{Shows, IsMounted}
-use Rattle.mt_world.specs.Kept.{IsSetAt, HaveNumbers, HaveFilesystems, is_kept, waits_for_parent, IsKeptRow, StandsRightly, IsParentless, WasWhy, AreKept, AreGrown}
+use Rattle.mt_world.specs.Kept.{IsSetAt, HaveNumbers, HaveFilesystems, keeps_row, waits_for_parent, IsKeptRow, StandsRightly, IsParentless, WasWhy, AreKept, AreGrown}
 use Rattle.mt_world.proofs.DirectoryLaws.{more_on, more_same, still_filed}
 use Rattle.mt_world.proofs.FitLaws.{fits}
 use Rattle.mt_world.proofs.LeafLaws.{no-state, state-same}
@@ -120,7 +120,7 @@ not_for_parent w rows r above s (inl (inr (inl a))) = by a.2
 -- ---- the mount of one row more
 
 -- a row that is kept does not wait
-kept_waits : (left : List (Option Misfit)) (k : ℕ) → is_kept left k → waits_for_parent left k → ⊥
+kept_waits : (left : List (Option Misfit)) (k : ℕ) → keeps_row left k → waits_for_parent left k → ⊥
 kept_waits left k e f = let v : Some None ≡ Some (Some NoParent) = sym e ∙ f in absurd (cc)
 
 -- no state changes where a private mount is added
@@ -139,7 +139,7 @@ module _ (w v : WorldView) (rows : List TableRow) (left next : List (Option Misf
   few_on : (v.next_mount ≤ 2 ^ 62) × (v.next_space ≤ 2 ^ 62)
   few_on = (subst (λ n. n ≤ 2 ^ 62) (sym numbers.next_mount) a.few.0, subst (λ n. n ≤ 2 ^ 62) (sym numbers.next_space) a.few.1)
 
-  other : (i : ℕ) → is_kept left i → k ≢ i
+  other : (i : ℕ) → keeps_row left i → k ≢ i
   other i e same = kept_waits left i e (ap (λ j. slice_get left j) (sym same) ∙ waiting)
 
   module _ (p : IsPut w v r above) (set : IsSetAt left next k None) (after : ℕ → Option ℕ) (noted : (i : ℕ) → after i ≡ cond (eqb r.id i) (Some k) (put i)) where
@@ -162,7 +162,7 @@ module _ (w v : WorldView) (rows : List TableRow) (left next : List (Option Misf
     after_off : (i : ℕ) → r.id ≢ i → after i ≡ put i
     after_off i off = noted i ∙ ap (λ b. cond b (Some k) (put i)) (ne_eqb r.id i off)
 
-    told_on : (i : ℕ) (x : TableRow) → slice_get rows i ≡ Some x → is_kept next i → IsMounted v rows x
+    told_on : (i : ℕ) (x : TableRow) → slice_get rows i ≡ Some x → keeps_row next i → IsMounted v rows x
     told_on i x e f = elim (cases_eq k i) [
       | inl same ↦ subst (IsMounted v rows) (same_Some r x (sym here ∙ ap (λ j. slice_get rows j) same ∙ e)) (new_told above stands p.of)
       | inr off ↦ still_told w v a.sound.well_formed sound.well_formed grown rows x (a.told i x e (sym (set.others i off) ∙ f))
@@ -178,13 +178,13 @@ module _ (w v : WorldView) (rows : List TableRow) (left next : List (Option Misf
           record { row = f.row; there = f.there; named = f.named; kept = set.others j (other j f.kept) ∙ f.kept }
     ]
 
-    known_on : (i : ℕ) (x : TableRow) → slice_get rows i ≡ Some x → is_kept next i → after x.id ≡ Some i
+    known_on : (i : ℕ) (x : TableRow) → slice_get rows i ≡ Some x → keeps_row next i → after x.id ≡ Some i
     known_on i x e f = elim (cases_eq k i) [
       | inl same ↦
           let row : r ≡ x = same_Some r x (sym here ∙ ap (λ j. slice_get rows j) same ∙ e) in
           ap (λ (y : TableRow). after y.id) (sym row) ∙ after_here ∙ ap Some same
       | inr off ↦
-          let old : is_kept left i = sym (set.others i off) ∙ f in
+          let old : keeps_row left i = sym (set.others i off) ∙ f in
           let t = a.told i x e old in
           after_off x.id (λ (same : r.id ≡ x.id). let v : None ≡ Some t.mount = sym absent ∙ ap (mount_at w.forest) same ∙ t.there in absurd (cc)) ∙ a.known i x e old
     ]
@@ -211,16 +211,16 @@ module _ (w v : WorldView) (rows : List TableRow) (left next : List (Option Misf
     kept_put = record { sound = sound; numbers = numbers_on; filesystems = filesystems_on; sized = set.sized ∙ a.sized; told = told_on; found = found_on; known = known_on; only = only_on; private = private_on; few = few_on; whys = whys_on }
 
   module _ (same : HasSameMounts w v) (why : Misfit) (told : IsWhyNotPut v r above why) (set : IsSetAt left next k (Some why)) where
-    off : (i : ℕ) → is_kept next i → k ≢ i
+    off : (i : ℕ) → keeps_row next i → k ≢ i
     off i e s = let v : Some None ≡ Some (Some why) = sym e ∙ ap (λ j. slice_get next j) (sym s) ∙ set.here in absurd (cc)
 
-    told_left : (i : ℕ) (x : TableRow) → slice_get rows i ≡ Some x → is_kept next i → IsMounted v rows x
+    told_left : (i : ℕ) (x : TableRow) → slice_get rows i ≡ Some x → keeps_row next i → IsMounted v rows x
     told_left i x e f = still_told w v a.sound.well_formed sound.well_formed grown rows x (a.told i x e (sym (set.others i (off i f)) ∙ f))
 
     found_left : (i j : ℕ) → put i ≡ Some j → IsKeptRow rows next i j
     found_left i j e = let f = a.found i j e in record { row = f.row; there = f.there; named = f.named; kept = set.others j (other j f.kept) ∙ f.kept }
 
-    known_left : (i : ℕ) (x : TableRow) → slice_get rows i ≡ Some x → is_kept next i → put x.id ≡ Some i
+    known_left : (i : ℕ) (x : TableRow) → slice_get rows i ≡ Some x → keeps_row next i → put x.id ≡ Some i
     known_left i x e f = a.known i x e (sym (set.others i (off i f)) ∙ f)
 
     only_left : (i : ℕ) (m : Mount) → mount_at v.forest i ≡ Some m → (j : ℕ) × (put i ≡ Some j)
@@ -254,13 +254,13 @@ module _ (w v : WorldView) (rows : List TableRow) (left next : List (Option Misf
 -- ---- where a row stands
 
 module _ (w : WorldView) (rows : List TableRow) (left : List (Option Misfit)) (put : ℕ → Option ℕ) (a : AreKept w rows left put) (r : TableRow) where
-  pub stands_on : (above : TableRow) (k : ℕ) → put r.parent ≡ Some k → slice_get rows k ≡ Some above → above.space ≡ r.space → is_root_row rows r ≡ false → StandsRightly w rows r (Some above)
+  pub stands_on : (above : TableRow) (k : ℕ) → put r.parent ≡ Some k → slice_get rows k ≡ Some above → above.space ≡ r.space → is_root_of_table rows r ≡ false → StandsRightly w rows r (Some above)
   stands_on above k e there same low =
       let f = a.found r.parent k e in
       let row : f.row ≡ above = same_Some f.row above (sym f.there ∙ there) in
       (a.told k above there f.kept, (k, there), ap (λ (x : TableRow). x.id) (sym row) ∙ f.named, same, low)
 
-  pub parentless : is_root_row rows r ≡ false → ((k : ℕ) (above : TableRow) → put r.parent ≡ Some k → slice_get rows k ≡ Some above → above.space ≡ r.space → ⊥) → IsParentless rows left r
+  pub parentless : is_root_of_table rows r ≡ false → ((k : ℕ) (above : TableRow) → put r.parent ≡ Some k → slice_get rows k ≡ Some above → above.space ≡ r.space → ⊥) → IsParentless rows left r
   parentless low none = record {
     low = low;
     none = λ k above there kept named space. none k above (ap put (sym named) ∙ a.known k above there kept) there space;

@@ -11,7 +11,7 @@ use Rattle.mt_propagate.specs.WellFormed.{IsWellFormed}
 use Rattle.mt_world.specs.declared.misfit.Misfit.{Misfit}
 use Rattle.mt_world.specs.declared.row.TableRow.{TableRow}
 use Rattle.mt_world.specs.Hidden.{HasMoreHidden}
-use Rattle.mt_world.specs.Kept.{is_kept, IsKeptRow, AreKept, AreGrown}
+use Rattle.mt_world.specs.Kept.{keeps_row, IsKeptRow, AreKept, AreGrown}
 use Rattle.mt_world.specs.Leaves.{IsSound, HasMore, IsGrown}
 use Rattle.mt_world.specs.Made.{HasNoMounts, IsMade}
 use Rattle.mt_world.specs.States.{AreThere, ArePrivate, AreJoined, IsSameButStates}
@@ -46,17 +46,17 @@ module _ (w v : WorldView) (rows : List TableRow) (left : List (Option Misfit)) 
   are_private k r e f = let t = g.kept.told k r e f in b.states r.id t.mount t.there ∙ g.kept.private r.id
 
   module _ (u : WorldView) (lone : List (Option Misfit)) (sound : IsSound v) (well : IsWellFormed u) (same : IsSameButStates v u) (j : AreJoined u rows left lone) where
-    told_on : (k : ℕ) (r : TableRow) → slice_get rows k ≡ Some r → is_kept left k → IsMounted u rows r
+    told_on : (k : ℕ) (r : TableRow) → slice_get rows k ≡ Some r → keeps_row left k → IsMounted u rows r
     told_on k r e f =
         still_told v u sound.well_formed well (same_grown v u same) rows r (still_told w v g.kept.sound.well_formed sound.well_formed b.grown rows r (g.kept.told k r e f))
 
-    below : (k : ℕ) (r : TableRow) → slice_get rows k ≡ Some r → is_kept left k → r.space < w.next_space
+    below : (k : ℕ) (r : TableRow) → slice_get rows k ≡ Some r → keeps_row left k → r.space < w.next_space
     below k r e f =
         let t = g.kept.told k r e f in
         let m = g.kept.sound.well_formed.below r.id t.mount t.there in
         omega (arith, m.3, t.shows.space)
 
-    only_on : (i : ℕ) (m : Mount) → mount_at u.forest i ≡ Some m → ((k : ℕ) × IsKeptRow rows left i k) ⊎ ((k : ℕ) (r : TableRow) → slice_get rows k ≡ Some r → is_kept left k → r.space ≢ m.space)
+    only_on : (i : ℕ) (m : Mount) → mount_at u.forest i ≡ Some m → ((k : ℕ) × IsKeptRow rows left i k) ⊎ ((k : ℕ) (r : TableRow) → slice_get rows k ≡ Some r → keeps_row left k → r.space ≢ m.space)
     only_on i m e = elim (b.more i m (ap (λ x. mount_at x.forest i) (sym same) ∙ e)) [
       | inl old ↦ let k = g.kept.only i m old in inl (k.0, g.kept.found i k.0 k.1)
       | inr new ↦ inr (λ k r er f (s : r.space ≡ m.space). let l = below k r er f in absurd (omega (arith, l, s, new)))
@@ -85,7 +85,7 @@ module _ (w : WorldView) (rows : List TableRow) (left lone : List (Option Misfit
     spaces = omega (arith, room.spaces, a.since.spaces);
   }
 
-  state_told : (k : ℕ) (r : TableRow) → slice_get rows k ≡ Some r → is_kept left k → state_of w r.id ≡ r.state
+  state_told : (k : ℕ) (r : TableRow) → slice_get rows k ≡ Some r → keeps_row left k → state_of w r.id ≡ r.state
   state_told k r e f = go (slice_get lone k) refl
     where
       go : (o : Option (Option Misfit)) → slice_get lone k ≡ o → state_of w r.id ≡ r.state
@@ -93,5 +93,5 @@ module _ (w : WorldView) (rows : List TableRow) (left lone : List (Option Misfit
       go (Some None) is = a.joined k r e f is
       go (Some (Some why)) is = a.private k r why e f is ∙ sym (p.private k r e)
 
-  pub plain_told : (k : ℕ) (r : TableRow) → slice_get rows k ≡ Some r → is_kept left k × IsMounted w rows r × (state_of w r.id ≡ r.state)
+  pub plain_told : (k : ℕ) (r : TableRow) → slice_get rows k ≡ Some r → keeps_row left k × IsMounted w rows r × (state_of w r.id ≡ r.state)
   plain_told k r e = let f = plain_kept a.before rows left a.grown p room_before k r e in (f, a.told k r e f, state_told k r e f)

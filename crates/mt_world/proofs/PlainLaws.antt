@@ -21,11 +21,11 @@ use Rattle.mt_world.specs.declared.misfit.Misfit.{Misfit}
 use Rattle.mt_world.specs.declared.misfit.Misfit.TheVariants.{SameId, NoParent, Elsewhere, SamePlace, SecondRoot, NoRoom}
 use Rattle.mt_world.specs.declared.row.TableRow.{TableRow}
 use Rattle.mt_world.specs.Fitting.{why_unfit, why_unplaced, why_unplaced_on, why_second_root}
-use Rattle.mt_world.specs.Kept.{is_kept, waits_for_parent, IsKeptRow, StandsRightly, IsParentless, WasWhy, AreKept, AreGrown}
+use Rattle.mt_world.specs.Kept.{keeps_row, waits_for_parent, IsKeptRow, StandsRightly, IsParentless, WasWhy, AreKept, AreGrown}
 use Rattle.mt_world.specs.Leaves.{IsSound, IsGrown}
 use Rattle.mt_world.specs.Places.{names_below, place_path, IsOn, IsPlaceOn, IsMountOf, IsWhyNone, IsWhyUnplaced, IsWhyUnmade, IsWhyNotPut}
 use Rattle.mt_world.specs.Plain.{HasParent, IsPlain, HasRoom}
-use Rattle.mt_world.specs.Rows.{is_numbered, is_root_row}
+use Rattle.mt_world.specs.Rows.{is_numbered, is_root_of_table}
 use Rattle.mt_world.specs.Told.{Shows, IsMounted}
 use Rattle.mt_world.proofs.ToldLaws.{place_point, still_point}
 
@@ -60,7 +60,7 @@ held s is root dir r on o device path there =
 module _ (w : WorldView) (rows : List TableRow) (left : List (Option Misfit)) (g : AreGrown w rows left) (p : IsPlain rows) (room : HasRoom w) where
   -- a row that is left out
   module _ (k : ℕ) (r : TableRow) (here : slice_get rows k ≡ Some r) (why : Misfit) (out : slice_get left k ≡ Some (Some why)) where
-    not_kept : is_kept left k → ⊥
+    not_kept : keeps_row left k → ⊥
     not_kept e = let v : Some None ≡ Some (Some why) = sym e ∙ out in absurd (cc)
 
     -- no mount is that of its ID
@@ -68,7 +68,7 @@ module _ (w : WorldView) (rows : List TableRow) (left : List (Option Misfit)) (g
     no_other m e =
         let j = g.kept.only r.id m e in
         let f = g.kept.found r.id j.0 j.1 in
-        not_kept (subst (is_kept left) (p.distinct j.0 k f.row r f.there here f.named) f.kept)
+        not_kept (subst (keeps_row left) (p.distinct j.0 k f.row r f.there here f.named) f.kept)
 
     -- a reason that was so
     module _ (a : WasWhy w rows r why) where
@@ -110,9 +110,9 @@ module _ (w : WorldView) (rows : List TableRow) (left : List (Option Misfit)) (g
         number : ℕ
         row : TableRow
         there : slice_get rows number ≡ Some row
-        kept : is_kept left number
+        kept : keeps_row left number
         shows : Shows w x row
-        top : is_none x.place ≡ is_root_row rows row
+        top : is_none x.place ≡ is_root_of_table rows row
 
       kept_row : (i : ℕ) (x : Mount) → mount_at b.forest i ≡ Some x → KeptRow x
       kept_row i x e =
@@ -127,7 +127,7 @@ module _ (w : WorldView) (rows : List TableRow) (left : List (Option Misfit)) (g
             there = f.there;
             kept = f.kept;
             shows = subst (λ y. Shows w y f.row) same t.shows;
-            top = subst (λ (y : Mount). is_none y.place ≡ is_root_row rows f.row) same t.top;
+            top = subst (λ (y : Mount). is_none y.place ≡ is_root_of_table rows f.row) same t.top;
           }
 
       -- nor could another one stand in its way
@@ -137,9 +137,9 @@ module _ (w : WorldView) (rows : List TableRow) (left : List (Option Misfit)) (g
             let row = find_row (is_root_mount m.space) b.forest x a.sound.well_formed.forest.rising f in
             let root = root_here m.space x (find_passes (is_root_mount m.space) b.forest x f) in
             let q = kept_row x.id x row in
-            let top : is_root_row rows q.row ≡ true = sym q.top ∙ root.0 in
+            let top : is_root_of_table rows q.row ≡ true = sym q.top ∙ root.0 in
             let space : q.row.space ≡ r.space = sym q.shows.space ∙ root.1 ∙ o.space in
-            not_kept (subst (is_kept left) (p.one_root q.number k q.row r q.there here top s space) q.kept)
+            not_kept (subst (keeps_row left) (p.one_root q.number k q.row r q.there here top s space) q.kept)
 
         at_root : StandsRightly b rows r None → IsMountOf b.skel r None m → why_second_root b m.space ≡ Some why → ⊥
         at_root s o e = go (root_mount b.forest m.space) refl (too_many_spaces b) refl e
@@ -166,12 +166,12 @@ module _ (w : WorldView) (rows : List TableRow) (left : List (Option Misfit)) (g
               let row = find_row (is_at place) b.forest x a.sound.well_formed.forest.rising f in
               let at = stands_at place x (find_passes (is_at place) b.forest x f) in
               let q = kept_row x.id x row in
-              let low : is_root_row rows q.row ≡ false = sym q.top ∙ ap is_none at in
+              let low : is_root_of_table rows q.row ≡ false = sym q.top ∙ ap is_none at in
               let parent : q.row.parent ≡ r.parent = sym (q.shows.parent place at) ∙ o.place.2.on ∙ s.2 in
               let point : q.row.point ≡ r.point =
               sym q.shows.point ∙ still_point b w a.sound.well_formed g.kept.sound.well_formed a.grown x.id x row
               ∙ place_point b rows x r on place a.sound.well_formed row at o.place.2 s.0 in
-              not_kept (subst (is_kept left) (p.apart q.number k q.row r q.there here low s.4 parent point) q.kept)
+              not_kept (subst (keeps_row left) (p.apart q.number k q.row r q.there here low s.4 parent point) q.kept)
 
           on_parent : why_unplaced b m.space place ≡ Some why → ⊥
           on_parent e = go (on_place b.forest place) refl (rw (there, space, within) at e)
@@ -203,11 +203,11 @@ module _ (w : WorldView) (rows : List TableRow) (left : List (Option Misfit)) (g
       no_reason above s (inl (inr (inr e))) = none_of k r r.root here (p.shallow k r here) e
 
   -- so a row that is nearer to the root than so many others is kept
-  kept_within : (n k : ℕ) (r : TableRow) → slice_get rows k ≡ Some r → p.depth r.id < n → is_kept left k
+  kept_within : (n k : ℕ) (r : TableRow) → slice_get rows k ≡ Some r → p.depth r.id < n → keeps_row left k
   kept_within zero k r here l = absurd (omega (arith, l))
   kept_within (suc n) k r here l = go (slice_get left k) refl (λ j x e m. kept_within n j x e m)
     where
-      go : (o : Option (Option Misfit)) → slice_get left k ≡ o → ((j : ℕ) (x : TableRow) → slice_get rows j ≡ Some x → p.depth x.id < n → is_kept left j) → is_kept left k
+      go : (o : Option (Option Misfit)) → slice_get left k ≡ o → ((j : ℕ) (x : TableRow) → slice_get rows j ≡ Some x → p.depth x.id < n → keeps_row left j) → keeps_row left k
       go None e ih = absurd (let a = slice_get_within rows k r here in let b = slice_get_none left k e in omega (arith, a, b, g.kept.sized))
       go (Some None) e ih = e
       go (Some (Some why)) e ih = absurd (elim (g.kept.whys k r why here e) [
@@ -218,5 +218,5 @@ module _ (w : WorldView) (rows : List TableRow) (left : List (Option Misfit)) (g
         | inr was ↦ no_reason k r here why e was was.above was.stands was.refused
       ])
 
-  pub plain_kept : (k : ℕ) (r : TableRow) → slice_get rows k ≡ Some r → is_kept left k
+  pub plain_kept : (k : ℕ) (r : TableRow) → slice_get rows k ≡ Some r → keeps_row left k
   plain_kept k r here = kept_within (p.depth r.id + 1) k r here (omega arith)

@@ -26,7 +26,7 @@ use Rattle.mt_info.proofs.PointLaws.{from_end, below_parent, point_of_root}
 use Rattle.mt_world.specs.declared.row.TableRow.{TableRow}
 use Rattle.mt_world.specs.Leaves.{HasMore, IsGrown}
 use Rattle.mt_world.specs.Places.{names_below, place_path, IsOn, IsPlaceOn, IsMountOf, StandsOn}
-use Rattle.mt_world.specs.Rows.{is_root_row}
+use Rattle.mt_world.specs.Rows.{is_root_of_table}
 use Rattle.mt_world.specs.Told.{Shows, IsMounted}
 
 -- ---- where others are added
@@ -112,11 +112,11 @@ names_join front path names e = go (path_eq (take (length front) path) front) re
     go false t f = absurd (let v : None ≡ Some names = f in cc)
 
 -- a row that stands at `/` has a mount point without names
-at_root : (rows : List TableRow) (r : TableRow) → is_root_row rows r ≡ true → r.point ≡ []
+at_root : (rows : List TableRow) (r : TableRow) → is_root_of_table rows r ≡ true → r.point ≡ []
 at_root rows r e = (path_eq-Decides r.point []).0 (and_first _ _ e)
 
 -- the root mount of a row
-pub root_told : (v : WorldView) (rows : List TableRow) (m : Mount) (r : TableRow) → IsWellFormed v → mount_at v.forest m.id ≡ Some m → IsMountOf v.skel r None m → is_root_row rows r ≡ true → IsMounted v rows r
+pub root_told : (v : WorldView) (rows : List TableRow) (m : Mount) (r : TableRow) → IsWellFormed v → mount_at v.forest m.id ≡ Some m → IsMountOf v.skel r None m → is_root_of_table rows r ≡ true → IsMounted v rows r
 root_told v rows m r h e o top = record {
   mount = m;
   there = ap (mount_at v.forest) (sym o.id) ∙ e;
@@ -155,7 +155,7 @@ module _ (v : WorldView) (rows : List TableRow) (m : Mount) (r a : TableRow) (p 
       ∙ names_join a.point r.point names.0 names.1
 
 -- and the mount of one on that of another
-pub leaf_told : (v : WorldView) (rows : List TableRow) (m : Mount) (r a : TableRow) → IsWellFormed v → mount_at v.forest m.id ≡ Some m → IsMountOf v.skel r (Some a) m → IsMounted v rows a → a.id ≡ r.parent → is_root_row rows r ≡ false → IsMounted v rows r
+pub leaf_told : (v : WorldView) (rows : List TableRow) (m : Mount) (r a : TableRow) → IsWellFormed v → mount_at v.forest m.id ≡ Some m → IsMountOf v.skel r (Some a) m → IsMounted v rows a → a.id ≡ r.parent → is_root_of_table rows r ≡ false → IsMounted v rows r
 leaf_told v rows m r a h e o t up low = record {
   mount = m;
   there = ap (mount_at v.forest) (sym o.id) ∙ e;

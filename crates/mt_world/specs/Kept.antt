@@ -10,7 +10,7 @@ use Rattle.mt_world.specs.declared.misfit.Misfit.TheVariants.{NoParent}
 use Rattle.mt_world.specs.declared.row.TableRow.{TableRow}
 use Rattle.mt_world.specs.Leaves.{IsSound, IsGrown}
 use Rattle.mt_world.specs.Places.{IsWhyNotPut}
-use Rattle.mt_world.specs.Rows.{is_numbered, is_root_row}
+use Rattle.mt_world.specs.Rows.{is_numbered, is_root_of_table}
 use Rattle.mt_world.specs.Told.{IsMounted}
 
 -- the numbers that come next are above those of the rows
@@ -25,25 +25,25 @@ abbrev pub HaveFilesystems : Skeleton → List TableRow → Type 0
 HaveFilesystems s rows = (k : ℕ) (r : TableRow) → slice_get rows k ≡ Some r → IsNamed s r.device
 
 -- the row of a number is kept: no reason is told
-abbrev pub is_kept : List (Option Misfit) → ℕ → Type 0
-is_kept left k = slice_get left k ≡ Some None
+abbrev pub keeps_row : List (Option Misfit) → ℕ → Type 0
+keeps_row left k = slice_get left k ≡ Some None
 
 -- the row of a number has an ID, and is kept
 pub record IsKeptRow (rows : List TableRow) (left : List (Option Misfit)) (id k : ℕ) : Type 0 where
   pub row : TableRow
   pub there : slice_get rows k ≡ Some row
   pub named : row.id ≡ id
-  pub kept : is_kept left k
+  pub kept : keeps_row left k
 
 -- a row stands where it says: on another one that a world has, which is its parent in its table, or it is that of a root mount
 abbrev pub StandsRightly : WorldView → List TableRow → TableRow → Option TableRow → Type 0
-StandsRightly w rows r None = is_root_row rows r ≡ true
-StandsRightly w rows r (Some above) = IsMounted w rows above × ((k : ℕ) × (slice_get rows k ≡ Some above)) × (above.id ≡ r.parent) × (above.space ≡ r.space) × (is_root_row rows r ≡ false)
+StandsRightly w rows r None = is_root_of_table rows r ≡ true
+StandsRightly w rows r (Some above) = IsMounted w rows above × ((k : ℕ) × (slice_get rows k ≡ Some above)) × (above.id ≡ r.parent) × (above.space ≡ r.space) × (is_root_of_table rows r ≡ false)
 
 -- in the table of a row none of the rows that are kept is its parent, and it is not that of a root mount
 pub record IsParentless (rows : List TableRow) (left : List (Option Misfit)) (r : TableRow) : Type 0 where
-  pub low : is_root_row rows r ≡ false
-  pub none : (k : ℕ) (above : TableRow) → slice_get rows k ≡ Some above → is_kept left k → above.id ≡ r.parent → above.space ≡ r.space → ⊥
+  pub low : is_root_of_table rows r ≡ false
+  pub none : (k : ℕ) (above : TableRow) → slice_get rows k ≡ Some above → keeps_row left k → above.id ≡ r.parent → above.space ≡ r.space → ⊥
 
 -- a reason was so when it was told: there was a world, from which this one has grown, to which the mount of the row could not be added
 pub record WasWhy (w : WorldView) (rows : List TableRow) (r : TableRow) (why : Misfit) : Type 0 where
@@ -61,9 +61,9 @@ pub record AreKept (w : WorldView) (rows : List TableRow) (left : List (Option M
   pub numbers : HaveNumbers w rows
   pub filesystems : HaveFilesystems w.skel rows
   pub sized : length left ≡ length rows
-  pub told : (k : ℕ) (r : TableRow) → slice_get rows k ≡ Some r → is_kept left k → IsMounted w rows r
+  pub told : (k : ℕ) (r : TableRow) → slice_get rows k ≡ Some r → keeps_row left k → IsMounted w rows r
   pub found : (i k : ℕ) → put i ≡ Some k → IsKeptRow rows left i k
-  pub known : (k : ℕ) (r : TableRow) → slice_get rows k ≡ Some r → is_kept left k → put r.id ≡ Some k
+  pub known : (k : ℕ) (r : TableRow) → slice_get rows k ≡ Some r → keeps_row left k → put r.id ≡ Some k
   pub only : (i : ℕ) (m : Mount) → mount_at w.forest i ≡ Some m → (k : ℕ) × (put i ≡ Some k)
   pub private : (i : ℕ) → state_of w i ≡ private
   pub few : (w.next_mount ≤ 2 ^ 62) × (w.next_space ≤ 2 ^ 62)

@@ -7,7 +7,7 @@ use Rattle.mt_propagate.specs.World.{WorldView, private}
 use Rattle.mt_propagate.specs.Limits.{mount_limit, space_limit}
 use Rattle.mt_world.specs.declared.row.TableRow.{TableRow}
 use Rattle.mt_world.specs.Places.{place_path}
-use Rattle.mt_world.specs.Rows.{is_numbered, is_root_row}
+use Rattle.mt_world.specs.Rows.{is_numbered, is_root_of_table}
 
 -- a row stands on another one of its table, which is nearer to the root mount, at a directory that is not too deep
 pub record HasParent (rows : List TableRow) (depth : ℕ → ℕ) (r : TableRow) : Type 0 where
@@ -27,10 +27,10 @@ pub record IsPlain (rows : List TableRow) : Type 0 where
   pub numbered : (k : ℕ) (r : TableRow) → slice_get rows k ≡ Some r → IsTrue (is_numbered r)
   pub distinct : (j k : ℕ) (r s : TableRow) → slice_get rows j ≡ Some r → slice_get rows k ≡ Some s → r.id ≡ s.id → j ≡ k
   -- a table has one root mount, and each other mount stands on one of its table, no two at one mount point of one mount
-  pub one_root : (j k : ℕ) (r s : TableRow) → slice_get rows j ≡ Some r → slice_get rows k ≡ Some s → is_root_row rows r ≡ true → is_root_row rows s ≡ true → r.space ≡ s.space → j ≡ k
+  pub one_root : (j k : ℕ) (r s : TableRow) → slice_get rows j ≡ Some r → slice_get rows k ≡ Some s → is_root_of_table rows r ≡ true → is_root_of_table rows s ≡ true → r.space ≡ s.space → j ≡ k
   pub depth : ℕ → ℕ
-  pub founded : (k : ℕ) (r : TableRow) → slice_get rows k ≡ Some r → is_root_row rows r ≡ false → HasParent rows depth r
-  pub apart : (j k : ℕ) (r s : TableRow) → slice_get rows j ≡ Some r → slice_get rows k ≡ Some s → is_root_row rows r ≡ false → is_root_row rows s ≡ false → r.parent ≡ s.parent → r.point ≡ s.point → j ≡ k
+  pub founded : (k : ℕ) (r : TableRow) → slice_get rows k ≡ Some r → is_root_of_table rows r ≡ false → HasParent rows depth r
+  pub apart : (j k : ℕ) (r s : TableRow) → slice_get rows j ≡ Some r → slice_get rows k ≡ Some s → is_root_of_table rows r ≡ false → is_root_of_table rows s ≡ false → r.parent ≡ s.parent → r.point ≡ s.point → j ≡ k
   -- no directory is too deep
   pub shallow : (k : ℕ) (r : TableRow) → slice_get rows k ≡ Some r → length r.root ≤ depth_limit
   -- and all are private

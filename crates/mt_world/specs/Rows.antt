@@ -46,5 +46,5 @@ abbrev pub is_mount_of : ℕ → ℕ → TableRow → Bool
 is_mount_of space id r = (r.id == id) && (r.space == space)
 
 -- it is that of a root mount: it stands at `/`, and on itself or on a mount that its table does not have (proc_pid_mountinfo(5), field 2)
-abbrev pub is_root_row : List TableRow → TableRow → Bool
-is_root_row rows r = is_at_root r && ((r.parent == r.id) || not (list_any (is_mount_of r.space r.parent) rows))
+abbrev pub is_root_of_table : List TableRow → TableRow → Bool
+is_root_of_table rows r = is_at_root r && ((r.parent == r.id) || not (list_any (is_mount_of r.space r.parent) rows))

@@ -10,7 +10,7 @@ use Rattle.mt_propagate.specs.WellFormed.{IsWellFormed, fs_at}
 use Rattle.mt_world.specs.declared.misfit.Misfit.{Misfit}
 use Rattle.mt_world.specs.declared.misfit.Misfit.TheVariants.{NoMaster}
 use Rattle.mt_world.specs.declared.row.TableRow.{TableRow}
-use Rattle.mt_world.specs.Kept.{is_kept}
+use Rattle.mt_world.specs.Kept.{keeps_row}
 
 -- a mount is a member of a group, has this master, and shows this filesystem
 pub record HasMember (w : WorldView) (group fs : ℕ) : Type 0 where
@@ -35,16 +35,16 @@ with_joined w mount s = record w { peering = record w.peering { peers = with_sta
 
 -- the mounts of the rows that are kept are there, one each
 pub record AreThere (w : WorldView) (rows : List TableRow) (left : List (Option Misfit)) : Type 0 where
-  pub there : (k : ℕ) (r : TableRow) → slice_get rows k ≡ Some r → is_kept left k → (m : Mount) × (mount_at w.forest r.id ≡ Some m)
-  pub apart : (j k : ℕ) (r s : TableRow) → slice_get rows j ≡ Some r → slice_get rows k ≡ Some s → is_kept left j → is_kept left k → r.id ≡ s.id → j ≡ k
+  pub there : (k : ℕ) (r : TableRow) → slice_get rows k ≡ Some r → keeps_row left k → (m : Mount) × (mount_at w.forest r.id ≡ Some m)
+  pub apart : (j k : ℕ) (r s : TableRow) → slice_get rows j ≡ Some r → slice_get rows k ≡ Some s → keeps_row left j → keeps_row left k → r.id ≡ s.id → j ≡ k
 
 -- each has the state that its row tells, or is private for a reason
 pub record AreJoined (w : WorldView) (rows : List TableRow) (left lone : List (Option Misfit)) : Type 0 where
   pub well_formed : IsWellFormed w
   pub there : AreThere w rows left
   pub sized : length lone ≡ length rows
-  pub joined : (k : ℕ) (r : TableRow) → slice_get rows k ≡ Some r → is_kept left k → slice_get lone k ≡ Some None → state_of w r.id ≡ r.state
-  pub private : (k : ℕ) (r : TableRow) (why : Misfit) → slice_get rows k ≡ Some r → is_kept left k → slice_get lone k ≡ Some (Some why) → state_of w r.id ≡ private
+  pub joined : (k : ℕ) (r : TableRow) → slice_get rows k ≡ Some r → keeps_row left k → slice_get lone k ≡ Some None → state_of w r.id ≡ r.state
+  pub private : (k : ℕ) (r : TableRow) (why : Misfit) → slice_get rows k ≡ Some r → keeps_row left k → slice_get lone k ≡ Some (Some why) → state_of w r.id ≡ private
 
 -- only states changed
 abbrev pub IsSameButStates : WorldView → WorldView → Type 0
@@ -52,7 +52,7 @@ IsSameButStates w v = v ≡ record w { peering = v.peering }
 
 -- before any has a state, all of them are private, and wait for a master
 abbrev pub ArePrivate : WorldView → List TableRow → List (Option Misfit) → Type 0
-ArePrivate w rows left = (k : ℕ) (r : TableRow) → slice_get rows k ≡ Some r → is_kept left k → state_of w r.id ≡ private
+ArePrivate w rows left = (k : ℕ) (r : TableRow) → slice_get rows k ≡ Some r → keeps_row left k → state_of w r.id ≡ private
 
 abbrev pub waits_if_kept : Option Misfit → Option Misfit
 waits_if_kept None = Some NoMaster

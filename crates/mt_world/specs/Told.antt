@@ -9,7 +9,7 @@ use Rattle.mt_mounts.specs.Forest.{mount_at}
 use Rattle.mt_propagate.specs.World.{WorldView}
 use Rattle.mt_info.specs.Table.{mount_point}
 use Rattle.mt_world.specs.declared.row.TableRow.{TableRow}
-use Rattle.mt_world.specs.Rows.{is_root_row}
+use Rattle.mt_world.specs.Rows.{is_root_of_table}
 
 -- a mount of a world shows what a row tells, but for its propagation (proc_pid_mountinfo(5), fields 1 to 6 and 9 to 10): the filesystem of its device is the one
 -- of that name
@@ -27,4 +27,4 @@ pub record IsMounted (w : WorldView) (rows : List TableRow) (r : TableRow) : Typ
   pub mount : Mount
   pub there : mount_at w.forest r.id ≡ Some mount
   pub shows : Shows w mount r
-  pub top : is_none mount.place ≡ is_root_row rows r
+  pub top : is_none mount.place ≡ is_root_of_table rows r

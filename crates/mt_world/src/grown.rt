@@ -6,7 +6,7 @@ ghost use Rattle.mt_skel.specs.Keyed.{among};
 ghost use Rattle.mt_propagate.specs.World.{world_view};
 ghost use Rattle.mt_world.specs.declared.row.TableRow.{TableRow as RowOf};
 ghost use Rattle.mt_world.specs.Leaves.{IsSound};
-ghost use Rattle.mt_world.specs.Rows.{is_mount_of, is_root_row};
+ghost use Rattle.mt_world.specs.Rows.{is_mount_of, is_root_of_table};
 ghost use Rattle.mt_world.specs.Kept.{AreKept, IsSetAt, HaveNumbers, HaveFilesystems, IsParentless, StandsRightly, AreGrown, waits_for_parent};
 
 use crate::misfit::Misfit;
@@ -51,8 +51,8 @@ fn has_row(rows: &[TableRow], space: SpaceId, id: MountId) -> bool
 }
 
 /// Whether a row is that of a root mount: it stands at `/`, and on itself or on a mount that its table does not have.
-fn is_root_row(rows: &[TableRow], row: &TableRow) -> bool
-    ensures { result ≡ is_root_row rows.now row.now }
+fn is_root_of_table(rows: &[TableRow], row: &TableRow) -> bool
+    ensures { result ≡ is_root_of_table rows.now row.now }
 {
     row.is_at_root() && (row.parent == row.id || !has_row(rows, row.space, row.parent))
 }
@@ -162,7 +162,7 @@ impl Kept {
         else {
             return Ok(false);
         };
-        if is_root_row(rows, row) {
+        if is_root_of_table(rows, row) {
             self.put_on(world, rows, number, row, None)?;
             return Ok(false);
         }

@@ -5,7 +5,7 @@ ghost use Rattle.mt_mounts.specs.Forest.{mount_at};
 ghost use Rattle.mt_peers.specs.Peers.{has_member};
 ghost use Rattle.mt_propagate.specs.World.{world_view, private, state_of};
 ghost use Rattle.mt_propagate.specs.WellFormed.{IsWellFormed, fs_at};
-ghost use Rattle.mt_world.specs.Kept.{is_kept};
+ghost use Rattle.mt_world.specs.Kept.{keeps_row};
 ghost use Rattle.mt_world.specs.States.{HasMember, MayHave, with_joined, AreThere, ArePrivate, AreJoined, IsSameButStates, waits_if_kept};
 
 use crate::misfit::Misfit;
@@ -182,7 +182,7 @@ fn join_row(
 ) -> Result<bool, Fault>
     requires joined { AreJoined (world_view world.old) rows.now left.now lone.old.items }
     requires here { slice_get rows.now number ≡ Some row.now }
-    requires kept { is_kept left.now number }
+    requires kept { keeps_row left.now number }
     requires waits { slice_get lone.old.items number ≡ Some (Some Misfit.NoMaster) }
     ensures kept { IsWellFormed (world_view world.new) }
     ensures joined { OnOk result (AreJoined (world_view world.new) rows.now left.now lone.new.items) }

@@ -8,4 +8,4 @@ pub put_on-requires-2-clause-stands : goal.put_on-requires-2-clause-stands
 put_on-requires-2-clause-stands c =
     let f = c.in-Some.ensures.found in
     stands_on (world_view c.args.world.now) c.args.rows.now c.args.self.now.left.items (get nat_eq c.args.self.now.put) c.requires.kept c.in-Some-Some-Some-NoParent.row.now c.in-Some.above.now f.0 f.1 f.2 f.3
-    (sym c.is_root_row.ensures ∙ c.if-is_root_row.false)
+    (sym c.is_root_of_table.ensures ∙ c.if-is_root_of_table.false)
