@@ -32,6 +32,7 @@ fn groups_of(alloc: Global, kept: &[&TableRow]) -> Result<IndexSet<GroupId>, Fau
 }
 
 /// Adds a mount of a directory to a namespace, at a place, with a number of its own; `None` where it cannot be.
+#[tactic(auto, using(crate::proofs::HiddenLaws::later_well))]
 fn add_mount(
     world: &mut World,
     space: SpaceId,
@@ -161,6 +162,7 @@ fn kept_rows<'a>(
 }
 
 /// Makes a mount for each master of the rows that are kept in which none of them is: all in one namespace, which gets the next number.
+#[tactic(auto, using(crate::proofs::RaisedLaws::raised_beside))]
 pub(crate) fn hide_masters(
     alloc: Global,
     world: &mut World,
