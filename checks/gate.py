@@ -39,6 +39,7 @@ TEXT_CHECKS = (
     ("names in the documents", "checks/names.py"),
     ("self-test of unused.py", "checks/unused.py", "--self-test"),
     ("what nothing cites", "checks/unused.py"),
+    ("self-test of where.py", "checks/where.py", "--self-test"),
     ("where definitions stand", "checks/definitions.py"),
     ("wrong bodies can be applied", "checks/wrong.py", "--look"),
 )

@@ -2,7 +2,7 @@
 
 A door in the place of a server answers so and leaves the connection open, so that a program which waits for what was said does
 not end. A server has at most 4,096 mounts and 64 namespaces, and rows come by rising ID; so a post has at most 8,192 lines
-behind its first one, 4,096 mounts that left and 4,096 rows, and at most 1,024 posts wait.
+after its first one, 4,096 mounts that left and 4,096 rows, and at most 1,024 posts wait.
 """
 import subprocess
 

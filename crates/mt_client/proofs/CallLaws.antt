@@ -1,10 +1,9 @@
 -- What calls leave of the streams, one behind another.
-use Rattle.std.proofs.Common.{◌≡◌, ◌≢◌, ℕ, List, [], ◌∷◌, ◌++◌, ◌+◌, ◌≤◌, suc, take, length, length-append, refl, sym, ap, subst, ◌∙◌, arith, append_assoc, IsTrue, Bool, MatchBool, Result, Ok, Err, IfOk, IfErr, IsErrAnd, Option, None, ◌⊎◌, inl, inr, true, false}
+use Rattle.std.proofs.Common.{◌≡◌, ◌≢◌, ℕ, List, [], ◌∷◌, ◌++◌, ◌+◌, ◌≤◌, suc, take, length, length-append, refl, sym, ap, subst, ◌∙◌, arith, append_assoc, IsTrue, Bool, MatchBool, Result, Ok, Err, IfOk, IfErr, IsErrAnd, None, ◌⊎◌, inl, inr, true, false}
 use Rattle.std.proofs.lemmas.List.{append-nil}
 use Rattle.std.specs.List.{flat_map}
 use Rattle.std.proofs.KnownBytes.{Appends-nil, Appends-trans, Keeps-refl}
 use Rattle.std.specs.Io.KnownBytes.{Appends, Keeps}
-use Rattle.mt_lines.specs.Lines.{Item}
 use Rattle.std.proofs.lemmas.Result.{err_from_is_err_and}
 use Rattle.mt_lines.specs.Reading.{fault_of, failed_calls, last_faults, last_line, limit_of, known_left, IsNextKnown, IsFaultCause, IsFaultRun}
 use Rattle.mt_lines.specs.declared.line.Line.TheVariants.{Text as TextLine}
@@ -19,7 +18,7 @@ use Rattle.mt_client.specs.Reading.{known_lines, printed, AreSent, ComeFirst, pr
 use Rattle.mt_client.specs.Mirroring.{HasRefused}
 use Rattle.mt_client.specs.Missing.{IsMissing}
 use Rattle.mt_client.specs.Calls.{ReadsOn, WritesOn, AreRead, IsOut, IsOutOrBroken, AreOutOrBroken, IsOutInPart, Breaks, IsFault, IsReadFault, IsPassFault, IsEffectFault, PassesOn, PassesRefusal, IsAskFault}
-use Rattle.mt_client.proofs.RelayLaws.{printed-append, come_none, come_text, come_both, come_from, come_prepended, none_from, broken_later, broken_more, broken_from, cut_by_fault, never_output, unprinted}
+use Rattle.mt_client.proofs.RelayLaws.{printed-append, come_none, come_text, come_both, come_prepended, broken_later, broken_more, broken_from, cut_by_fault, never_output, unprinted}
 use Rattle.mt_client.specs.Awaited.{IsOneRefusal}
 
 pub connection≢output : Connection ≢ Output

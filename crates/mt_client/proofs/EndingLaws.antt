@@ -1,7 +1,7 @@
 -- Rows, namespaces and posts that were passed on, also up to the line that ends them, what cannot come first where one
 -- is refused, and a refusal in the place of an answer.
-use Rattle.std.proofs.Common.{◌≡◌, ◌≢◌, ℕ, ◌+◌, ◌<◌, ◌≤◌, ◌^◌, Bool, List, [], ◌∷◌, ◌++◌, length, refl, sym, ap, subst, ◌∙◌, arith, append-nil, length-append, Option, Some, None, true, false, codes, if◌then◌else◌, ◌⊎◌, IsTrue, Result, Ok, Err, OnOk, OnErr}
-use Rattle.std.proofs.lemmas.List.{map-append, length-map}
+use Rattle.std.proofs.Common.{◌≡◌, ◌≢◌, ℕ, ◌+◌, ◌<◌, ◌≤◌, ◌^◌, Bool, List, [], ◌∷◌, ◌++◌, length, refl, sym, ap, subst, ◌∙◌, arith, append-nil, length-append, Option, Some, None, true, false, codes, if◌then◌else◌, ◌⊎◌, Result, Ok, Err, OnOk, OnErr}
+use Rattle.std.proofs.lemmas.List.{length-map}
 use Rattle.std.proofs.lemmas.Grind.{flat_map-append}
 use Rattle.std.specs.List.{flat_map, join_with_byte, AllByRecursion}
 use Rattle.std.proofs.lemmas.Option.{same_Some}
@@ -9,7 +9,6 @@ use Rattle.mt_lines.specs.Words.{words}
 use Rattle.std.specs.Io.KnownBytes.{Appends}
 use Rattle.mt_lines.specs.Lines.{Item}
 use Rattle.mt_skel.proofs.MiddleLaws.{each_last}
-use Rattle.mt_info.specs.Laws.{IsRow}
 use Rattle.mt_info.specs.RowLine.{line}
 use Rattle.mt_events.specs.Posts.{PostView, post_text, ended}
 use Rattle.mt_protocol.specs.declared.form.Form.{Form}

@@ -22,7 +22,6 @@ use Rattle.mt_client.specs.Reading.{texts, ComeFirst, NoneFirst, AreSoMany, prin
 use Rattle.mt_client.specs.Mirroring.{counted_line, heading_words, IsShown, heading_line, part_lines, opening_lines, opening_with, HasOpened}
 use Rattle.mt_client.specs.Awaited.{IsOneRefusal, IsRefusedOr, AreRowLines, IsOpening}
 use Rattle.mt_client.proofs.RelayLaws.{printed-append, KnownByLines, items_alike, items_cut, first_alike, prepended, come_prepended}
-use Rattle.mt_info.specs.Table.{row_id}
 use Rattle.mt_skel.specs.Rising.{is_above, rises_after}
 use Rattle.mt_skel.proofs.RisingLaws.{after_kept}
 use Rattle.mt_skel.specs.Keyed.{rises}

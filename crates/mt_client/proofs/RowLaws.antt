@@ -3,7 +3,7 @@ use Rattle.std.proofs.Common.{◌≡◌, ◌≢◌, ℕ, ◌+◌, ◌<◌, ◌�
 use Rattle.std.specs.List.{AllByRecursion, list_all}
 use Rattle.std.proofs.lemmas.List.{map-append}
 use Rattle.std.proofs.lemmas.Bool.Decides.{nat_tests}
-use Rattle.mt_lines.specs.Lines.{Item, Text}
+use Rattle.mt_lines.specs.Lines.{Item}
 use Rattle.mt_lines.specs.declared.line.LineReader.{LineReader}
 use Rattle.mt_lines.specs.declared.stream.Input.{Ghosts}
 use Rattle.mt_skel.specs.Keyed.{rises}

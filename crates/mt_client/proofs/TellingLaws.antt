@@ -157,7 +157,7 @@ portion_before {named} {count} {scope} {old} {mid} {before} {middle} {begun} f n
     (so, omega arith)
 
 pub none_before : {named : NamedTelling} {count : ℕ} {scope : Scope} {old : List MirrorView} {before : Option (List Item)} {begun : Option (List ℕ)} → AreToldBefore named count scope 0 old old before before begun begun
-none_before new after done h = (h, omega arith)
+none_before new after end h = (h, omega arith)
 
 pub told_before : {named : NamedTelling} {count : ℕ} (k : ℕ) {scope : Scope} {old mid new : List MirrorView} {before middle after : Option (List Item)} {begun between done : Option (List ℕ)} → AreToldBefore named count scope k old mid before middle begun between → HasToldPortion named count scope mid new middle after between done
     → AreToldBefore named count scope (k + 1) old new before after begun done

@@ -6,3 +6,10 @@ pub mod MasterLaws
 pub mod BeginLaws
 pub mod SeenLaws
 pub mod HitLaws
+pub mod NewLaws
+pub mod ParentLaws
+pub mod WitnessLaws
+pub mod MissingLaws
+pub mod DownLaws
+pub mod GroupsLaws
+pub mod WalkedLaws

@@ -10,9 +10,9 @@ use Rattle.mt_peers.specs.Peers.{Peer, in_group}
 use Rattle.mt_peers.specs.Masters.{master_of, reaches}
 use Rattle.mt_reach.specs.declared.row.SeenRow.{SeenRow}
 use Rattle.mt_reach.specs.declared.upward.Step.{Step}
-use Rattle.mt_reach.specs.declared.upward.Step.TheVariants.{ToMaster, ToParent}
+use Rattle.mt_reach.specs.declared.upward.Step.TheVariants.{ToMaster, ToTold, ToParent}
 use Rattle.mt_reach.specs.Rows.{seen_id, seen_at, peer_in, peers_in}
-use Rattle.mt_reach.specs.Tree.{seen_parent_row, seen_parent, step_up, leads_up}
+use Rattle.mt_reach.specs.Tree.{seen_or_told, seen_parent_row, seen_parent, step_up, leads_up}
 use Rattle.mt_reach.proofs.ShortLaws.{meets-next}
 
 -- the groups of mounts
@@ -40,6 +40,13 @@ master_known rows g m e = group_known rows g (go (find (in_group g) (peers_in ro
     go None e = absurd (cc)
     go (Some p) e = refl
 
+told_known : (rows : List SeenRow) (g m : ℕ) → step_up rows ToTold g ≡ Some m → among (groups_in rows) g ≡ true
+told_known rows g m e = go (master_of (peers_in rows) g) refl e
+  where
+    go : (o : Option ℕ) → master_of (peers_in rows) g ≡ o → option_and_then (seen_or_told rows) o ≡ Some m → among (groups_in rows) g ≡ true
+    go None is f = absurd (cc)
+    go (Some k) is f = master_known rows g k is
+
 row_known : (rows : List SeenRow) (i : ℕ) → is_some (seen_at rows i) ≡ true → among (map seen_id rows) i ≡ true
 row_known [] i e = absurd (cc)
 row_known (r ∷ rows) i e = grind (arith, nat_tests, row_known rows i)
@@ -53,6 +60,7 @@ parent_known rows i m e = row_known rows i (go (seen_at rows i) e)
 
 pub meets_up : (rows : List SeenRow) (step : Step) (goal h : ℕ) → leads_up rows step goal h ≡ ((h == goal) || option_map_or (leads_up rows step goal) (step_up rows step h) false)
 meets_up rows ToMaster goal h = meets-next (step_up rows ToMaster) goal (groups_in rows) (master_known rows) (length rows) h (groups_few rows)
+meets_up rows ToTold goal h = meets-next (step_up rows ToTold) goal (groups_in rows) (told_known rows) (length rows) h (groups_few rows)
 meets_up rows ToParent goal h = let all = length-map rows seen_id in meets-next (step_up rows ToParent) goal (map seen_id rows) (parent_known rows) (length rows) h (omega arith)
 
 -- to masters it is as states tell it

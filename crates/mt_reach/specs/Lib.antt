@@ -3,6 +3,10 @@ pub mod Masters
 pub mod Tree
 pub mod Upward
 pub mod Reached
+pub mod Missing
+pub mod Walking
+pub mod Sight
+pub mod Reasons
 pub mod Refusals
 pub mod Seen
 pub mod Laws

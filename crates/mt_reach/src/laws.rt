@@ -1,8 +1,29 @@
 //! What is true of the answers about the rows of a world. The functions do nothing: their contracts are the laws.
-ghost use Rattle.mt_reach.specs.Laws.{ReachedAreHits};
+ghost use Rattle.mt_reach.specs.Laws.{ReachedAreHits, NoneIsMissing, MountsComeWhereReached, BusyIsWitnessed, SharedIsWitnessed, UnbindableIsWitnessed, IntoIsWitnessed};
 
 /// The mounts that are reached from a directory of a mount are those to which a mount made there propagates, where the rows
 /// are those of all namespaces of a well-formed world.
 pub fn reached_are_hits()
     ensures { ReachedAreHits }
+{}
+
+/// From the rows of a well-formed world it is told of each mount whether it gets what happens in a group: no group above it is
+/// without a member.
+pub fn none_is_missing()
+    ensures { NoneIsMissing }
+{}
+
+/// A mount that is accepted makes new mounts just where its path ends, and at that directory of the mounts that are reached from
+/// there.
+pub fn mounts_come_where_reached()
+    ensures { MountsComeWhereReached }
+{}
+
+/// The mounts that are named for a refusal are none exactly where the refusal does not hold: for `Busy`, `SharedParent` and
+/// `UnbindableInside`, and for `IntoItself` of a move.
+pub fn refusals_are_witnessed()
+    ensures busy { BusyIsWitnessed }
+    ensures shared { SharedIsWitnessed }
+    ensures unbindable { UnbindableIsWitnessed }
+    ensures into { IntoIsWitnessed }
 {}

@@ -1,7 +1,8 @@
 //! Paths of rows: names that lead down from a root.
-ghost use Rattle.std.specs.Prelude.{◌≡◌, [], ◌∷◌, ◌++◌, IfOk, IsOkUnless};
+ghost use Rattle.std.specs.Prelude.{◌≡◌, [], ◌∷◌, ◌++◌, length, drop, IfOk, IsOkUnless};
 ghost use Rattle.std.specs.List.{starts_with};
 ghost use Rattle.std.specs.Str.{bytes_eq};
+ghost use Rattle.mt_skel.specs.Skeleton.{path_eq};
 
 use crate::text::SeenText;
 use mt_skel::fault::Fault;
@@ -71,6 +72,36 @@ impl Path {
         Ok(Path { names })
     }
 
+    /// How many names there are.
+    pub fn len(&self) -> usize
+        ensures { result ≡ length self.now }
+    {
+        self.names.len()
+    }
+
+    /// Whether it is the path of a root.
+    pub fn is_root(&self) -> bool
+        ensures { result ≡ path_eq self.now [] }
+    {
+        self.names.is_empty()
+    }
+
+    /// The path with the names of another one at its end, but for so many at the beginning of that. Refused as `NoMemory` alone.
+    pub fn with_rest(self, other: &Path, skipped: usize) -> Result<Path, Fault>
+        ensures path { IfOk result (λ path. path ≡ self ++ drop skipped other.now) }
+        ensures memory { IsOkUnless result Fault.NoMemory }
+    {
+        let mut path = self;
+        let names = other.names();
+        if skipped >= names.len() {
+            return Ok(path);
+        }
+        'rest: for name in &names[skipped..] {
+            path = path.with(name.copy()?)?;
+        }
+        Ok(path)
+    }
+
     /// The path of these names. Refused as `NoMemory` alone.
     pub fn of(names: &Names, alloc: Global) -> Result<Path, Fault>
         ensures path { IfOk result (λ path. path ≡ names.now) }
@@ -101,5 +132,12 @@ impl Path {
         ensures { result ≡ starts_with bytes_eq self.now first.now }
     {
         starts_with(self.names(), first.names())
+    }
+
+    /// Whether both have the same names.
+    pub fn is_same(&self, other: &Path) -> bool
+        ensures { result ≡ path_eq self.now other.now }
+    {
+        self.len() == other.len() && self.starts_with(other)
     }
 }

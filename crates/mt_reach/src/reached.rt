@@ -10,7 +10,7 @@ use mt_skel::fault::Fault;
 
 /// Whether a mount gets what happens in the group that is the goal of these ways. Refused as `NoMemory` alone.
 #[tactic(auto, using(crate::proofs::MeetLaws::leads_reaches))]
-fn gets(upward: &mut Upward<'_>, row: &SeenRow) -> Result<bool, Fault>
+pub(crate) fn gets(upward: &mut Upward<'_>, row: &SeenRow) -> Result<bool, Fault>
     requires { upward.old.step ≡ Step.ToMaster }
     ensures gets { IfOk result (λ gets. gets ≡ row_gets upward.old.rows upward.old.goal row.now) }
     ensures kept { upward.new ≡ upward.old }

@@ -3,6 +3,7 @@ ghost use Rattle.std.specs.Prelude.{◌≡◌, IfOk, IsOkUnless};
 ghost use Rattle.mt_reach.specs.Rows.{device_eq, is_within, shows};
 ghost use Rattle.mt_reach.specs.Seen.{seen_row};
 ghost use Rattle.mt_reach.specs.Tree.{stands_on_row};
+ghost use Rattle.mt_reach.specs.Reasons.{overlaps};
 
 use crate::path::Path;
 use crate::text::SeenText;
@@ -76,6 +77,15 @@ impl SeenDirectory {
             unlinked: self.unlinked,
             path: self.path.copy()?,
         })
+    }
+
+    /// Whether one of two directories is the other one, or in it. A directory that was deleted counts as one in the root of its
+    /// filesystem.
+    pub fn overlaps(&self, other: &SeenDirectory) -> bool
+        ensures { result ≡ overlaps self.now other.now }
+    {
+        is_same_device(self.device, other.device)
+            && (self.path.starts_with(&other.path) || other.path.starts_with(&self.path))
     }
 
     /// Whether this directory is the other one, or below it.

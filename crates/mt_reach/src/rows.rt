@@ -1,6 +1,7 @@
 //! The rows of all tables that were read.
 ghost use Rattle.std.specs.Prelude.{◌≡◌, ◌↔◌, IsSome, IfOk, IfSome, IsOkUnless, IsTrue, MatchOption, None, Some, length, map};
 ghost use Rattle.mt_skel.specs.Keyed.{rises};
+ghost use Rattle.mt_peers.specs.Peers.{has_member};
 ghost use Rattle.mt_peers.specs.Masters.{master_of};
 ghost use Rattle.mt_reach.specs.Rows.{seen_id, seen_at, seen_group, peers_in};
 ghost use Rattle.mt_reach.specs.Tree.{seen_parent_row, seen_parent};
@@ -120,8 +121,16 @@ impl SeenRows {
         self.masters.get(&group).copied()?
     }
 
+    /// Whether a row tells a member of a peer group. Takes no memory.
+    #[tactic(auto, using(crate::proofs::MasterLaws::told_member))]
+    pub fn has_member(&self, group: GroupId) -> bool
+        ensures { result ≡ has_member (peers_in self.now) group }
+    {
+        self.masters.get(&group).copied().is_some()
+    }
+
     /// The row of what a mount stands on; `None` where its table has not got that. Takes no memory.
-    pub fn seen_parent_row(&self, row: &SeenRow) -> Option<&SeenRow>
+    pub fn parent_row(&self, row: &SeenRow) -> Option<&SeenRow>
         ensures { MatchOption result (seen_parent_row self.now row.now ≡ None) (λ parent. seen_parent_row self.now row.now ≡ Some parent.now) }
     {
         let parent = self.get(row.parent)?;
@@ -137,7 +146,7 @@ impl SeenRows {
         ensures { result ≡ seen_parent self.now id }
     {
         let row = self.get(id)?;
-        let parent = self.seen_parent_row(row)?;
+        let parent = self.parent_row(row)?;
         Some(parent.id)
     }
 }

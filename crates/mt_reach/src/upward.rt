@@ -5,10 +5,11 @@
 ghost use Rattle.std.specs.Prelude.{◌≡◌, ◌==◌, false, None, IfOk, IfSome, IsOkUnless, IsTrue};
 ghost use Rattle.std.specs.List.{list_all};
 ghost use Rattle.mt_info.specs.SameRow.{bool_eq};
-ghost use Rattle.mt_reach.specs.Tree.{step_up, leads_up};
+ghost use Rattle.mt_reach.specs.Tree.{told_above, seen_or_told, step_up, leads_up};
 
 use crate::rows::SeenRows;
 use indexmap::IndexMap;
+use mt_peers::state::GroupId;
 use mt_skel::fault::Fault;
 use std::marker::Model;
 
@@ -17,8 +18,32 @@ use std::marker::Model;
 pub(crate) enum Step {
     /// From a peer group to its master.
     ToMaster,
+    /// From a peer group to its master, or where no row tells a member of that, to the group above it that a row tells.
+    ToTold,
     /// From a mount to the one that it stands on.
     ToParent,
+}
+
+/// The group above one without a member that a slave of it tells. Takes no memory.
+fn told_above(rows: &SeenRows, group: GroupId) -> Option<GroupId>
+    ensures { result ≡ told_above rows.now group }
+{
+    'rows: for row in rows.rows() {
+        if row.master == Some(group) && row.via.is_some() {
+            return row.via;
+        }
+    }
+    None
+}
+
+/// A group, if a row tells a member of it, and else the group above it that is told. Takes no memory.
+pub(crate) fn seen_or_told(rows: &SeenRows, group: GroupId) -> Option<GroupId>
+    ensures { result ≡ seen_or_told rows.now group }
+{
+    if rows.has_member(group) {
+        return Some(group);
+    }
+    told_above(rows, group)
 }
 
 /// A step up from the peer group or mount of a number. Takes no memory.
@@ -27,6 +52,7 @@ pub(crate) fn step_up(rows: &SeenRows, step: Step, number: u64) -> Option<u64>
 {
     match step {
         Step::ToMaster => rows.master_of(number),
+        Step::ToTold => seen_or_told(rows, rows.master_of(number)?),
         Step::ToParent => rows.parent_of(number),
     }
 }

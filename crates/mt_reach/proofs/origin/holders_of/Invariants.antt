@@ -1,0 +1,11 @@
+use Rattle.std.proofs.Common.{◌≡◌, ◌++◌, map, drop}
+use Rattle.std.specs.List.{filter}
+use Rattle.mt_reach.specs.declared.row.SeenRow.{SeenRow}
+use Rattle.mt_reach.specs.Rows.{seen_id}
+use Rattle.mt_reach.specs.Reasons.{overlaps}
+use Rattle.mt_reach.proofs.origin.holders_of.Given as goal
+
+-- those of the rows passed, and of those to come
+abbrev pub invariant-rows : goal.invariant-rows
+invariant-rows l =
+    l.ids.items ++ map seen_id (filter (λ (r : SeenRow). overlaps r.root l.directory) (drop l.row-index l.row-items)) ≡ map seen_id (filter (λ (r : SeenRow). overlaps r.root l.directory) l.row-items)
