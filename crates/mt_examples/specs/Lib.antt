@@ -35,3 +35,4 @@ pub mod CopyOfTheCopy
 pub mod DroppedNamespace
 pub mod StateTransitions
 pub mod Sending
+pub mod AnswersAreRead
