@@ -40,7 +40,7 @@ pub(crate) fn tell_path<E: Eprint>(
     refused: Refused,
     named: NamedPath<'_>,
 ) {
-    let (why, name, path) = (refused.name(), named.name, Shown(named.path));
+    let (why, name, path) = (refused.name(), Shown(named.name), Shown(named.path));
     match number {
         Some(number) => {
             let _ = eprintln!(rt; "{NAME}: line {number}: {why}: {name}, {path}");

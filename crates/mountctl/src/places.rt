@@ -7,6 +7,8 @@ use crate::kept::{Kept, ask_kept};
 use mt_lines::line::LineReader;
 use mt_lines::stream::{Input, Output};
 use mt_lines::words::words;
+use mt_protocol::argument::Argument;
+use mt_protocol::verb::Verb;
 use std::alloc::{AllocError, Global};
 
 /// The refusals that may be of either path.
@@ -48,7 +50,7 @@ impl Refused {
 #[derive(Clone, Copy)]
 pub(crate) struct NamedPath<'a> {
     /// The name in the usage.
-    pub(crate) name: &'static str,
+    pub(crate) name: &'static [u8],
     /// The path.
     pub(crate) path: &'a [u8],
 }
@@ -63,41 +65,35 @@ struct TwoPaths<'a> {
     second: NamedPath<'a>,
 }
 
-/// The two paths of a line, if it has two.
+/// The two paths of a line, if it has two, by the arguments of its verb.
 fn paths_of(line: &[u8]) -> Option<TwoPaths<'_>> {
-    let mut words = words(line);
-    let (Some(command), Some(space), Some(first), Some(second), None) = (
-        words.next(),
-        words.next(),
-        words.next(),
-        words.next(),
-        words.next(),
-    ) else {
-        return None;
-    };
-    let binds = command == b"bind".as_slice() || command == b"rbind".as_slice();
-    let (name, other) = if command == b"pivot".as_slice() {
-        ("NEW", "OLD")
-    } else if binds || command == b"move".as_slice() {
-        ("SRC", "DST")
-    } else {
-        return None;
-    };
+    let mut behind = words(line);
+    let verb = Verb::of(behind.next()?)?;
+    let mut names = words(verb.row().usage.as_bytes());
+    let _verb = names.next()?;
+    let (mut space, mut first, mut second) = (None, None, None);
+    for argument in verb.arguments() {
+        let (word, name) = (behind.next()?, names.next()?);
+        match argument {
+            Argument::Space => space = Some(word),
+            Argument::Path if first.is_none() => first = Some(NamedPath { name, path: word }),
+            Argument::Path => second = Some(NamedPath { name, path: word }),
+            _ => {}
+        }
+    }
     Some(TwoPaths {
-        binds,
-        space,
-        first: NamedPath { name, path: first },
-        second: NamedPath {
-            name: other,
-            path: second,
-        },
+        binds: matches!(verb, Verb::Bind | Verb::Rbind),
+        space: space?,
+        first: first?,
+        second: second?,
     })
 }
 
 /// The line that asks where a path ends, both as they stand in a line. Fails for want of memory alone.
 fn find_line(alloc: Global, space: &[u8], path: &[u8]) -> Result<Vec<u8>, AllocError> {
     let mut line = Vec::new(alloc);
-    line.extend_from_slice(b"find ")?;
+    line.extend_from_slice(Verb::Find.word())?;
+    line.extend_from_slice(b" ")?;
     line.extend_from_slice(space)?;
     line.extend_from_slice(b" ")?;
     line.extend_from_slice(path)?;

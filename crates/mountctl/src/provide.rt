@@ -11,6 +11,7 @@ use mt_client::request::request_line;
 use mt_lines::line::LineReader;
 use mt_lines::stream::{Input, Output};
 use mt_lines::words::{Pieces, number, words};
+use mt_protocol::verb::Verb;
 use std::alloc::{AllocError, Global};
 
 /// The text of the answer to a request of these words, or None where it is refused.
@@ -68,7 +69,10 @@ fn filesystem_of(table: &[u8], mount: &[u8]) -> Option<u64> {
 
 /// The name of a filesystem that a line of a script makes, with its escapes.
 fn made_name(line: &[u8]) -> Option<&[u8]> {
-    let mut words = words(line.strip_prefix(b"mkfs ")?);
+    let mut words = words(line);
+    if words.next()? != Verb::Mkfs.word() {
+        return None;
+    }
     words.next()
 }
 
@@ -95,7 +99,8 @@ fn directory_line(
     name: &[u8],
 ) -> Result<Vec<u8>, AllocError> {
     let mut line = Vec::new(alloc);
-    line.extend_from_slice(b"mkdir ")?;
+    line.extend_from_slice(Verb::Mkdir.word())?;
+    line.extend_from_slice(b" ")?;
     line.extend_from_slice(filesystem)?;
     line.extend_from_slice(b" ")?;
     if above != b"/".as_slice() {
@@ -120,10 +125,10 @@ fn provide_directory<R: Input + Drop, W: Output>(
     requires fresh { fault_of lines.old ≡ None }
     ensures fresh { OnOk result (fault_of lines.new ≡ None) }
 {
-    let Some(found) = answer_to(alloc, &[b"find", space, above], lines, writer)? else {
+    let Some(found) = answer_to(alloc, &[Verb::Find.word(), space, above], lines, writer)? else {
         return Ok(());
     };
-    let Some(table) = answer_to(alloc, &[b"show", space], lines, writer)? else {
+    let Some(table) = answer_to(alloc, &[Verb::Show.word(), space], lines, writer)? else {
         return Ok(());
     };
     let Some((mount, directory)) = place_in(found.text()) else {
@@ -157,7 +162,14 @@ fn provide_next<R: Input + Drop, W: Output>(
     above.extend_from_slice(path.as_slice())?;
     path.extend_from_slice(b"/")?;
     path.extend_from_slice(name)?;
-    if answer_to(alloc, &[b"find", space, path.as_slice()], lines, writer)?.is_some() {
+    if answer_to(
+        alloc,
+        &[Verb::Find.word(), space, path.as_slice()],
+        lines,
+        writer,
+    )?
+    .is_some()
+    {
         return Ok(());
     }
     if above.is_empty() {
@@ -200,10 +212,18 @@ pub(crate) fn provide<R: Input + Drop, W: Output>(
     requires fresh { fault_of lines.old ≡ None }
     ensures fresh { OnOk result (fault_of lines.new ≡ None) }
 {
-    match words {
-        ["mount", space, filesystem, path] => {
+    let Some((verb, behind)) = words.split_first() else {
+        return Ok(());
+    };
+    match (Verb::of(verb.as_bytes()), behind) {
+        (Some(Verb::Mount), [space, filesystem, path]) => {
             let name = filesystem.as_bytes();
-            let _made = answer_to(alloc, &[b"mkfs", name, name, b"none"], lines, writer)?;
+            let _made = answer_to(
+                alloc,
+                &[Verb::Mkfs.word(), name, name, b"none"],
+                lines,
+                writer,
+            )?;
             provide_path(
                 alloc,
                 script,
@@ -213,7 +233,7 @@ pub(crate) fn provide<R: Input + Drop, W: Output>(
                 writer,
             )
         }
-        ["bind" | "rbind" | "move", space, _, path] => {
+        (Some(Verb::Bind | Verb::Rbind | Verb::Move), [space, _, path]) => {
             provide_path(
                 alloc,
                 script,

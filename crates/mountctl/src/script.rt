@@ -9,6 +9,7 @@ use mt_client::ask::ask_line;
 use mt_client::relay::print_text;
 use mt_lines::line::{Line, LineReader};
 use mt_lines::stream::{Input, Output};
+use mt_protocol::verb::Verb;
 use std::alloc::Global;
 use std::io::Eprint;
 
@@ -39,7 +40,7 @@ pub(crate) fn is_comment(line: &[u8]) -> bool {
 
 /// Whether a line that was answered `ok` has ended its session.
 fn ends_session(line: &[u8]) -> bool {
-    line == b"quit".as_slice() || line == b"stop".as_slice()
+    matches!(Verb::of(line), Some(Verb::Quit | Verb::Stop))
 }
 
 /// Sends a line, unless it is a comment, and prints what answers it. A refusal is told, with the line and its number.

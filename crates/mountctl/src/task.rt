@@ -5,11 +5,9 @@ use crate::options::{Chosen, Options, chosen_in};
 use mt_events::opening::Scope;
 use mt_lines::words::number;
 use mt_protocol::form::{Form, form_of};
+use mt_protocol::verb::Verb;
 use mt_render::drawing::Drawing;
 use mt_render::telling::Telling;
-
-/// The first words of lines that are about their session.
-const SESSION_WORDS: [&str; 6] = ["watch", "take", "follow", "close", "quit", "stop"];
 
 /// The first words of what may stand in the place of a line.
 const TASK_WORDS: [&str; 7] = ["-", "monitor", "mirror", "tree", "dot", "spaces", "what-if"];
@@ -227,12 +225,24 @@ pub(crate) fn parted<'a, 'w>(words: &'w [&'a str]) -> Option<(&'w [&'a str], &'w
     Some((files, line))
 }
 
+/// Whether a word begins a line that is about its session: its watcher, or its end.
+fn is_of_session(word: &str) -> bool {
+    match Verb::of(word.as_bytes()) {
+        Some(verb) if verb.is_command() => false,
+        Some(verb) => matches!(
+            verb.form(),
+            Form::Opening | Form::Posts | Form::Followed | Form::Done
+        ),
+        None => false,
+    }
+}
+
 /// Whether these are lines that change or ask, with `--` between them: others belong to the session over which they are
 /// sent.
 fn are_asked(words: &[&str]) -> bool {
     let mut begins = true;
     for word in words {
-        if begins && (*word == "--" || SESSION_WORDS.contains(word)) {
+        if begins && (*word == "--" || is_of_session(word)) {
             return false;
         }
         begins = *word == "--";

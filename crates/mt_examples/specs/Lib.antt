@@ -1,5 +1,6 @@
 pub mod Commands
 pub mod Floors
+pub mod Histories
 pub mod Computing
 pub mod Starts
 pub mod Prelude
@@ -34,3 +35,4 @@ pub mod CopyOfTheCopy
 pub mod DroppedNamespace
 pub mod StateTransitions
 pub mod Sending
+pub mod AnswersAreRead

@@ -1,6 +1,6 @@
 -- What the words after a program give, one after another (mount(8), umount(8), unshare(1), nsenter(1)).
 -- A word with no source is this project's rule.
-use Rattle.std.specs.Prelude.{ℕ, Bool, true, false, cond, List, [], ◌∷◌, fold, Option, None, Some, is_some, if◌then◌else◌, codes}
+use Rattle.std.specs.Prelude.{ℕ, Bool, true, false, List, [], ◌∷◌, fold, Option, None, Some, is_some, if◌then◌else◌, codes}
 use Rattle.std.specs.Str.{bytes_eq}
 use Rattle.mt_lines.specs.Words.{pieces}
 use Rattle.mt_forms.specs.Attributes.{nothing_said, turned, turned_all}

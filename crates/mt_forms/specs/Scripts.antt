@@ -1,6 +1,6 @@
 -- Forms as lines of a session (the lines are this project's rule).
 -- A word with no source is this project's rule.
-use Rattle.std.specs.Prelude.{ℕ, Bool, true, false, nat_eq, if◌then◌else◌, List, [], ◌∷◌, ◌++◌, length, Option, None, Some, codes}
+use Rattle.std.specs.Prelude.{ℕ, Bool, nat_eq, if◌then◌else◌, List, [], ◌∷◌, ◌++◌, length, Option, None, Some, codes}
 use Rattle.std.specs.List.{flat_map, list_all, starts_with}
 use Rattle.mt_skel.specs.Escapes.{escaped}
 use Rattle.mt_lines.specs.Words.{pieces}

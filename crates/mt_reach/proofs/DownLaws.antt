@@ -1,7 +1,6 @@
 -- The mounts on the way up to another one.
-use Rattle.std.proofs.Common.{◌≡◌, ℕ, zero, suc, ◌+◌, ◌-◌, ◌≤◌, ◌<◌, Bool, true, false, cond, not, ◌||◌, ◌==◌, List, [], ◌∷◌, ◌++◌, length, Option, Some, None, refl, sym, ap, ◌∙◌, append-nil, append_assoc, arith}
+use Rattle.std.proofs.Common.{◌≡◌, ℕ, zero, suc, ◌+◌, ◌-◌, ◌≤◌, ◌<◌, true, false, not, ◌==◌, List, [], ◌∷◌, ◌++◌, length, Option, Some, None, sym, ap, ◌∙◌, append-nil, append_assoc, arith}
 use Rattle.std.specs.List.{take_while}
-use Rattle.std.specs.Option.{option_map_or}
 use Rattle.mt_skel.specs.Chain.{chain}
 use Rattle.mt_skel.proofs.WorklistLaws.{within, within-suc, within-self}
 use Rattle.mt_reach.specs.declared.row.SeenRow.{SeenRow}

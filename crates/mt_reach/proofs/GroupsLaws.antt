@@ -1,5 +1,5 @@
 -- Groups that are appended on the way up from one.
-use Rattle.std.proofs.Common.{◌≡◌, ℕ, zero, suc, ◌+◌, ◌-◌, ◌≤◌, ◌<◌, List, [], ◌∷◌, ◌++◌, length, Option, Some, None, refl, sym, ap, ◌∙◌, append-nil, append_assoc, arith}
+use Rattle.std.proofs.Common.{◌≡◌, ℕ, suc, ◌+◌, ◌-◌, ◌≤◌, ◌<◌, List, [], ◌∷◌, ◌++◌, length, Option, Some, None, sym, ap, ◌∙◌, append_assoc, arith}
 use Rattle.mt_skel.specs.Chain.{chain}
 use Rattle.mt_skel.proofs.ChainLaws.{chain-last}
 use Rattle.mt_reach.specs.declared.row.SeenRow.{SeenRow}

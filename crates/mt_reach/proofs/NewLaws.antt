@@ -1,12 +1,10 @@
 -- An accepted mount makes new mounts just at its place and at the propagation targets.
-use Rattle.std.proofs.Common.{◌≡◌, ℕ, ◌+◌, ◌<◌, ◌≤◌, Bool, true, false, cond, not, ◌==◌, List, [], ◌∷◌, ◌++◌, map, Option, Some, None, Ok, Result, refl, sym, ap, subst, ◌∙◌, arith, inl, inr}
+use Rattle.std.proofs.Common.{◌≡◌, ℕ, ◌+◌, ◌<◌, ◌≤◌, Bool, true, false, not, List, [], ◌∷◌, ◌++◌, map, Option, Some, None, Ok, Result, refl, sym, ap, subst, ◌∙◌, arith, inl, inr}
 use Rattle.std.specs.Prelude.{is_some}
 use Rattle.std.specs.List.{filter, flat_map, position_or_len}
-use Rattle.std.specs.Option.{option_map_or}
-use Rattle.std.proofs.lemmas.Bool.Decides.{nat_tests}
 use Rattle.mt_skel.specs.declared.fault.Fault.{Fault}
-use Rattle.mt_skel.specs.Keyed.{has, row_at}
-use Rattle.mt_skel.specs.Skeleton.{is_directory, root_of}
+use Rattle.mt_skel.specs.Keyed.{has}
+use Rattle.mt_skel.specs.Skeleton.{is_directory}
 use Rattle.mt_skel.proofs.ElementLaws.{In, in_map, in_row, in_flat}
 use Rattle.mt_skel.proofs.MiddleLaws.{and_first}
 use Rattle.mt_mounts.specs.declared.mount.Mount.{Mount}
@@ -16,13 +14,13 @@ use Rattle.mt_mounts.specs.Walk.{walk}
 use Rattle.mt_propagate.specs.World.{WorldView}
 use Rattle.mt_propagate.specs.WellFormed.{IsWellFormed}
 use Rattle.mt_propagate.specs.Receivers.{hits}
-use Rattle.mt_propagate.specs.Copies.{Source, targets, copy_id, new_copies, copy_eq}
+use Rattle.mt_propagate.specs.Copies.{Source, targets, new_copies, copy_eq}
 use Rattle.mt_propagate.specs.Places.{relocated, copied_mount, new_mounts}
 use Rattle.mt_propagate.specs.Copied.{copied}
 use Rattle.mt_propagate.proofs.ListedLaws.{relocated-id}
 use Rattle.mt_bind.specs.Sources.{fresh}
 use Rattle.mt_bind.specs.Mounting.{mounted}
-use Rattle.mt_bind.proofs.AcceptedLaws.{path_end, fs_of, IsAcceptedMount, mount_accepted}
+use Rattle.mt_bind.proofs.AcceptedLaws.{path_end, fs_of, mount_accepted}
 use Rattle.mt_bind.proofs.MountLaws.{destination}
 use Rattle.mt_reach.specs.Seen.{seen_rows, seen_directory}
 use Rattle.mt_reach.specs.Reached.{reached}

@@ -1,8 +1,8 @@
 -- The mounts that are named for a refusal are none exactly where it does not hold.
-use Rattle.std.proofs.Common.{◌≡◌, ◌↔◌, ℕ, Bool, true, false, cond, ◌&&◌, ◌||◌, ◌==◌, List, [], ◌∷◌, map, Option, Some, None, refl, sym, ap, subst, ◌∙◌, arith}
+use Rattle.std.proofs.Common.{◌≡◌, ◌↔◌, ℕ, Bool, true, false, cond, ◌&&◌, ◌||◌, List, [], ◌∷◌, map, Option, Some, None, refl, sym, ap, subst, ◌∙◌, arith}
 use Rattle.std.specs.Prelude.{is_some}
 use Rattle.std.specs.List.{filter, list_any}
-use Rattle.std.specs.Option.{option_and_then, option_map_or}
+use Rattle.std.specs.Option.{option_map_or}
 use Rattle.mt_mounts.specs.declared.mount.Mount.{Mount}
 use Rattle.mt_mounts.specs.Forest.{id_of, is_below, stands_on, parent}
 use Rattle.mt_propagate.specs.World.{WorldView, state_of, group_of}
@@ -11,7 +11,7 @@ use Rattle.mt_bind.specs.Mounting.{stands_on_shared, any_unbindable}
 use Rattle.mt_reach.specs.declared.row.SeenRow.{SeenRow}
 use Rattle.mt_reach.specs.Rows.{seen_group}
 use Rattle.mt_reach.specs.Tree.{seen_parent, seen_children, in_tree}
-use Rattle.mt_reach.specs.Seen.{seen_mount, seen_rows}
+use Rattle.mt_reach.specs.Seen.{seen_rows}
 use Rattle.mt_reach.specs.Refusals.{IsWitness, shared_parent, shared_of, is_unbindable_in, unbindable_inside, into_itself}
 use Rattle.mt_reach.proofs.SeenLaws.{group_seen}
 use Rattle.mt_reach.proofs.ParentLaws.{parent_seen, children_seen, tree_seen, mounts_seen}

@@ -215,7 +215,7 @@ fn serve_all<J: Naming, I: Input + Drop, O: Output, G: Gate, R: Wait + Clock>(
 /// met the desk, and the session's end closed its watcher there, after as much of the history as the session had then seen.
 /// So its acts in the history are those of its lines, once each and in order (`shared_sessions_act` of laws.rt).
 ///
-/// Whatever the other sessions do, what its watcher has taken behind each line is in order, and gives the tables
+/// Whatever the other sessions do, what its watcher has taken after each line is in order, and gives the tables
 /// (`shared_sessions_follow` of laws.rt).
 pub fn serve_shared<J, I, O, G, R>(
     rt: &R,

@@ -2,7 +2,7 @@ use Rattle.std.proofs.Common.{◌≡◌, ◌++◌, drop}
 use Rattle.std.specs.List.{flat_map}
 use Rattle.mt_peers.specs.Masters.{master_of}
 use Rattle.mt_reach.specs.Rows.{peers_in}
-use Rattle.mt_reach.specs.Missing.{if_missing, missing_groups}
+use Rattle.mt_reach.specs.Missing.{if_missing}
 use Rattle.mt_reach.proofs.missing.missing_groups.Given as goal
 
 -- those of the groups passed, and of those to come

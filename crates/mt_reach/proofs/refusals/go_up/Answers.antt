@@ -1,4 +1,4 @@
-use Rattle.std.proofs.Common.{◌≤◌, ◌==◌, ◌≡◌, true, false, sym, ◌∙◌, arith, length, eq-eqb}
+use Rattle.std.proofs.Common.{◌≤◌, ◌==◌, ◌≡◌, false, sym, ◌∙◌, arith, length, eq-eqb}
 use Rattle.std.proofs.lemmas.Bool.Decides.{nat_tests}
 use Rattle.mt_reach.proofs.DownLaws.{begun_up, up_met, up_left, up_ended, up_step}
 use Rattle.mt_reach.proofs.refusals.go_up.Goals as goal

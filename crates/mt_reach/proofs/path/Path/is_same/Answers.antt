@@ -1,4 +1,4 @@
-use Rattle.std.proofs.Common.{◌≡◌, ◌∙◌, sym, length, arith}
+use Rattle.std.proofs.Common.{◌≡◌, ◌∙◌, sym, length}
 use Rattle.mt_reach.proofs.BeginLaws.{same_names}
 use Rattle.mt_reach.proofs.path.Path.is_same.Goals as goal
 

@@ -1,0 +1,15 @@
+pub mod LeafLaws
+pub mod FitLaws
+pub mod DirectoryLaws
+pub mod ToldLaws
+pub mod KeptLaws
+pub mod StateLaws
+pub mod JoinedLaws
+pub mod MadeLaws
+pub mod RaisedLaws
+pub mod HiddenLaws
+pub mod MemberLaws
+pub mod PlainLaws
+pub mod OrderLaws
+pub mod PutLaws
+pub mod RoundLaws

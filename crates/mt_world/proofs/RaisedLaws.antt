@@ -1,0 +1,100 @@
+-- A well-formed world stays so where numbers are left out.
+use Rattle.std.proofs.Common.{◌≡◌, ℕ, ◌+◌, ◌<◌, ◌≤◌, List, [], ◌∷◌, ◌++◌, length, slice_get, Some, None, refl, sym, ap, subst, ◌∙◌, inl, inr, arith}
+use Rattle.std.specs.Prelude.{◌^◌, max}
+use Rattle.std.proofs.lemmas.Option.{slice_get_within}
+use Rattle.mt_skel.specs.Skeleton.{Skeleton, IsSkeleton, empty_skeleton}
+use Rattle.mt_mounts.specs.declared.mount.Mount.{Mount}
+use Rattle.mt_mounts.specs.Forest.{mount_at}
+use Rattle.mt_peers.specs.Peers.{Peer, Peering}
+use Rattle.mt_propagate.specs.World.{WorldView, empty_world, state_of, private}
+use Rattle.mt_propagate.specs.WellFormed.{IsWellFormed}
+use Rattle.mt_propagate.proofs.GrownLaws.{grown-kept}
+use Rattle.mt_info.specs.Laws.{Grows}
+use Rattle.mt_world.specs.Hidden.{HasMoreHidden}
+use Rattle.mt_world.specs.Leaves.{IsSound, HasMore, IsGrown}
+use Rattle.mt_world.specs.Made.{HasNoMounts}
+use Rattle.mt_world.proofs.DirectoryLaws.{more_same}
+
+-- the world with these numbers
+abbrev pub raised : WorldView → ℕ → ℕ → ℕ → WorldView
+raised w group mount space = record w { peering = record w.peering { next = group }; next_mount = mount; next_space = space }
+
+pub raised-kept : (w : WorldView) (group mount space : ℕ) → IsWellFormed w → w.peering.next ≤ group → w.next_mount ≤ mount → w.next_space ≤ space → IsWellFormed (raised w group mount space)
+raised-kept w group mount space h g m s = record {
+  forest = h.forest;
+  peering = record {
+    rising = h.peering.rising;
+    below = λ i t n e is. let b = h.peering.below i t n e is in omega (arith, b, g);
+    one_master = h.peering.one_master;
+    master_lives = h.peering.master_lives;
+    no_cycle = h.peering.no_cycle;
+    unbindable_alone = h.peering.unbindable_alone;
+  };
+  same_mounts = h.same_mounts;
+  from_one = (omega (arith, h.from_one.0, m), omega (arith, h.from_one.1, s));
+  below = λ i x e. let b = h.below i x e in (b.0, omega (arith, b.1, m), b.2, omega (arith, b.3, s), b.4);
+  group_fs = h.group_fs;
+  master_fs = h.master_fs;
+}
+
+-- a world by its parts
+pub raised_world : (w v : WorldView) → v.skel ≡ w.skel → v.forest ≡ w.forest → v.peering.peers ≡ w.peering.peers → v ≡ raised w v.peering.next v.next_mount v.next_space
+raised_world w v skel forest peers i = record {
+  skel = skel i;
+  forest = forest i;
+  peering = record { peers = peers i; next = v.peering.next };
+  next_mount = v.next_mount;
+  next_space = v.next_space;
+}
+
+-- a bare world stays bare
+pub bare_raised : (w v : WorldView) → HasNoMounts w → v.skel ≡ w.skel → v.forest ≡ w.forest → v.peering.peers ≡ w.peering.peers → w.peering.next ≤ v.peering.next → w.next_mount ≤ v.next_mount → w.next_space ≤ v.next_space
+    → v.peering.next ≤ 2 ^ 62 → v.next_mount ≤ 2 ^ 62 → v.next_space ≤ 2 ^ 62 → HasNoMounts v
+bare_raised w v b skel forest peers g m s few_groups few_mounts few_spaces = record {
+  sound = record {
+    well_formed = subst IsWellFormed (sym (raised_world w v skel forest peers)) (raised-kept w v.peering.next v.next_mount v.next_space b.sound.well_formed g m s);
+    skel = subst IsSkeleton (sym skel) b.sound.skel;
+  };
+  forest = forest ∙ b.forest;
+  next_mount = few_mounts;
+  next_space = few_spaces;
+  next_group = few_groups;
+}
+
+-- and where filesystems are made
+pub bare_grown : (w : WorldView) (t : Skeleton) → HasNoMounts w → IsSkeleton t → Grows w.skel t → HasNoMounts (record w { skel = t })
+bare_grown w t b is g = record {
+  sound = record { well_formed = grown-kept w t g.new_directories g.directories b.sound.well_formed; skel = is };
+  forest = b.forest;
+  next_mount = b.next_mount;
+  next_space = b.next_space;
+  next_group = b.next_group;
+}
+
+-- numbers that were left out change nothing else
+pub raised_beside : (n : ℕ) (w : WorldView) (group mount space : ℕ) → w.next_space ≤ space → HasMoreHidden n w (raised w group mount space)
+raised_beside n w group mount space l = record {
+  grown = record { skel = more_same w.skel; mounts = λ i m e. e; count = omega arith; spaces = omega arith };
+  states = λ i m e. refl;
+  numbers = l;
+  more = λ i m e. inl e;
+}
+
+-- the empty world is bare
+none_there : IsSkeleton empty_skeleton
+none_there = record {
+  names_once = λ i j f g e. absurd (omega (arith, slice_get_within [] i f e));
+  once = λ i j d e. absurd (omega (arith, slice_get_within [] i d e));
+  of_filesystem = λ i d e. absurd (omega (arith, slice_get_within [] i d e));
+  parents = λ i fs path name e. absurd (omega (arith, slice_get_within [] i (record { fs = fs; path = path ++ name ∷ [] }) e));
+  rooted = λ f l m. absurd (omega arith);
+}
+
+pub bare_new : (w : WorldView) → w ≡ empty_world → IsWellFormed w → HasNoMounts w
+bare_new w e h = record {
+  sound = record { well_formed = h; skel = subst IsSkeleton (ap (λ u. u.skel) (sym e)) none_there };
+  forest = ap (λ u. u.forest) e;
+  next_mount = omega (arith, ap (λ u. u.next_mount) e);
+  next_space = omega (arith, ap (λ u. u.next_space) e);
+  next_group = omega (arith, ap (λ u. u.peering.next) e);
+}

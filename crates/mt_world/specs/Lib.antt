@@ -1,0 +1,10 @@
+pub mod Rows
+pub mod Fitting
+pub mod Leaves
+pub mod Places
+pub mod Told
+pub mod Kept
+pub mod States
+pub mod Hidden
+pub mod Plain
+pub mod Made
