@@ -72,3 +72,7 @@ hidden_joined n w v m s b h = record {
 pub hidden_end : (n : ℕ) (w v u : WorldView) (m : Mount) (s : State) (o : Option Misfit) → HasMoreHidden n w v → IsHidden w v m → (o ≡ None → u ≡ with_joined v m.id s) → IfSome o (λ _. u ≡ v) → HasMoreHidden n w u
 hidden_end n w v u m s None b h joined same = subst (HasMoreHidden n w) (sym (joined refl)) (hidden_joined n w v m s b h)
 hidden_end n w v u m s (Some why) b h joined same = subst (HasMoreHidden n w) (sym same) b
+
+pub spaces_end : (v u : WorldView) (i : ℕ) (s : State) (o : Option Misfit) → (o ≡ None → u ≡ with_joined v i s) → IfSome o (λ _. u ≡ v) → u.next_space ≡ v.next_space
+spaces_end v u i s None joined same = ap (λ x. x.next_space) (joined refl)
+spaces_end v u i s (Some why) joined same = ap (λ x. x.next_space) same

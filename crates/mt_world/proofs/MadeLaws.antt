@@ -1,5 +1,5 @@
 -- What is known of a world that was made of rows.
-use Rattle.std.proofs.Common.{◌≡◌, ◌≢◌, ◌⊎◌, ℕ, ◌<◌, List, [], ◌++◌, length, length-append, slice_get, Option, Some, None, refl, sym, ap, subst, ◌∙◌, inl, inr, arith, append-nil}
+use Rattle.std.proofs.Common.{◌≡◌, ◌≢◌, ◌⊎◌, ℕ, ◌+◌, ◌<◌, List, [], ◌++◌, length, length-append, slice_get, Option, Some, None, refl, sym, ap, subst, ◌∙◌, inl, inr, arith, append-nil}
 use Rattle.std.specs.Prelude.{◌≤◌, ◌^◌}
 use Rattle.std.proofs.lemmas.Option.{slice_get_within}
 use Rattle.mt_skel.specs.Skeleton.{Skeleton, IsSkeleton}
@@ -45,7 +45,7 @@ module _ (w v : WorldView) (rows : List TableRow) (left : List (Option Misfit)) 
   pub are_private : ArePrivate v rows left
   are_private k r e f = let t = g.kept.told k r e f in b.states r.id t.mount t.there ∙ g.kept.private r.id
 
-  module _ (u : WorldView) (lone : List (Option Misfit)) (sound : IsSound v) (well : IsWellFormed u) (same : IsSameButStates v u) (j : AreJoined u rows left lone) where
+  module _ (u : WorldView) (lone : List (Option Misfit)) (sound : IsSound v) (well : IsWellFormed u) (same : IsSameButStates v u) (j : AreJoined u rows left lone) (few : (v.next_mount ≤ 2 ^ 62) × (v.next_space ≡ w.next_space + 1)) where
     told_on : (k : ℕ) (r : TableRow) → slice_get rows k ≡ Some r → is_kept left k → IsMounted u rows r
     told_on k r e f =
         still_told v u sound.well_formed well (same_grown v u same) rows r (still_told w v g.kept.sound.well_formed sound.well_formed b.grown rows r (g.kept.told k r e f))
@@ -65,6 +65,7 @@ module _ (w v : WorldView) (rows : List TableRow) (left : List (Option Misfit)) 
     pub is_made : IsMade u rows left lone
     is_made = record {
       sound = record { well_formed = well; skel = subst IsSkeleton (ap (λ x. x.skel) (sym same)) sound.skel };
+      few = (omega (arith, few.0, ap (λ x. x.next_mount) same), omega (arith, few.1, g.kept.few.1, ap (λ x. x.next_space) same));
       sized = (g.kept.sized, j.sized);
       told = told_on;
       joined = j.joined;

@@ -56,6 +56,7 @@ pub(crate) fn add_filesystems(skel: &mut Skel, rows: &[TableRow]) -> Result<(), 
 
 /// The directory of this path in the filesystem of a name and a number, which is made, with those above it, where it is not
 /// there; `None` where there is no room for it. Refused as `NoMemory` alone.
+#[tactic(auto, using(crate::proofs::DirectoryLaws::still_there))]
 pub(crate) fn make_directory(
     skel: &mut Skel,
     device: &Label,

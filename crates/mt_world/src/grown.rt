@@ -143,6 +143,7 @@ impl Kept {
     }
 
     /// Adds the mount of the row of a number, or notes why not, unless that was done before. Whether it waits: what it stands on is not there.
+    #[tactic(auto, using(crate::proofs::KeptLaws::parentless))]
     fn try_row(
         &mut self,
         world: &mut World,

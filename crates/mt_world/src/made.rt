@@ -39,6 +39,7 @@ impl Drop for Made {
 }
 
 /// Leaves out the numbers of a peer group and those below it.
+#[tactic(auto, using(crate::proofs::RaisedLaws::bare_raised))]
 fn pass_group(world: &mut World, group: Option<GroupId>)
     requires bare { HasNoMounts (world_view world.old) }
     requires numbered { IsTrue (is_group group) }
@@ -54,6 +55,7 @@ fn pass_group(world: &mut World, group: Option<GroupId>)
 }
 
 /// Has the next numbers of a world above those of a row, if they can be those of a mount and a namespace.
+#[tactic(auto, using(crate::proofs::RaisedLaws::bare_raised))]
 fn pass_row(world: &mut World, row: &TableRow)
     requires bare { HasNoMounts (world_view world.old) }
     ensures bare { HasNoMounts (world_view world.new) }
@@ -109,6 +111,7 @@ pub fn world_of(alloc: Global, rows: &[TableRow]) -> Result<Made, Fault>
 type Reasons = (Vec<Option<Misfit>>, Vec<Option<Misfit>>);
 
 /// Adds the mounts of rows to an empty world, with their states.
+#[tactic(auto, using(crate::proofs::RaisedLaws::bare_grown))]
 fn fill(alloc: Global, world: &mut World, rows: &[TableRow]) -> Result<Reasons, Fault>
     requires bare { HasNoMounts (world_view world.old) }
     ensures made { IfOk result (λ reasons. IsMade (world_view world.new) rows.now reasons.0.items reasons.1.items) }

@@ -158,6 +158,7 @@ fn mount_of(
 
 /// Adds the mount that a row tells, private, on that of another row, or as the root mount of its namespace; or says why
 /// it cannot be.
+#[tactic(auto, using(crate::proofs::PutLaws::skel_grown, crate::proofs::PutLaws::skel_numbers, crate::proofs::PutLaws::skel_mounts))]
 pub fn put_row(
     world: &mut World,
     row: &TableRow,
