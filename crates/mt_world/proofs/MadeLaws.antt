@@ -1,19 +1,18 @@
 -- What is known of a world that was made of rows.
-use Rattle.std.proofs.Common.{◌≡◌, ◌≢◌, ◌⊎◌, ℕ, ◌+◌, ◌<◌, List, [], ◌++◌, length, length-append, slice_get, Option, Some, None, refl, sym, ap, subst, ◌∙◌, inl, inr, arith, append-nil}
+use Rattle.std.proofs.Common.{◌≡◌, ◌≢◌, ◌⊎◌, ℕ, ◌+◌, ◌<◌, List, [], length, length-append, slice_get, Option, Some, None, refl, sym, ap, subst, ◌∙◌, inl, inr, arith, append-nil}
 use Rattle.std.specs.Prelude.{◌≤◌, ◌^◌}
 use Rattle.std.proofs.lemmas.Option.{slice_get_within}
-use Rattle.mt_skel.specs.Skeleton.{Skeleton, IsSkeleton}
+use Rattle.mt_skel.specs.Skeleton.{IsSkeleton}
 use Rattle.mt_mounts.specs.declared.mount.Mount.{Mount}
 use Rattle.mt_mounts.specs.Forest.{mount_at, roots}
-use Rattle.mt_mounts.proofs.KeptLaws.{mount_fits}
-use Rattle.mt_propagate.specs.World.{WorldView, private, state_of}
+use Rattle.mt_propagate.specs.World.{WorldView, state_of}
 use Rattle.mt_propagate.specs.WellFormed.{IsWellFormed}
 use Rattle.mt_world.specs.declared.misfit.Misfit.{Misfit}
 use Rattle.mt_world.specs.declared.row.TableRow.{TableRow}
 use Rattle.mt_world.specs.Hidden.{HasMoreHidden}
-use Rattle.mt_world.specs.Kept.{is_kept, IsKeptRow, AreKept, AreGrown}
-use Rattle.mt_world.specs.Leaves.{IsSound, HasMore, IsGrown}
-use Rattle.mt_world.specs.Made.{HasNoMounts, IsMade}
+use Rattle.mt_world.specs.Kept.{is_kept, IsKeptRow, AreGrown}
+use Rattle.mt_world.specs.Leaves.{IsSound, IsGrown}
+use Rattle.mt_world.specs.Made.{IsMade}
 use Rattle.mt_world.specs.States.{AreThere, ArePrivate, AreJoined, IsSameButStates}
 use Rattle.mt_world.specs.Told.{IsMounted}
 use Rattle.mt_world.specs.Plain.{IsPlain, HasRoom}

@@ -1,4 +1,4 @@
-use Rattle.std.proofs.Common.{◌≡◌, sym, subst}
+use Rattle.std.proofs.Common.{sym, subst}
 use Rattle.mt_propagate.specs.World.{world_view}
 use Rattle.mt_world.specs.States.{AreThere, ArePrivate, AreJoined}
 use Rattle.mt_world.proofs.MadeLaws.{are_there, are_private, is_made}
