@@ -1,20 +1,18 @@
 -- What is made of a skeleton where filesystems and directories are added.
-use Rattle.std.proofs.Common.{◌≡◌, ◌≢◌, ◌⊎◌, ℕ, zero, suc, ◌+◌, ◌-◌, ◌<◌, ◌≤◌, Bool, true, false, cond, nat_lt, nat_le, List, [], ◌∷◌, ◌++◌, length, length-append, take, slice_get, Option, Some, None, Ok, Err, refl, sym, ap, ◌∙◌, subst, inl, inr, arith, append-nil, append_assoc}
+use Rattle.std.proofs.Common.{◌≡◌, ℕ, zero, suc, ◌+◌, ◌-◌, Bool, true, false, cond, nat_lt, nat_le, List, [], ◌∷◌, ◌++◌, length, length-append, take, slice_get, Option, Some, None, Ok, Err, refl, sym, ap, ◌∙◌, subst, inl, inr, arith, append-nil, append_assoc}
 use Rattle.std.specs.Option.{is_none, is_some, unwrap_or}
-use Rattle.std.specs.Prelude.{IsTrue}
 use Rattle.std.specs.List.{position_from}
 use Rattle.std.specs.Str.{bytes_eq}
 use Rattle.std.proofs.lemmas.Bool.{cases_lt, true≢false}
 use Rattle.std.proofs.lemmas.Slice.Eq.{bytes_eq-Decides}
-use Rattle.std.proofs.lemmas.Option.{slice_get_within}
 use Rattle.mt_skel.specs.declared.fault.Fault.{Fault}
 use Rattle.mt_skel.specs.declared.fault.Fault.TheVariants.{TooMany, NoFilesystem, FilesystemExists, NoEntry, EntryExists}
 use Rattle.mt_skel.specs.Outcome.{refuse_if}
 use Rattle.mt_skel.specs.Skeleton.{Skeleton, Directory, Filesystem, IsSkeleton, added_fs, added_dir, root_of, child, with_fs, with_dir, fs_named, is_filesystem, directory_number, filesystem_limit, directory_limit, depth_limit}
 use Rattle.mt_skel.proofs.AddedLaws.{IsPlaced, dir_added, fs_added}
-use Rattle.mt_skel.proofs.ListLaws.{take_front, last_place}
+use Rattle.mt_skel.proofs.ListLaws.{last_place}
 use Rattle.mt_skel.proofs.OutcomeLaws.{not_refused, accepted}
-use Rattle.mt_skel.proofs.SkeletonLaws.{no_place, number_at, at_number, filesystem_within, child_number, child_at, skeleton_with_fs, skeleton_with_dir}
+use Rattle.mt_skel.proofs.SkeletonLaws.{no_place, number_at, filesystem_within, child_number, child_at, skeleton_with_fs, skeleton_with_dir}
 use Rattle.mt_info.specs.Laws.{Grows}
 use Rattle.mt_info.proofs.GrownTables.{fs_grows}
 use Rattle.mt_world.specs.Kept.{IsNamed}

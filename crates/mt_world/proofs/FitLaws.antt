@@ -1,5 +1,5 @@
 -- What the tests of a mount say.
-use Rattle.std.proofs.Common.{◌≡◌, ℕ, Bool, true, false, not, eqb, eqb-true, Option, Some, None, refl, sym, ap, ◌∙◌, if◌then◌else◌}
+use Rattle.std.proofs.Common.{◌≡◌, Bool, true, false, not, eqb-true, Option, Some, None, refl, sym, ap, ◌∙◌, if◌then◌else◌}
 use Rattle.std.specs.Prelude.{IsTrue, is_some}
 use Rattle.std.specs.Option.{option_map_or}
 use Rattle.mt_skel.specs.Skeleton.{holds}
@@ -7,10 +7,9 @@ use Rattle.mt_mounts.specs.declared.mount.Mount.{Mount}
 use Rattle.mt_mounts.specs.declared.mount.Place.{Place}
 use Rattle.mt_mounts.specs.Forest.{mount_at, on, root_mount}
 use Rattle.mt_propagate.specs.World.{WorldView}
-use Rattle.mt_propagate.specs.Limits.{too_many_mounts, too_many_spaces}
 use Rattle.mt_propagate.proofs.AddedLaws.{Fits}
 use Rattle.mt_world.specs.declared.misfit.Misfit.{Misfit}
-use Rattle.mt_world.specs.declared.misfit.Misfit.TheVariants.{SameId, NoParent, Elsewhere, SamePlace, SecondRoot, NoRoom}
+use Rattle.mt_world.specs.declared.misfit.Misfit.TheVariants.{NoParent}
 use Rattle.mt_world.specs.Fitting.{why_unfit, why_unplaced, why_unplaced_on, why_second_root}
 
 -- where a reason is not given, what it is given for is not so, and what follows it gives none

@@ -1,5 +1,5 @@
 -- Mounts of a hidden namespace change nothing of those of rows.
-use Rattle.std.proofs.Common.{◌≡◌, ◌≢◌, ◌⊎◌, ℕ, ◌+◌, ◌<◌, ◌≤◌, Option, Some, None, refl, sym, ap, subst, ◌∙◌, inl, inr, arith}
+use Rattle.std.proofs.Common.{◌≡◌, ℕ, ◌+◌, Option, Some, None, refl, sym, ap, subst, ◌∙◌, inl, inr, arith}
 use Rattle.std.specs.Prelude.{unwrap_or, IfSome}
 use Rattle.std.specs.Option.{option_map}
 use Rattle.std.proofs.lemmas.Bool.{cases_eq}
@@ -9,19 +9,19 @@ use Rattle.mt_mounts.specs.Forest.{mount_at}
 use Rattle.mt_mounts.proofs.SlotLaws.{row_put_here, row_put_later}
 use Rattle.mt_peers.specs.declared.state.State.{State}
 use Rattle.mt_peers.specs.Peers.{Peer}
-use Rattle.mt_propagate.specs.World.{WorldView, private, state_of}
+use Rattle.mt_propagate.specs.World.{WorldView, private}
 use Rattle.mt_propagate.specs.WellFormed.{IsWellFormed}
 use Rattle.mt_world.specs.declared.misfit.Misfit.{Misfit}
 use Rattle.mt_world.specs.Fitting.{why_unfit}
 use Rattle.mt_world.specs.Hidden.{HasMoreHidden, IsHidden}
-use Rattle.mt_world.specs.Leaves.{IsSound, IsGrown, IsGiven, with_leaf}
+use Rattle.mt_world.specs.Leaves.{IsSound, with_leaf}
 use Rattle.mt_world.specs.States.{with_joined}
 use Rattle.mt_world.proofs.DirectoryLaws.{more_same}
 use Rattle.mt_world.proofs.FitLaws.{fits}
 use Rattle.mt_world.proofs.JoinedLaws.{state_else}
 use Rattle.mt_world.proofs.KeptLaws.{grown_on}
-use Rattle.mt_world.proofs.LeafLaws.{leaf-grown, leaf-kept, no-state, state-same}
-use Rattle.mt_world.proofs.RaisedLaws.{raised, raised-kept, raised_beside}
+use Rattle.mt_world.proofs.LeafLaws.{leaf-grown, no-state, state-same}
+use Rattle.mt_world.proofs.RaisedLaws.{raised, raised-kept}
 
 pub beside_on : (n : ℕ) (w v u : WorldView) → HasMoreHidden n w v → HasMoreHidden n v u → HasMoreHidden n w u
 beside_on n w v u a b = record {
@@ -72,3 +72,7 @@ hidden_joined n w v m s b h = record {
 pub hidden_end : (n : ℕ) (w v u : WorldView) (m : Mount) (s : State) (o : Option Misfit) → HasMoreHidden n w v → IsHidden w v m → (o ≡ None → u ≡ with_joined v m.id s) → IfSome o (λ _. u ≡ v) → HasMoreHidden n w u
 hidden_end n w v u m s None b h joined same = subst (HasMoreHidden n w) (sym (joined refl)) (hidden_joined n w v m s b h)
 hidden_end n w v u m s (Some why) b h joined same = subst (HasMoreHidden n w) (sym same) b
+
+pub spaces_end : (v u : WorldView) (i : ℕ) (s : State) (o : Option Misfit) → (o ≡ None → u ≡ with_joined v i s) → IfSome o (λ _. u ≡ v) → u.next_space ≡ v.next_space
+spaces_end v u i s None joined same = ap (λ x. x.next_space) (joined refl)
+spaces_end v u i s (Some why) joined same = ap (λ x. x.next_space) same

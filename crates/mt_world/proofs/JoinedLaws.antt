@@ -1,5 +1,5 @@
 -- Which mounts of rows have their states stays known where one gets its own, and where one stays private.
-use Rattle.std.proofs.Common.{◌≡◌, ◌≢◌, ℕ, ◌<◌, List, length, slice_get, Option, Some, None, refl, sym, ap, subst, ◌∙◌, inl, inr, arith}
+use Rattle.std.proofs.Common.{◌≡◌, ◌≢◌, ℕ, List, slice_get, Option, Some, None, refl, sym, ap, subst, ◌∙◌, inl, inr}
 use Rattle.std.specs.Prelude.{unwrap_or, IfSome}
 use Rattle.std.specs.Option.{is_some}
 use Rattle.std.proofs.lemmas.Bool.{cases_eq}
@@ -12,7 +12,6 @@ use Rattle.mt_propagate.specs.World.{WorldView, private, state_of}
 use Rattle.mt_propagate.specs.WellFormed.{IsWellFormed}
 use Rattle.mt_propagate.proofs.ShownLaws.{mount-state}
 use Rattle.mt_world.specs.declared.misfit.Misfit.{Misfit}
-use Rattle.mt_world.specs.declared.misfit.Misfit.TheVariants.{NoMaster}
 use Rattle.mt_world.specs.declared.row.TableRow.{TableRow}
 use Rattle.mt_world.specs.Kept.{IsSetAt, keeps_row}
 use Rattle.mt_world.specs.States.{with_joined, AreThere, AreJoined, IsSameButStates}

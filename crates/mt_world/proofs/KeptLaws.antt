@@ -1,6 +1,6 @@
 -- Which rows are kept stays known where the mount of one is added, and where one is left out.
-use Rattle.std.proofs.Common.{◌≡◌, ◌≢◌, ◌⊎◌, ℕ, zero, suc, ◌<◌, Bool, true, false, cond, eqb, nat_eq, eqb-true, eq-eqb, List, [], ◌∷◌, ◌++◌, length, set, slice_get, Option, Some, None, refl, sym, ap, subst, ◌∙◌, inl, inr, arith, if◌then◌else◌}
-use Rattle.std.specs.Prelude.{◌≤◌, ◌^◌, IsTrue, is_some, not, unwrap_or}
+use Rattle.std.proofs.Common.{◌≡◌, ◌≢◌, ◌⊎◌, ℕ, zero, suc, ◌<◌, Bool, true, false, cond, eqb, eq-eqb, List, [], ◌∷◌, length, set, slice_get, Option, Some, None, refl, sym, ap, subst, ◌∙◌, inl, inr, arith, if◌then◌else◌}
+use Rattle.std.specs.Prelude.{◌≤◌, ◌^◌, is_some, not, unwrap_or}
 use Rattle.std.specs.Option.{option_map, option_map_or}
 use Rattle.std.proofs.lemmas.Bool.{cases_eq, ne_eqb}
 use Rattle.std.proofs.lemmas.List.{length-set}
@@ -8,9 +8,8 @@ use Rattle.std.proofs.lemmas.Option.{same_Some, slice_get_within}
 use Rattle.mt_skel.specs.Skeleton.{holds}
 use Rattle.mt_mounts.specs.declared.mount.Mount.{Mount}
 use Rattle.mt_mounts.specs.declared.mount.Place.{Place}
-use Rattle.mt_mounts.specs.Forest.{id_of, mount_at, on, root_mount}
+use Rattle.mt_mounts.specs.Forest.{mount_at, on, root_mount}
 use Rattle.mt_mounts.proofs.SlotLaws.{row_put_here, row_put_later}
-use Rattle.mt_mounts.proofs.KeptLaws.{mount_fits}
 use Rattle.mt_peers.specs.Peers.{Peer}
 use Rattle.mt_propagate.specs.World.{WorldView, private, state_of}
 use Rattle.mt_propagate.specs.WellFormed.{IsWellFormed}
@@ -18,12 +17,12 @@ use Rattle.mt_propagate.specs.Limits.{too_many_mounts, too_many_spaces}
 use Rattle.mt_world.specs.declared.misfit.Misfit.{Misfit}
 use Rattle.mt_world.specs.declared.misfit.Misfit.TheVariants.{NoNumber, SameId, NoParent, Elsewhere, SamePlace, SecondRoot, TooDeep, NoRoom}
 use Rattle.mt_world.specs.declared.row.TableRow.{TableRow}
-use Rattle.mt_world.specs.Fitting.{why_unfit, why_unplaced, why_unplaced_on, why_second_root}
-use Rattle.mt_world.specs.Leaves.{IsSound, HasMore, IsGrown, HasSameNumbers, with_leaf}
-use Rattle.mt_world.specs.Places.{IsMountOf, IsPlaceOn, IsWhyUnmade, IsWhyUnplaced, IsWhyNone, IsWhyNotPut, IsPut, HasSameMounts}
+use Rattle.mt_world.specs.Fitting.{why_unfit, why_unplaced, why_second_root}
+use Rattle.mt_world.specs.Leaves.{IsSound, IsGrown, HasSameNumbers, with_leaf}
+use Rattle.mt_world.specs.Places.{IsMountOf, IsWhyUnplaced, IsWhyNone, IsWhyNotPut, IsPut, HasSameMounts}
 use Rattle.mt_world.specs.Rows.{is_root_of_table}
-use Rattle.mt_world.specs.Told.{Shows, IsMounted}
-use Rattle.mt_world.specs.Kept.{IsSetAt, HaveNumbers, HaveFilesystems, keeps_row, waits_for_parent, IsKeptRow, StandsRightly, IsParentless, WasWhy, AreKept, AreGrown}
+use Rattle.mt_world.specs.Told.{IsMounted}
+use Rattle.mt_world.specs.Kept.{IsSetAt, HaveNumbers, HaveFilesystems, keeps_row, waits_for_parent, IsKeptRow, StandsRightly, IsParentless, WasWhy, AreKept}
 use Rattle.mt_world.proofs.DirectoryLaws.{more_on, more_same, still_filed}
 use Rattle.mt_world.proofs.FitLaws.{fits}
 use Rattle.mt_world.proofs.LeafLaws.{no-state, state-same}

@@ -1,21 +1,21 @@
 -- A well-formed world stays so where a private mount is added on which none stands.
 use Rattle.std.proofs.Common.{◌≡◌, ◌≢◌, ◌⊎◌, ℕ, ◌<◌, ◌≤◌, Bool, true, false, cond, eqb, List, [], ◌∷◌, map, length, Option, Some, None, refl, sym, ap, subst, ◌∙◌, inl, inr, arith}
-use Rattle.std.specs.Prelude.{IsTrue, is_none, unwrap_or}
+use Rattle.std.specs.Prelude.{is_none, unwrap_or}
 use Rattle.std.specs.List.{filter, list_any}
 use Rattle.std.specs.Option.{option_map}
 use Rattle.std.proofs.lemmas.Bool.{cases_eq, ne_eqb}
 use Rattle.std.proofs.lemmas.Bool.Decides.{nat_tests}
-use Rattle.mt_skel.specs.Keyed.{row_at, put, rises}
+use Rattle.mt_skel.specs.Keyed.{row_at, put}
 use Rattle.mt_skel.specs.Skeleton.{Skeleton, directory}
 use Rattle.mt_skel.proofs.KeyedLaws.{row_at-put, rises-put}
 use Rattle.mt_mounts.specs.declared.mount.Mount.{Mount}
 use Rattle.mt_mounts.specs.Forest.{id_of, mount_at}
-use Rattle.mt_mounts.proofs.SlotLaws.{row_put_here, row_put_later}
+use Rattle.mt_mounts.proofs.SlotLaws.{row_put_later}
 use Rattle.mt_peers.specs.declared.state.State.{State}
-use Rattle.mt_peers.specs.Peers.{Peer, Peering, mount_of, state_at, in_group, has_member}
+use Rattle.mt_peers.specs.Peers.{Peer, mount_of, state_at, in_group}
 use Rattle.mt_peers.specs.WellFormed.{IsPeering}
 use Rattle.mt_propagate.specs.World.{WorldView, private, state_of, group_of}
-use Rattle.mt_propagate.specs.WellFormed.{IsForest, IsWellFormed, fs_at}
+use Rattle.mt_propagate.specs.WellFormed.{IsWellFormed, fs_at}
 use Rattle.mt_propagate.proofs.AddedLaws.{Fits, forest_more, row_cases}
 use Rattle.mt_propagate.proofs.JoinLaws.{joined-IsPeering}
 use Rattle.mt_propagate.proofs.PrivateLaws.{new_peer}

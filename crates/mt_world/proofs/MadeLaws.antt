@@ -1,19 +1,18 @@
 -- What is known of a world that was made of rows.
-use Rattle.std.proofs.Common.{◌≡◌, ◌≢◌, ◌⊎◌, ℕ, ◌<◌, List, [], ◌++◌, length, length-append, slice_get, Option, Some, None, refl, sym, ap, subst, ◌∙◌, inl, inr, arith, append-nil}
+use Rattle.std.proofs.Common.{◌≡◌, ◌≢◌, ◌⊎◌, ℕ, ◌+◌, ◌<◌, List, [], length, length-append, slice_get, Option, Some, None, refl, sym, ap, subst, ◌∙◌, inl, inr, arith, append-nil}
 use Rattle.std.specs.Prelude.{◌≤◌, ◌^◌}
 use Rattle.std.proofs.lemmas.Option.{slice_get_within}
-use Rattle.mt_skel.specs.Skeleton.{Skeleton, IsSkeleton}
+use Rattle.mt_skel.specs.Skeleton.{IsSkeleton}
 use Rattle.mt_mounts.specs.declared.mount.Mount.{Mount}
 use Rattle.mt_mounts.specs.Forest.{mount_at, roots}
-use Rattle.mt_mounts.proofs.KeptLaws.{mount_fits}
-use Rattle.mt_propagate.specs.World.{WorldView, private, state_of}
+use Rattle.mt_propagate.specs.World.{WorldView, state_of}
 use Rattle.mt_propagate.specs.WellFormed.{IsWellFormed}
 use Rattle.mt_world.specs.declared.misfit.Misfit.{Misfit}
 use Rattle.mt_world.specs.declared.row.TableRow.{TableRow}
 use Rattle.mt_world.specs.Hidden.{HasMoreHidden}
-use Rattle.mt_world.specs.Kept.{keeps_row, IsKeptRow, AreKept, AreGrown}
-use Rattle.mt_world.specs.Leaves.{IsSound, HasMore, IsGrown}
-use Rattle.mt_world.specs.Made.{HasNoMounts, IsMade}
+use Rattle.mt_world.specs.Kept.{keeps_row, IsKeptRow, AreGrown}
+use Rattle.mt_world.specs.Leaves.{IsSound, IsGrown}
+use Rattle.mt_world.specs.Made.{IsMade}
 use Rattle.mt_world.specs.States.{AreThere, ArePrivate, AreJoined, IsSameButStates}
 use Rattle.mt_world.specs.Told.{IsMounted}
 use Rattle.mt_world.specs.Plain.{IsPlain, HasRoom}
@@ -45,7 +44,7 @@ module _ (w v : WorldView) (rows : List TableRow) (left : List (Option Misfit)) 
   pub are_private : ArePrivate v rows left
   are_private k r e f = let t = g.kept.told k r e f in b.states r.id t.mount t.there ∙ g.kept.private r.id
 
-  module _ (u : WorldView) (lone : List (Option Misfit)) (sound : IsSound v) (well : IsWellFormed u) (same : IsSameButStates v u) (j : AreJoined u rows left lone) where
+  module _ (u : WorldView) (lone : List (Option Misfit)) (sound : IsSound v) (well : IsWellFormed u) (same : IsSameButStates v u) (j : AreJoined u rows left lone) (few : (v.next_mount ≤ 2 ^ 62) × (v.next_space ≡ w.next_space + 1)) where
     told_on : (k : ℕ) (r : TableRow) → slice_get rows k ≡ Some r → keeps_row left k → IsMounted u rows r
     told_on k r e f =
         still_told v u sound.well_formed well (same_grown v u same) rows r (still_told w v g.kept.sound.well_formed sound.well_formed b.grown rows r (g.kept.told k r e f))
@@ -65,6 +64,7 @@ module _ (w v : WorldView) (rows : List TableRow) (left : List (Option Misfit)) 
     pub is_made : IsMade u rows left lone
     is_made = record {
       sound = record { well_formed = well; skel = subst IsSkeleton (ap (λ x. x.skel) (sym same)) sound.skel };
+      few = (omega (arith, few.0, ap (λ x. x.next_mount) same), omega (arith, few.1, g.kept.few.1, ap (λ x. x.next_space) same));
       sized = (g.kept.sized, j.sized);
       told = told_on;
       joined = j.joined;

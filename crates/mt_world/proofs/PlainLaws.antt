@@ -1,13 +1,13 @@
 -- Of plain tables every row is kept, if there is room.
-use Rattle.std.proofs.Common.{◌≡◌, ◌≢◌, ◌⊎◌, ℕ, zero, suc, ◌+◌, ◌<◌, ◌≤◌, Bool, true, false, eqb, eq-eqb, List, [], ◌∷◌, ◌++◌, ◌-◌, length, length-append, drop, take, slice_get, Option, Some, None, refl, sym, ap, subst, ◌∙◌, inl, inr, arith, if◌then◌else◌}
-use Rattle.std.specs.Prelude.{IsTrue, is_some, is_none, not}
+use Rattle.std.proofs.Common.{◌≡◌, ℕ, zero, suc, ◌+◌, ◌<◌, ◌≤◌, Bool, true, false, eqb, eq-eqb, List, [], ◌∷◌, ◌++◌, ◌-◌, length, length-append, slice_get, Option, Some, None, refl, sym, ap, subst, ◌∙◌, inl, inr, arith, if◌then◌else◌}
+use Rattle.std.specs.Prelude.{is_some, is_none}
 use Rattle.std.specs.Option.{option_map_or}
 use Rattle.std.proofs.lemmas.Bool.{true≢false}
 use Rattle.std.proofs.lemmas.Bool.Decides.{nat_tests}
 use Rattle.std.specs.Str.{bytes_eq}
 use Rattle.std.proofs.lemmas.Option.{same_Some, slice_get_within, slice_get-get_or}
 use Rattle.std.proofs.lemmas.Slice.Eq.{bytes_eq-Decides}
-use Rattle.mt_skel.specs.Skeleton.{Skeleton, Directory, Filesystem, IsSkeleton, directory, filesystem, holds, fs_named, filesystem_limit, directory_limit, depth_limit}
+use Rattle.mt_skel.specs.Skeleton.{Skeleton, Directory, Filesystem, IsSkeleton, directory, filesystem, holds, fs_named, directory_limit, depth_limit}
 use Rattle.mt_skel.proofs.SkeletonLaws.{holds-Decides, at_directory, directory_at, place_found}
 use Rattle.mt_mounts.specs.declared.mount.Mount.{Mount}
 use Rattle.mt_mounts.specs.declared.mount.Place.{Place}
@@ -18,15 +18,14 @@ use Rattle.mt_propagate.specs.World.{WorldView}
 use Rattle.mt_propagate.specs.Limits.{too_many_mounts, too_many_spaces, mount_limit, space_limit}
 use Rattle.mt_propagate.proofs.WalkLaws.{stands_at, root_here}
 use Rattle.mt_world.specs.declared.misfit.Misfit.{Misfit}
-use Rattle.mt_world.specs.declared.misfit.Misfit.TheVariants.{SameId, NoParent, Elsewhere, SamePlace, SecondRoot, NoRoom}
+use Rattle.mt_world.specs.declared.misfit.Misfit.TheVariants.{SameId, SamePlace, SecondRoot, NoRoom}
 use Rattle.mt_world.specs.declared.row.TableRow.{TableRow}
-use Rattle.mt_world.specs.Fitting.{why_unfit, why_unplaced, why_unplaced_on, why_second_root}
-use Rattle.mt_world.specs.Kept.{keeps_row, waits_for_parent, IsKeptRow, StandsRightly, IsParentless, WasWhy, AreKept, AreGrown}
-use Rattle.mt_world.specs.Leaves.{IsSound, IsGrown}
-use Rattle.mt_world.specs.Places.{names_below, place_path, IsOn, IsPlaceOn, IsMountOf, IsWhyNone, IsWhyUnplaced, IsWhyUnmade, IsWhyNotPut}
+use Rattle.mt_world.specs.Fitting.{why_unfit, why_unplaced, why_second_root}
+use Rattle.mt_world.specs.Kept.{keeps_row, StandsRightly, WasWhy, AreGrown}
+use Rattle.mt_world.specs.Places.{names_below, place_path, IsPlaceOn, IsMountOf, IsWhyNone, IsWhyUnplaced, IsWhyNotPut}
 use Rattle.mt_world.specs.Plain.{HasParent, IsPlain, HasRoom}
-use Rattle.mt_world.specs.Rows.{is_numbered, is_root_of_table}
-use Rattle.mt_world.specs.Told.{Shows, IsMounted}
+use Rattle.mt_world.specs.Rows.{is_root_of_table}
+use Rattle.mt_world.specs.Told.{Shows}
 use Rattle.mt_world.proofs.ToldLaws.{place_point, still_point}
 
 -- a list that has nothing at a place is no longer

@@ -1,17 +1,13 @@
 -- A well-formed world stays so where numbers are left out.
-use Rattle.std.proofs.Common.{◌≡◌, ℕ, ◌+◌, ◌<◌, ◌≤◌, List, [], ◌∷◌, ◌++◌, length, slice_get, Some, None, refl, sym, ap, subst, ◌∙◌, inl, inr, arith}
-use Rattle.std.specs.Prelude.{◌^◌, max}
+use Rattle.std.proofs.Common.{◌≡◌, ℕ, ◌≤◌, [], ◌∷◌, ◌++◌, refl, sym, ap, subst, ◌∙◌, inl, arith}
+use Rattle.std.specs.Prelude.{◌^◌}
 use Rattle.std.proofs.lemmas.Option.{slice_get_within}
 use Rattle.mt_skel.specs.Skeleton.{Skeleton, IsSkeleton, empty_skeleton}
-use Rattle.mt_mounts.specs.declared.mount.Mount.{Mount}
-use Rattle.mt_mounts.specs.Forest.{mount_at}
-use Rattle.mt_peers.specs.Peers.{Peer, Peering}
-use Rattle.mt_propagate.specs.World.{WorldView, empty_world, state_of, private}
+use Rattle.mt_propagate.specs.World.{WorldView, empty_world}
 use Rattle.mt_propagate.specs.WellFormed.{IsWellFormed}
 use Rattle.mt_propagate.proofs.GrownLaws.{grown-kept}
 use Rattle.mt_info.specs.Laws.{Grows}
 use Rattle.mt_world.specs.Hidden.{HasMoreHidden}
-use Rattle.mt_world.specs.Leaves.{IsSound, HasMore, IsGrown}
 use Rattle.mt_world.specs.Made.{HasNoMounts}
 use Rattle.mt_world.proofs.DirectoryLaws.{more_same}
 

@@ -1,24 +1,23 @@
 -- A well-formed world stays so where a private mount gets a state that it may have.
-use Rattle.std.proofs.Common.{◌≡◌, ◌≢◌, ◌⊎◌, ℕ, ◌+◌, ◌<◌, ◌≤◌, Bool, true, false, cond, eqb, List, [], ◌∷◌, map, length, Option, Some, None, refl, sym, ap, subst, ◌∙◌, inl, inr, arith}
-use Rattle.std.specs.Prelude.{IsTrue, unwrap_or}
-use Rattle.std.specs.List.{list_any}
-use Rattle.std.specs.Option.{option_map, is_some}
+use Rattle.std.proofs.Common.{◌≡◌, ◌≢◌, ◌⊎◌, ℕ, ◌+◌, ◌<◌, ◌≤◌, true, false, cond, List, [], ◌∷◌, map, length, Some, None, refl, sym, ap, subst, ◌∙◌, inl, inr, arith}
+use Rattle.std.specs.Prelude.{unwrap_or}
+use Rattle.std.specs.Option.{is_some}
 use Rattle.std.proofs.lemmas.Bool.{cases_eq, true≢false}
 use Rattle.std.proofs.lemmas.List.{length-map}
 use Rattle.std.proofs.lemmas.Option.{same_Some}
 use Rattle.mt_skel.specs.Chain.{ends}
 use Rattle.mt_skel.proofs.ChainLaws.{ends-within}
-use Rattle.mt_skel.specs.Keyed.{row_at, rises}
+use Rattle.mt_skel.specs.Keyed.{rises}
 use Rattle.mt_mounts.specs.declared.mount.Mount.{Mount}
-use Rattle.mt_mounts.specs.Forest.{id_of, mount_at}
+use Rattle.mt_mounts.specs.Forest.{mount_at}
 use Rattle.mt_peers.specs.declared.state.State.{State}
-use Rattle.mt_peers.specs.Peers.{Peer, Peering, mount_of, state_at, in_group, has_member, with_state}
+use Rattle.mt_peers.specs.Peers.{Peer, Peering, mount_of, state_at, has_member, with_state}
 use Rattle.mt_peers.specs.Masters.{master_of}
 use Rattle.mt_peers.specs.WellFormed.{IsPeering}
 use Rattle.mt_peers.proofs.EntryLaws.{rises-given, given_state, other_state}
 use Rattle.mt_peers.proofs.LeavingLaws.{up_rank, up_falls}
 use Rattle.mt_peers.proofs.MemberLaws.{master_of-from, master_of-is, group_number, known, length-chain-le, member-there, living}
-use Rattle.mt_propagate.specs.World.{WorldView, private, state_of, group_of}
+use Rattle.mt_propagate.specs.World.{WorldView, private, state_of}
 use Rattle.mt_propagate.specs.WellFormed.{IsWellFormed, fs_at}
 use Rattle.mt_propagate.proofs.ShownLaws.{mount-state, grouped-state, slave-state, state-group}
 use Rattle.mt_world.specs.States.{HasMember, MayHave, with_joined}

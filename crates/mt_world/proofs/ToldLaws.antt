@@ -1,22 +1,19 @@
 -- What a world tells of a row stays so where others are added, and is so of the one that is added.
-use Rattle.std.proofs.Common.{◌≡◌, ℕ, ◌+◌, ◌-◌, ◌<◌, Bool, true, false, cond, List, [], ◌∷◌, ◌++◌, length, take, drop, slice_get, get_or, Option, Some, None, if◌then◌else◌, refl, sym, ap, subst, ◌∙◌, arith, append-nil}
-use Rattle.std.specs.Prelude.{IsTrue, is_none, is_some}
-use Rattle.std.specs.List.{flat_map}
-use Rattle.std.specs.Option.{ForSome, option_map, option_map_or, unwrap_or}
+use Rattle.std.proofs.Common.{◌≡◌, ℕ, ◌-◌, Bool, true, false, List, [], ◌++◌, length, take, drop, get_or, Option, Some, None, if◌then◌else◌, refl, sym, ap, ◌∙◌, arith}
+use Rattle.std.specs.Prelude.{is_none}
 use Rattle.std.specs.Str.{bytes_eq}
 use Rattle.std.proofs.Math.Seq.{drop-append_seam}
 use Rattle.std.proofs.lemmas.List.{take-append-drop}
-use Rattle.std.proofs.lemmas.Option.{slice_get_within, same_Some, get_or_from_slice_get}
+use Rattle.std.proofs.lemmas.Option.{same_Some, get_or_from_slice_get}
 use Rattle.std.proofs.lemmas.Slice.Eq.{bytes_eq-Decides}
 use Rattle.mt_skel.proofs.MiddleLaws.{and_first}
 use Rattle.mt_mounts.proofs.SlotLaws.{mapped}
-use Rattle.mt_skel.specs.Skeleton.{Skeleton, Directory, Filesystem, directory, filesystem, fs_named, path_eq, path_below}
+use Rattle.mt_skel.specs.Skeleton.{Skeleton, Directory, Filesystem, directory, filesystem, fs_named, path_eq}
 use Rattle.mt_skel.proofs.HoldLaws.{directory_grown}
 use Rattle.mt_skel.proofs.SkeletonLaws.{at_directory, place_found, path_eq-Decides, directory_within}
 use Rattle.mt_mounts.specs.declared.mount.Mount.{Mount}
 use Rattle.mt_mounts.specs.declared.mount.Place.{Place}
 use Rattle.mt_mounts.specs.Forest.{mount_at, parent}
-use Rattle.mt_mounts.proofs.KeptLaws.{mount_fits}
 use Rattle.mt_propagate.specs.World.{WorldView}
 use Rattle.mt_propagate.specs.WellFormed.{IsWellFormed}
 use Rattle.mt_propagate.proofs.TreeLaws.{parent-from, parent-is}
@@ -24,8 +21,8 @@ use Rattle.mt_info.specs.Table.{mount_point, own_names}
 use Rattle.mt_info.proofs.TableLaws.{own_names_at, place_there}
 use Rattle.mt_info.proofs.PointLaws.{from_end, below_parent, point_of_root}
 use Rattle.mt_world.specs.declared.row.TableRow.{TableRow}
-use Rattle.mt_world.specs.Leaves.{HasMore, IsGrown}
-use Rattle.mt_world.specs.Places.{names_below, place_path, IsOn, IsPlaceOn, IsMountOf, StandsOn}
+use Rattle.mt_world.specs.Leaves.{IsGrown}
+use Rattle.mt_world.specs.Places.{names_below, IsOn, IsPlaceOn, IsMountOf}
 use Rattle.mt_world.specs.Rows.{is_root_of_table}
 use Rattle.mt_world.specs.Told.{Shows, IsMounted}
 

@@ -1,6 +1,6 @@
 -- A world with one mount more.
 -- A word with no source is this project's rule.
-use Rattle.std.specs.Prelude.{◌≡◌, ℕ, ◌<◌, ◌≤◌, ◌^◌, List, ◌++◌, length, Some, None}
+use Rattle.std.specs.Prelude.{◌≡◌, ℕ, ◌<◌, ◌≤◌, List, ◌++◌, length, Some}
 use Rattle.mt_skel.specs.Keyed.{put}
 use Rattle.mt_skel.specs.Skeleton.{Skeleton, Directory, IsSkeleton}
 use Rattle.mt_mounts.specs.declared.mount.Mount.{Mount}

@@ -1,6 +1,6 @@
 -- The world of tables.
 -- A word with no source is this project's rule.
-use Rattle.std.specs.Prelude.{◌≡◌, ◌≢◌, ◌⊎◌, ℕ, ◌≤◌, ◌^◌, List, [], length, slice_get, Option, Some, None}
+use Rattle.std.specs.Prelude.{◌≡◌, ◌≢◌, ◌⊎◌, ℕ, ◌<◌, ◌≤◌, ◌^◌, List, [], length, slice_get, Option, Some, None}
 use Rattle.mt_mounts.specs.declared.mount.Mount.{Mount}
 use Rattle.mt_mounts.specs.Forest.{mount_at}
 use Rattle.mt_propagate.specs.World.{WorldView, private, state_of}
@@ -23,6 +23,8 @@ pub record HasNoMounts (w : WorldView) : Type 0 where
 -- namespace that no row is of
 pub record IsMade (w : WorldView) (rows : List TableRow) (left lone : List (Option Misfit)) : Type 0 where
   pub sound : IsSound w
+  -- its next numbers leave room for those of commands
+  pub few : (w.next_mount < 2 ^ 63) × (w.next_space < 2 ^ 63)
   pub sized : (length left ≡ length rows) × (length lone ≡ length rows)
   pub told : (k : ℕ) (r : TableRow) → slice_get rows k ≡ Some r → keeps_row left k → IsMounted w rows r
   pub joined : (k : ℕ) (r : TableRow) → slice_get rows k ≡ Some r → keeps_row left k → slice_get lone k ≡ Some None → state_of w r.id ≡ r.state

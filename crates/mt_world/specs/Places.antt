@@ -2,7 +2,7 @@
 -- A word with no source is this project's rule.
 use Rattle.std.specs.Prelude.{◌≡◌, ◌⊎◌, ℕ, false, ◌<◌, ◌≤◌, IsTrue, if◌then◌else◌, List, ◌++◌, length, take, drop, slice_get, Option, Some, None}
 use Rattle.std.specs.Option.{option_map}
-use Rattle.mt_skel.specs.Skeleton.{Skeleton, Directory, path_eq, fs_named, directory_limit, depth_limit}
+use Rattle.mt_skel.specs.Skeleton.{Skeleton, path_eq, fs_named, directory_limit, depth_limit}
 use Rattle.mt_mounts.specs.declared.mount.Mount.{Mount}
 use Rattle.mt_mounts.specs.declared.mount.Place.{Place}
 use Rattle.mt_propagate.specs.World.{WorldView}

@@ -1,6 +1,6 @@
 -- What a world tells of the mounts of rows.
 -- A word with no source is this project's rule.
-use Rattle.std.specs.Prelude.{◌≡◌, Bool, List, Some, is_none}
+use Rattle.std.specs.Prelude.{◌≡◌, List, Some, is_none}
 use Rattle.std.specs.Option.{ForSome}
 use Rattle.mt_skel.specs.Skeleton.{directory, filesystem}
 use Rattle.mt_mounts.specs.declared.mount.Mount.{Mount}

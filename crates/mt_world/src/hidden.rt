@@ -1,5 +1,5 @@
 //! A mount for each master that no row is in, in a hidden namespace.
-ghost use Rattle.std.specs.Prelude.{◌≤◌, ◌<◌, ◌^◌, IfOk, IfSome, IsOkUnless, IsTrue};
+ghost use Rattle.std.specs.Prelude.{◌≡◌, ◌+◌, ◌≤◌, ◌<◌, ◌^◌, IfOk, IfSome, OnOk, IsOkUnless, IsTrue};
 ghost use Rattle.mt_skel.specs.Skeleton.{is_directory};
 ghost use Rattle.mt_propagate.specs.World.{world_view};
 ghost use Rattle.mt_world.specs.Hidden.{HasMoreHidden, IsHidden};
@@ -45,6 +45,7 @@ fn add_mount(
     ensures sound { IsSound (world_view world.new) }
     ensures beside { HasMoreHidden space (world_view world.old) (world_view world.new) }
     ensures numbers { world.new.next_mount ≤ 2 ^ 62 }
+    ensures spaces { OnOk result (world.new.next_space ≡ world.old.next_space) }
     ensures mount { IfOk result (λ made. IfSome made (λ mount. IsHidden (world_view world.old) (world_view world.new) mount)) }
     ensures memory { IsOkUnless result Fault.NoMemory }
 {
@@ -91,6 +92,7 @@ fn hide(
     ensures sound { IsSound (world_view world.new) }
     ensures beside { HasMoreHidden space (world_view world.old) (world_view world.new) }
     ensures numbers { world.new.next_mount ≤ 2 ^ 62 }
+    ensures spaces { OnOk result (world.new.next_space ≡ world.old.next_space) }
     ensures memory { IsOkUnless result Fault.NoMemory }
 {
     let Some(root) = root_of(world, slave) else {
@@ -132,6 +134,7 @@ fn hide_master(
     ensures sound { IsSound (world_view world.new) }
     ensures beside { HasMoreHidden space (world_view world.old) (world_view world.new) }
     ensures numbers { world.new.next_mount ≤ 2 ^ 62 }
+    ensures spaces { OnOk result (world.new.next_space ≡ world.old.next_space) }
     ensures memory { IsOkUnless result Fault.NoMemory }
 {
     let Some(master) = unseen_master(row, groups) else {
@@ -140,7 +143,8 @@ fn hide_master(
     if world.peers.first_member(master).is_some() {
         return Ok(place);
     }
-    hide(world, space, place, master, row.id)
+    let next = hide(world, space, place, master, row.id)?;
+    Ok(next)
 }
 
 /// The rows that are kept.
@@ -174,6 +178,7 @@ pub(crate) fn hide_masters(
     ensures sound { IsSound (world_view world.new) }
     ensures beside { HasMoreHidden world.old.next_space (world_view world.old) (world_view world.new) }
     ensures numbers { world.new.next_mount ≤ 2 ^ 62 }
+    ensures spaces { OnOk result (world.new.next_space ≡ world.old.next_space + 1) }
     ensures memory { IsOkUnless result Fault.NoMemory }
 {
     let kept = kept_rows(alloc, rows, left)?;

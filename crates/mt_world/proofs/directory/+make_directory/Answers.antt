@@ -1,7 +1,5 @@
-use Rattle.std.proofs.Common.{◌≡◌, ◌∙◌, ◌++◌, ◌∷◌, [], ℕ, List, Some, slice_get, ap, sym, subst, length}
+use Rattle.std.proofs.Common.{◌∙◌, ℕ, List, Some, slice_get, ap, sym, subst}
 use Rattle.std.proofs.lemmas.List.{nil_from_length}
-use Rattle.mt_skel.specs.Skeleton.{IsSkeleton, Directory}
-use Rattle.mt_world.specs.Leaves.{HasMore}
 use Rattle.mt_world.specs.Places.{IsFull}
 use Rattle.mt_world.proofs.DirectoryLaws.{IsBeneath, IsMade, child_there, dir_made, dir_refused, more_on, root_at, still_named}
 use Rattle.mt_world.proofs.directory.+make_directory.Goals.{In-Some-2, In-Ok}

@@ -1,8 +1,8 @@
-use Rattle.std.proofs.Common.{◌≡◌, ◌∙◌, ◌++◌, ◌∷◌, [], ap, sym, subst, take, slice_get, Some, inl, inr, arith}
+use Rattle.std.proofs.Common.{◌∙◌, ap, sym, subst, take, slice_get, inl, inr}
 use Rattle.std.proofs.lemmas.List.{take_all}
 use Rattle.mt_skel.proofs.ListLaws.{pushed, take_next}
 use Rattle.mt_world.specs.declared.row.TableRow.{TableRow}
-use Rattle.mt_world.specs.Kept.{IsNamed, HaveFilesystems}
+use Rattle.mt_world.specs.Kept.{IsNamed}
 use Rattle.mt_world.proofs.DirectoryLaws.{grows_same, grows_on, filed_more}
 use Rattle.mt_world.proofs.directory.add_filesystems.Goals as goal
 

@@ -21,3 +21,6 @@ returns-clause-mount c =
     let m : Mount = record { id = w.next_mount; space = c.args.space; place = c.args.place; root = c.args.root; attrs = c.new.result } in
     let fit : why_unfit w m ≡ None = none_there _ (ap is_some (sym c.why_unfit.ensures) ∙ sym c.is_some.ensures ∙ c.if-is_some.false) in
     subst (λ (v : WorldView). IsHidden w v m) (sym c.in_ok-add_leaf.ensures.done) (hidden_there w m c.requires.sound refl fit)
+
+pub returns-clause-spaces : goal.returns-clause-spaces
+returns-clause-spaces c = ap (λ (v : WorldView). v.next_space) c.in_ok-add_leaf.ensures.done

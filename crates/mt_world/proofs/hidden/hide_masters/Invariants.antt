@@ -1,4 +1,4 @@
-use Rattle.std.proofs.Common.{◌<◌, ◌≤◌, ◌^◌}
+use Rattle.std.proofs.Common.{◌≡◌, ◌+◌, ◌≤◌, ◌^◌}
 use Rattle.mt_propagate.specs.World.{world_view}
 use Rattle.mt_world.specs.Hidden.{HasMoreHidden}
 use Rattle.mt_world.specs.Leaves.{IsSound}
@@ -9,5 +9,5 @@ invariant-rows l = record {
   sound : IsSound (world_view l.world);
   beside : HasMoreHidden l.space (world_view l.fn.world) (world_view l.world);
   numbers : l.world.next_mount ≤ 2 ^ 62;
-  space : l.space < l.world.next_space;
+  space : l.world.next_space ≡ l.space + 1;
 }

@@ -1,4 +1,4 @@
-use Rattle.std.proofs.Common.{◌≡◌, ◌∙◌, Some, sym, subst, arith}
+use Rattle.std.proofs.Common.{Some}
 use Rattle.std.proofs.lemmas.Option.{slice_get_within}
 use Rattle.mt_propagate.specs.World.{world_view}
 use Rattle.mt_world.specs.declared.misfit.Misfit.TheVariants.{NoMaster}

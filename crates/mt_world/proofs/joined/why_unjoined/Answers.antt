@@ -1,7 +1,7 @@
-use Rattle.std.proofs.Common.{◌≡◌, ◌⊎◌, ℕ, ◌<◌, false, Some, sym, subst, ap, ◌∙◌, arith}
+use Rattle.std.proofs.Common.{◌≡◌, ◌⊎◌, ℕ, ◌<◌, false, Some, subst}
 use Rattle.mt_peers.specs.Peers.{has_member}
 use Rattle.mt_propagate.specs.World.{world_view}
-use Rattle.mt_world.specs.States.{HasMember, MayHave}
+use Rattle.mt_world.specs.States.{HasMember}
 use Rattle.mt_world.proofs.joined.why_unjoined.Goals as goal
 
 pub returns : goal.returns

@@ -1,4 +1,4 @@
-use Rattle.std.proofs.Common.{◌≡◌, ◌∙◌, map, ap}
+use Rattle.std.proofs.Common.{◌∙◌, map, ap}
 use Rattle.mt_world.specs.declared.order.Turn.{Turn}
 use Rattle.mt_world.proofs.OrderLaws.{ordered}
 use Rattle.mt_world.proofs.order.order_of.Goals as goal

@@ -1,4 +1,4 @@
-use Rattle.std.proofs.Common.{◌≡◌, ◌∙◌, map, ap, sym, refl}
+use Rattle.std.proofs.Common.{◌∙◌, map, ap, refl}
 use Rattle.mt_world.specs.declared.order.Turn.{Turn}
 use Rattle.mt_world.proofs.OrderLaws.{turn_more}
 use Rattle.mt_world.proofs.order.turns_of.Goals as goal

@@ -1,11 +1,10 @@
-use Rattle.std.proofs.Common.{◌≡◌, ◌∙◌, None, sym, subst, inl, inr}
+use Rattle.std.proofs.Common.{◌≡◌, ◌∙◌, None, sym, subst, inr}
 use Rattle.std.specs.Option.{option_copied}
 use Rattle.mt_skel.specs.Skeleton.{IsSkeleton}
 use Rattle.mt_propagate.specs.World.{world_view}
 use Rattle.mt_world.specs.Fitting.{why_unfit}
-use Rattle.mt_world.specs.Leaves.{IsSound, IsGrown, HasSameNumbers}
-use Rattle.mt_world.specs.Places.{IsMountOf, HasSameMounts}
-use Rattle.mt_world.proofs.PutLaws.{with_skel, sound_grown, skel_grown, skel_numbers, skel_mounts, given_of, put_grown, put_numbers, put_skel, put_made}
+use Rattle.mt_world.specs.Places.{IsMountOf}
+use Rattle.mt_world.proofs.PutLaws.{with_skel, sound_grown, given_of, put_grown, put_numbers, put_skel, put_made}
 use Rattle.mt_world.proofs.put.put_row.Goals.{In-Ok, In_default}
 use Rattle.mt_world.proofs.put.put_row.Goals as goal
 

@@ -1,12 +1,11 @@
-use Rattle.std.proofs.Common.{◌≡◌, ◌≢◌, ◌∙◌, ℕ, nat_eq, Some, None, refl, ap, sym, subst, inl, inr, arith}
+use Rattle.std.proofs.Common.{◌≡◌, ◌∙◌, nat_eq, Some, None, sym, subst, inl, inr, arith}
 use Rattle.std.specs.Option.{option_copied}
 use Rattle.std.proofs.lemmas.Bool.{cases_eq}
 use Rattle.std.proofs.lemmas.Option.{slice_get_within}
 use Rattle.indexmap.specs.IndexMap.{get}
 use Rattle.mt_propagate.specs.World.{world_view}
-use Rattle.mt_world.specs.declared.misfit.Misfit.{Misfit}
 use Rattle.mt_world.specs.declared.misfit.Misfit.TheVariants.{NoParent}
-use Rattle.mt_world.specs.Kept.{IsSetAt, AreKept, waits_for_parent}
+use Rattle.mt_world.specs.Kept.{AreKept, waits_for_parent}
 use Rattle.mt_world.specs.Places.{IsWhyNotPut, HasSameMounts}
 use Rattle.mt_world.proofs.KeptLaws.{kept_put, kept_left, left_why}
 use Rattle.mt_world.proofs.grown.Kept.put_on.Goals.{In-Some}
