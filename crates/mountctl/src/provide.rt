@@ -125,10 +125,10 @@ fn provide_directory<R: Input + Drop, W: Output>(
     requires fresh { fault_of lines.old ≡ None }
     ensures fresh { OnOk result (fault_of lines.new ≡ None) }
 {
-    let Some(found) = answer_to(alloc, &[Verb::Find.word(), space, above], lines, writer)? else {
+    let Some(found) = answer_to(alloc, &[b"find", space, above], lines, writer)? else {
         return Ok(());
     };
-    let Some(table) = answer_to(alloc, &[Verb::Show.word(), space], lines, writer)? else {
+    let Some(table) = answer_to(alloc, &[b"show", space], lines, writer)? else {
         return Ok(());
     };
     let Some((mount, directory)) = place_in(found.text()) else {
@@ -162,14 +162,7 @@ fn provide_next<R: Input + Drop, W: Output>(
     above.extend_from_slice(path.as_slice())?;
     path.extend_from_slice(b"/")?;
     path.extend_from_slice(name)?;
-    if answer_to(
-        alloc,
-        &[Verb::Find.word(), space, path.as_slice()],
-        lines,
-        writer,
-    )?
-    .is_some()
-    {
+    if answer_to(alloc, &[b"find", space, path.as_slice()], lines, writer)?.is_some() {
         return Ok(());
     }
     if above.is_empty() {
@@ -218,12 +211,7 @@ pub(crate) fn provide<R: Input + Drop, W: Output>(
     match (Verb::of(verb.as_bytes()), behind) {
         (Some(Verb::Mount), [space, filesystem, path]) => {
             let name = filesystem.as_bytes();
-            let _made = answer_to(
-                alloc,
-                &[Verb::Mkfs.word(), name, name, b"none"],
-                lines,
-                writer,
-            )?;
+            let _made = answer_to(alloc, &[b"mkfs", name, name, b"none"], lines, writer)?;
             provide_path(
                 alloc,
                 script,
