@@ -1,5 +1,5 @@
 -- In the end the watcher of a session in a thread of its own is left, so that what it has taken is in order.
-use Rattle.std.proofs.Common.{◌≡◌, List, ◌∷◌, [], ◌++◌, Option, Some, None, subst, ap, sym, ◌∙◌, append_assoc}
+use Rattle.std.proofs.Common.{◌≡◌, List, ◌∷◌, [], ◌++◌, Option, Some, None, subst, ap, ◌∙◌, append_assoc}
 use mathlib.Core.List.{IsPrefix}
 use Rattle.mt_events.specs.Posts.{PostView}
 use Rattle.mt_history.specs.declared.act.LogEntry.{LogEntry}

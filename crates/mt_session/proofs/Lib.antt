@@ -6,6 +6,7 @@ pub mod SharedLaws
 pub mod WatcherLaws
 pub mod HistoryLaws
 pub mod LeftLaws
+pub mod SharedFollowLaws
 pub mod SharedLineLaws
 pub mod GivingLaws
 pub mod FollowLaws

@@ -20,10 +20,9 @@ use Rattle.mt_desk.specs.Held.{HeldView, IsLogged}
 use Rattle.mt_session.specs.SharedServing.{HasMet, HasPortion, IsPortion, IsKeptOrLeft}
 use Rattle.mt_requests.specs.declared.request.Request.{Request}
 use Rattle.mt_requests.specs.declared.request.Request.TheVariants.{Run, Show, Find, Take, Follow, Close}
-use Rattle.mt_session.specs.SharedSession.{new_session, IsAnsweredAt, IsNotDoneAt, HasLeft, WasLeft, IsSpent, IsTaken, IsFollowed, IsAnswered, IsTurn, SharedTurn, AreTurns}
+use Rattle.mt_session.specs.SharedSession.{IsAnsweredAt, IsNotDoneAt, HasLeft, WasLeft, IsSpent, IsTaken, IsFollowed, IsAnswered, IsTurn, SharedTurn, AreTurns}
 use Rattle.mt_skel.specs.declared.fault.Fault.{Fault}
 use Rattle.mt_floor.specs.declared.watch.Phase.{Phase}
-use Rattle.mt_session.specs.Session.{request_of_line}
 
 -- ---- What it has taken
 

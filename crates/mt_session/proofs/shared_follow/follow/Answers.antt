@@ -1,5 +1,5 @@
 use Rattle.std.proofs.Common.{arith}
-use Rattle.mt_session.proofs.SharedLineLaws.{follow_posts, follow_none, follow_refused}
+use Rattle.mt_session.proofs.SharedFollowLaws.{follow_posts, follow_none, follow_refused}
 use Rattle.mt_session.proofs.shared_follow.follow.Goals as goal
 
 pub returns-in-Ok-Posts : goal.returns-in-Ok-Posts
