@@ -21,6 +21,7 @@ from servers.starts import (
     LONG,
     NO_SOCKET,
     STARTS,
+    UNSERVED,
     connected,
     ended,
     held,
@@ -160,7 +161,7 @@ def check_stale(program):
         server.process.kill()
         server.process.wait(STOP)
         check("a killed server leaves its socket", stat.S_ISSOCK(os.lstat(server.path).st_mode))
-        check_stays("a start that replaces nothing", program, server.path, IN_USE, starts=[()])
+        check_stays("a start that replaces nothing", program, server.path, UNSERVED, starts=[()])
         with Server(program, "--replace", path=server.path) as again:
             mode = mode_of(server.path)
             check("who may connect in the place of a killed server", mode == OWN, oct(mode))

@@ -11,6 +11,7 @@ from harness.servers import STOP, Client
 # Why a start may not have its path.
 ABSENT, DENIED, EMPTY = "no such file or directory", "permission denied", "path is empty"
 IN_USE, LONG, NO_SOCKET = "address in use", "path too long", "is no socket"
+UNSERVED = "nobody listens there; --replace takes it"
 NO_FILE, FOREIGN = "is no plain file", "is another user's"
 
 # Ways to start a server.

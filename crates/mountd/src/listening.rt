@@ -59,6 +59,8 @@ pub(crate) enum ListenFault {
     Lock(LockFault),
     /// The process may have fewer descriptors than a server needs to serve one client.
     FewDescriptors,
+    /// At its path is a socket at which nobody listens, and which it was not to replace.
+    Unserved,
 }
 
 /// What a failed call says of the socket of a path.
@@ -70,6 +72,20 @@ fn fault_at<R: Files>(rt: &R, path: &str, error: &io::Error) -> ListenFault {
 /// What is said of a path where another server is, or something else.
 fn taken<R: Files>(rt: &R, path: &str) -> ListenFault {
     fault_at(rt, path, &io::Error::from(ErrorKind::AddrInUse))
+}
+
+/// Whether a path is that of a socket at which nobody listens.
+fn is_unserved<R: Files + Net>(rt: &R, path: &str) -> bool {
+    socket_at(rt, path).is_some() && is_refused(rt, path)
+}
+
+/// What is said of a path, whose lock is held, where a socket cannot be made.
+fn unbound<R: Files + Net>(rt: &R, path: &str, replaces: bool, error: &io::Error) -> ListenFault {
+    if !replaces && is_unserved(rt, path) {
+        ListenFault::Unserved
+    } else {
+        fault_at(rt, path, error)
+    }
 }
 
 /// What is said if there is no lock. If its folder is not there, or the path is that of another file, no socket could
@@ -104,8 +120,7 @@ fn address_of(path: &str) -> io::Result<SocketAddr> {
 /// Whether a path, whose lock another server holds, is that of a server that is beginning or ending: nothing is there,
 /// or a socket at which nobody listens, if that may be replaced.
 fn may_come_free<R: Files + Net>(rt: &R, path: &str, replaces: bool) -> bool {
-    let is_silent = replaces && is_refused(rt, path) && socket_at(rt, path).is_some();
-    is_silent || is_free(rt, path)
+    (replaces && is_unserved(rt, path)) || is_free(rt, path)
 }
 
 /// Takes the lock of a path. If a server that is beginning or ending holds it, this waits for 15 seconds at most.
@@ -212,7 +227,7 @@ impl<'a> Listening<'a> {
                 lock,
             }),
             Err(error) => {
-                let fault = fault_at(rt, path, &error);
+                let fault = unbound(rt, path, replaces, &error);
                 lock.remove(rt);
                 Err(fault)
             }

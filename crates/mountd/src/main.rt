@@ -147,6 +147,12 @@ fn tell_fault(rt: &HostRuntime, paths: &Paths, fault: ListenFault) -> ExitCode {
             fault,
         ),
         ListenFault::Lock(fault) => PROGRAM.fail_at(rt, NOT_LISTENING, paths.lock.as_str(), fault),
+        ListenFault::Unserved => PROGRAM.fail_at(
+            rt,
+            NOT_LISTENING,
+            paths.socket.as_str(),
+            "nobody listens there; --replace takes it",
+        ),
         ListenFault::FewDescriptors => PROGRAM.fail(rt, "cannot listen: too few descriptors"),
     }
 }
