@@ -15,8 +15,9 @@ import os
 import random
 import re
 
+from harness import refusals
 from harness.commands import FORMS
-from harness.protocol import ESCAPE, FAULTS, FAULTS_OF_FORM, LINE, refusal_of, unescaped
+from harness.protocol import ESCAPE, LINE, refusal_of, unescaped
 from harness.runs import answer_groups, check, failures, run, shown
 from harness.servers import START
 
@@ -100,7 +101,7 @@ def fault_of(line):
         return "BadLine"
     faults = {WORD_FAULTS[kind](word) for kind, word in zip(fixed, words)}
     faults.add(options_fault(rest) if form[-1:] == "*" else None)
-    return next((fault for fault in map(shown, FAULTS_OF_FORM) if fault in faults), None)
+    return next((fault for fault in refusals.OF_FORM if fault in faults), None)
 
 
 # What makes a line of a form, and pieces that break one.
@@ -186,7 +187,7 @@ def is_answered(line, answer):
         return answer == [b"no " + fault.encode()], fault
     refused = refusal_of(told)
     if refused is not None:
-        return refused in FAULTS and (len(answer) == 1 or line.startswith(b"follow")), shown(refused)
+        return shown(refused) in refusals.OF_LINES and (len(answer) == 1 or line.startswith(b"follow")), shown(refused)
     return told.startswith(b"ok"), shown(told[:2])
 
 

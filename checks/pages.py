@@ -19,7 +19,9 @@ import sys
 import tempfile
 
 from documents.lines import check_lines
+from documents.refusals import check_refusals
 from documents.steps import STEP, wait_for_socket
+from harness import refusals
 from harness.runs import MOST_SECONDS, TOP, check, difference, failures, is_there, read, run, shown
 from sessions.cases import check_session
 
@@ -109,22 +111,17 @@ def check_help(helps):
     check_same("the words of mountctl.1", wanted, found)
 
 
-def refusals_of_page():
-    """The refusals of mountd-lines.7."""
-    return re.findall(r"(?m)^\.It Er (\w+)", section("mountd-lines.7", "REFUSALS"))
-
-
 def errnos_of_sources():
     """The errors of Linux that mountctl knows."""
-    return re.findall(r'(?m)^            Errno::\w+ => "(E[A-Z]+)",$', shown(read("crates", "mt_reasons", "src", "errno.rt")))
+    return re.findall(r'(?m)^            Errno::\w+ => "(E[A-Z]+)",$', shown(read("crates", "mt_protocol", "src", "errno.rt")))
 
 
 def refusals_by_line():
     """The refusals of each line in docs/RULES.md, in their order."""
     table = shown(read("docs", "RULES.md")).split("| Line | Refusals |\n")[1].split("\n\n")[0]
     found = {}
-    for words, refusals in re.findall(r"(?m)^\| (.*) \| (.*) \|$", table):
-        always, _, rest = refusals.partition("; of ")
+    for words, refused in re.findall(r"(?m)^\| (.*) \| (.*) \|$", table):
+        always, _, rest = refused.partition("; of ")
         of_some, _, also = rest.partition(" also ")
         for word in re.findall(r"`(\w+)`", words):
             found[word] = re.findall(r"`(\w+)`", always + (also if f"`{word}`" in of_some else ""))
@@ -137,13 +134,11 @@ def refusals_named(text):
     return [name for line in lines for name in re.findall(r"\w+", line)]
 
 
-def check_refusals():
-    """The refusals of the source stand in mountd-lines.7, and no other in any page; each line has its own."""
-    names = re.findall(r'=> b"(\w+)"', shown(read("crates", "mt_skel", "src", "fault.rt")))
-    check_same("the refusals of mountd-lines.7", names, refusals_of_page())
+def check_refused():
+    """No page has another refusal than those of the table; each line has its own."""
     for name in PAGES:
         found = {*refusals_named(page(name)), *re.findall(r"\bno ([A-Z][a-z]+[A-Z]\w*)", page(name))}
-        unknown = found - set(names)
+        unknown = found - set(refusals.NAMES)
         check(f"refusals of {name} that are none", unknown == set(), " ".join(sorted(unknown)))
     wanted = refusals_by_line()
     for word, entry in ENTRY.findall(section("mountd-lines.7", "LINES")):
@@ -152,18 +147,19 @@ def check_refusals():
 
 
 def check_explained(mountctl):
-    """What `explain` says of each refusal is its sentence in mountd-lines.7, a sentence on Linux, and what to do; of an errno it
-    names just the refusals that name it."""
+    """What `explain` says of each refusal is its sentence in the table, a sentence on Linux, and what to do; of an errno it names
+    just the refusals that have it."""
     behind = {}
-    for name, text in re.findall(r"(?m)^\.It Er (\w+)\n((?:(?!\.It |\.El).*\n)*)", section("mountd-lines.7", "REFUSALS")):
-        # A literal has its text after its name, and a point that stands alone after a space.
-        sentence = re.sub(r"(?m)^\.Ql ", "", text).replace("\\&", "").replace("\n", " ").replace("/ ,", "/,").strip()
+    for name, row in refusals.TABLE.items():
         found = run(mountctl, b"", "explain", name)
         first, _, second = shown(found[1]).partition("\n")
-        check(f"explain {name}", (found[0], found[2], first) == (0, b"", f"{name}: {sentence}"), f"{found}, {sentence}")
+        check(f"explain {name}", (found[0], found[2], first) == (0, b"", f"{name}: {row.sentence}"), repr(found))
         told = re.fullmatch(r"((?:In Linux it is E|Linux has none such: ).*)\.\nLook at .*\.\nTo change that: .*\.\n", second)
         check(f"explain {name}: Linux, and what to do", told is not None, second)
-        for errno in re.findall(r"\bE[A-Z]+\b", told[1] if told else ""):
+        words = {errnos.errorcode[number] for number in row.errnos}
+        named = set(re.findall(r"\bE[A-Z]+\b", told[1] if told else ""))
+        check(f"explain {name}: the errnos", named == words, second)
+        for errno in words:
             behind.setdefault(errno, []).append(name)
     check("some errnos stand behind refusals", {"EINVAL", "EBUSY", "ENOENT", "ENOMEM"} <= {*behind}, " ".join(behind))
     for errno, names in behind.items():
@@ -291,7 +287,7 @@ def check_offers(helps):
     """The completion offers the options and words of mountctl --help, and after each word what may stand there."""
     check_same("the options that the completion offers", options(helps["mountctl"]), offered("-"))
     check_same("the words that the completion offers alone", words_in_place(helps["mountctl"], "SOCKET WORD.."), [*offered("imp"), *offered("exp")])
-    check_same("what the completion offers to be explained", [*refusals_of_page(), *errnos_of_sources()], offered("explain", ""))
+    check_same("what the completion offers to be explained", [*refusals.NAMES, *errnos_of_sources()], offered("explain", ""))
     there = usages(helps["mountctl"])
     words = {*there, *words_in_place(helps["mountctl"])}
     check_same("the words that the completion offers", words, offered("socket", ""))
@@ -352,6 +348,7 @@ def main():
     check_lines(helps)
     check_help(helps)
     check_refusals()
+    check_refused()
     check_statuses(programs)
     check_explained(programs["mountctl"])
     check_examples(programs)

@@ -15,16 +15,6 @@ COUNT_AND_NUMBER = re.compile(rb"ok (\d+) (\d+)")
 # Those that count the lines after them, by the first word of the request.
 COUNTED = {b"show": COUNT_AND_NUMBER, b"watch": ONE_NUMBER, b"take": ONE_NUMBER, b"close": ONE_NUMBER}
 
-# What a line may be refused for whose words have not the form that they should have.
-FAULTS_OF_FORM = b"BadLine", b"TooLong", b"BadPath"
-
-# What a line may be refused for beside: its names and numbers, the state, limits, and a session's watcher.
-FAULTS = (
-    *(b"NoFilesystem", b"FilesystemExists", b"NoNamespace", b"NoEntry", b"EntryExists", b"NotMountRoot", b"RootPlace"),
-    *(b"Unbindable", b"SharedParent", b"IntoItself", b"UnbindableInside", b"Busy", b"BadAttr", b"TooMany", b"JournalFull"),
-    *(b"NoWatcher", b"WatcherOpen", b"TooManyWatchers", b"Lagged"),
-)
-
 # The last line of the answer to `follow`.
 FOLLOWED = re.compile(rb"ok (\d+)|no [A-Za-z]+")
 

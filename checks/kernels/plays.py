@@ -1,25 +1,13 @@
 """A script on both sides at once, compared after every command. A module, a part of kernel.py."""
 import collections
 
-from harness import commands, protocol
+from harness import commands, protocol, refusals
 from harness.comparison import Comparison
 from harness.protocol import unescaped
 from harness.runs import Served, shown
 from kernels import differences, syscalls
 from kernels.differences import Step
 from kernels.spaces import Worker
-
-# Our refusals that no call of the kernel has: of names and numbers that are ours, of lines, and of limits.
-NO_COUNTERPART = {
-    "NoFilesystem",
-    "FilesystemExists",
-    "NoNamespace",
-    "TooMany",
-    "JournalFull",
-    "BadLine",
-    "TooLong",
-    "BadPath",
-}
 
 
 class Unknown(Exception):
@@ -63,7 +51,7 @@ class Play:
         [[answer, *_]] = self.server.ask(line)
         words = [unescaped(word) for word in line.split(b" ")]
         refusal = (protocol.refusal_of(answer) or b"").decode()
-        if words[0] not in commands.CHANGING or refusal in NO_COUNTERPART:
+        if words[0] not in commands.CHANGING or refusal in refusals.NEVER_IN_LINUX:
             self.counts["without a counterpart"] += 1
             return
         step = Step(words, refusal, self.level(words) > 0, before=self.rows())

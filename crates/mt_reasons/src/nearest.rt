@@ -1,6 +1,6 @@
 //! The word that was meant: a verb, a refusal or an error of Linux.
 
-use crate::errno::ERRNOS;
+use mt_protocol::errno::ERRNOS;
 use mt_protocol::refusal::REFUSALS;
 use mt_protocol::verb::VERBS;
 use std::alloc::{AllocError, Global};

@@ -1,7 +1,7 @@
 //! Errors of Linux, by their names and numbers.
 ghost use Rattle.std.specs.Prelude.{◌≡◌};
 ghost use Rattle.std.specs.List.{find};
-ghost use Rattle.mt_reasons.specs.Errnos.{errno_name, errno_number, is_named, errno_of};
+ghost use Rattle.mt_protocol.specs.Errnos.{errno_name, errno_number, is_named, errno_of};
 
 /// An error of a call about mounts (errno(3)).
 #[derive(Clone, Copy, Debug, PartialEq, Eq)]
@@ -24,7 +24,7 @@ pub enum Errno {
 }
 
 /// Every error of a call about mounts.
-pub(crate) const ERRNOS: [Errno; 15] = [
+pub const ERRNOS: [Errno; 15] = [
     Errno::Eperm,
     Errno::Enoent,
     Errno::Enxio,
@@ -114,6 +114,36 @@ impl Errno {
             Errno::Erofs => "Read-only file system",
             Errno::Enametoolong => "File name too long",
             Errno::Eloop => "Too many levels of symbolic links",
+        }
+    }
+
+    /// What it may be in Linux besides, which no refusal of a server stands for.
+    pub fn in_linux_alone(self) -> &'static [&'static str] {
+        match self {
+            Errno::Eperm => &[
+                "no CAP_SYS_ADMIN in the user namespace that owns the mount namespace",
+                "a locked mount, or an attribute that is locked with it",
+            ],
+            Errno::Ebusy => &[
+                "an open file, a working directory or a swap file on it: fuser -vm PATH",
+                "a filesystem that is mounted where it is the topmost mount already",
+                "a remount with ro while files are open for writing",
+            ],
+            Errno::Einval => &[
+                "a locked mount",
+                "a filesystem that cannot be read, or is of another type: dmesg says more",
+                "the file of a mount namespace that would be bound into itself",
+            ],
+            Errno::Eacces => &["a device that is read-only, or a path that may not be searched"],
+            Errno::Enodev => &["a type of filesystem that the kernel has not: /proc/filesystems"],
+            Errno::Enotblk => &["a source that is no block device"],
+            Errno::Enotdir => &["a file where a directory has to be, or the other way round"],
+            Errno::Enoent => &["a source that is not there"],
+            Errno::Eloop => &["too many symbolic links"],
+            Errno::Enospc => &["more mounts in the namespace than /proc/sys/fs/mount-max"],
+            Errno::Enxio => &["a device whose major number no driver has"],
+            Errno::Erofs => &["a read-only device, without ro"],
+            Errno::Enomem | Errno::Eexist | Errno::Enametoolong => &[],
         }
     }
 

@@ -4,10 +4,8 @@ use Rattle.std.specs.Prelude.{ℕ, Bool, ◌||◌, List, [], ◌∷◌, map, Opt
 use Rattle.std.specs.Char.{to_ascii_lowercase}
 use Rattle.std.specs.List.{find}
 use Rattle.std.specs.Str.{bytes_eq}
-use Rattle.mt_skel.specs.declared.fault.Fault.{Fault}
-use Rattle.mt_skel.specs.declared.fault.Fault.TheVariants.{TooLong, NoEntry, EntryExists, NotMountRoot, RootPlace, Unbindable, SharedParent, IntoItself, UnbindableInside, Busy, BadAttr, NoMemory}
-use Rattle.mt_reasons.specs.declared.errno.Errno.{Errno}
-use Rattle.mt_reasons.specs.declared.errno.Errno.TheVariants.{Eperm, Enoent, Enxio, Enomem, Eacces, Enotblk, Ebusy, Eexist, Enodev, Enotdir, Einval, Enospc, Erofs, Enametoolong, Eloop}
+use Rattle.mt_protocol.specs.declared.errno.Errno.{Errno}
+use Rattle.mt_protocol.specs.declared.errno.Errno.TheVariants.{Eperm, Enoent, Enxio, Enomem, Eacces, Enotblk, Ebusy, Eexist, Enodev, Enotdir, Einval, Enospc, Erofs, Enametoolong, Eloop}
 
 -- every error of a call about mounts
 abbrev pub errnos : List Errno
@@ -56,11 +54,3 @@ is_named word errno = bytes_eq (map to_ascii_lowercase word) (map to_ascii_lower
 -- the error that a word names
 unfoldable pub errno_of : List ℕ → Option Errno
 errno_of word = find (λ errno. is_named word errno) errnos
-
--- the refusals in whose place Linux has an error, and the error; one refusal may have several (docs/KERNEL.md)
-abbrev pub cases : List (Fault × Errno)
-cases =
-    (TooLong, Enametoolong) ∷ (NoEntry, Enoent) ∷ (EntryExists, Eexist) ∷ (NotMountRoot, Einval) ∷ (RootPlace, Eloop)
-    ∷ (RootPlace, Einval) ∷ (RootPlace, Ebusy) ∷ (Unbindable, Einval) ∷ (SharedParent, Einval) ∷ (IntoItself, Eloop)
-    ∷ (IntoItself, Ebusy) ∷ (IntoItself, Einval) ∷ (UnbindableInside, Einval) ∷ (Busy, Ebusy) ∷ (BadAttr, Einval)
-    ∷ (NoMemory, Enomem) ∷ []
