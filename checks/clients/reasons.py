@@ -38,7 +38,7 @@ BAD = (
     (b"show 1 ", EMPTY_WORD),
     (b"show", USAGE + b"show NS"),
     (b"watch", USAGE + b"watch NS"),
-    (b"mount 1 a", USAGE + b"mount NS FS PATH"),
+    (b"mount 1 a", USAGE + b"mount NS FS PATH [set=W,..]"),
     (b"copyns 1 less less", USAGE + b"copyns NS [less]"),
     (b"setattr 1", USAGE + OPTIONS),
     (b"quit now", USAGE + b"quit"),
