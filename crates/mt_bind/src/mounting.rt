@@ -30,7 +30,7 @@ pub fn mount(world: &mut World, space: SpaceId, fs: &Label, path: &[Name]) -> Re
     ensures kept { IsWellFormed (world_view world.new) }
     ensures since { since_view world.new ≡ since_view world.old }
 {
-    mount_with(world, space, fs, path, &SetWords::new())
+    mount_with_attrs(world, space, fs, path, &SetWords::new())
 }
 
 /// Mounts the filesystem of this name as [`mount`] does, with these attributes at the place and at
@@ -39,7 +39,7 @@ pub fn mount(world: &mut World, space: SpaceId, fs: &Label, path: &[Name]) -> Re
 /// Refused as `NoFilesystem`, `NoNamespace`, `NoEntry` if a component is not there, `RootPlace` if
 /// the path is `/`, `BadAttr` if two access times are set, `TooMany` above 4,096 mounts, and as
 /// `NoMemory`; then nothing has changed.
-pub fn mount_with(
+pub fn mount_with_attrs(
     world: &mut World,
     space: SpaceId,
     fs: &Label,

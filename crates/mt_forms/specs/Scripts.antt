@@ -5,7 +5,7 @@ use Rattle.std.specs.List.{flat_map, list_all, starts_with}
 use Rattle.mt_skel.specs.Escapes.{escaped}
 use Rattle.mt_lines.specs.Words.{pieces}
 use Rattle.mt_forms.specs.Given.{nothing_given, with_list}
-use Rattle.mt_forms.specs.Settings.{for_bind, for_new, for_remount, is_empty_setting, set_text, setting_text}
+use Rattle.mt_forms.specs.Settings.{for_bind, for_new, for_remount, is_empty_setting, set_option, setting_text}
 use Rattle.mt_forms.specs.declared.attribute.Attributes.{Attributes}
 use Rattle.mt_forms.specs.declared.operation.Operation.{Operation}
 use Rattle.mt_forms.specs.declared.operation.Operation.TheVariants as operation
@@ -67,7 +67,7 @@ abbrev pub bind_line : List ℕ → List ℕ → List ℕ → Bool → List ℕ
 bind_line space from to recursive = two_paths_line (if recursive then codes "rbind" else codes "bind") space from to
 
 abbrev pub new_mount_line : List ℕ → List ℕ → List ℕ → Attributes → List ℕ
-new_mount_line space filesystem to set = codes "mount" ++ behind_word space ++ behind_word filesystem ++ behind_path to ++ set_text set ++ 10 ∷ []
+new_mount_line space filesystem to set = codes "mount" ++ behind_word space ++ behind_word filesystem ++ behind_path to ++ set_option set ++ 10 ∷ []
 
 -- the attributes that the options of a mount in a table tell
 abbrev pub told_attributes : List ℕ → Attributes

@@ -91,8 +91,8 @@ abbrev pub cleared_words : Setting → List ℕ
 cleared_words c = attribute_words c.clear ++ (if c.clears_atime then codes ",atime" else [])
 
 -- the attributes that are set, and the options of `setattr`
-abbrev pub set_text : Attributes → List ℕ
-set_text a = option_text (codes " set=") (attribute_words a)
+abbrev pub set_option : Attributes → List ℕ
+set_option a = option_text (codes " set=") (attribute_words a)
 
 abbrev pub setting_text : Setting → List ℕ
-setting_text c = set_text c.set ++ option_text (codes " clr=") (cleared_words c)
+setting_text c = set_option c.set ++ option_text (codes " clr=") (cleared_words c)

@@ -1,7 +1,7 @@
 //! What a line does to the attributes of a mount, and how `setattr` says it.
 ghost use Rattle.std.specs.Prelude.{◌≡◌, ◌++◌, IfOk, OnOk};
 ghost use Rattle.std.specs.List.{flat_map};
-ghost use Rattle.mt_forms.specs.Settings.{attribute_word, is_passed, are_none, no_setting, without_others, timed_by, set_exactly, for_bind, for_new, for_remount, is_empty_setting, listed_word, attribute_words, option_text, cleared_words, set_text, setting_text};
+ghost use Rattle.mt_forms.specs.Settings.{attribute_word, is_passed, are_none, no_setting, without_others, timed_by, set_exactly, for_bind, for_new, for_remount, is_empty_setting, listed_word, attribute_words, option_text, cleared_words, set_option, setting_text};
 
 use crate::attribute::{Attribute, Attributes, Said};
 use std::alloc::{AllocError, Global};
@@ -242,7 +242,7 @@ pub(crate) fn push_set(
     alloc: Global,
     attributes: Attributes,
 ) -> Result<(), AllocError>
-    ensures { OnOk result (text.new.items ≡ text.old.items ++ set_text attributes) }
+    ensures { OnOk result (text.new.items ≡ text.old.items ++ set_option attributes) }
 {
     let set = attribute_words(alloc, attributes)?;
     push_option(text, b" set=", set.as_slice())?;

@@ -10,8 +10,8 @@ use Rattle.mt_bind.specs.Mounting.{copied_with_id, mounted_with}
 use Rattle.mt_bind.proofs.SourceLaws.{fresh_is_source}
 use Rattle.mt_bind.proofs.MountLaws.{destination}
 use Rattle.mt_bind.proofs.AcceptedLaws.{IsLate, mounted_late, planned_done, planned_refused}
-use Rattle.mt_bind.proofs.mounting.mount_with.Goals.{After-attrs-attrs}
-use Rattle.mt_bind.proofs.mounting.mount_with.Goals as goal
+use Rattle.mt_bind.proofs.mounting.mount_with_attrs.Goals.{After-attrs-attrs}
+use Rattle.mt_bind.proofs.mounting.mount_with_attrs.Goals as goal
 
 -- it is left to see whether the copies are too many
 late : (c : After-attrs-attrs) → (let w = world_view c.args.world.now in let src = fresh_with w c.in-Some.fs (new_with c.args.set.now) in
