@@ -19,7 +19,6 @@ pub mod AnotherRootMount
 pub mod OccupiedPlace
 pub mod MountOnItsOwnCopy
 pub mod Attributes
-pub mod AttributesOfANewMount
 pub mod OrderOfRefusals
 pub mod GroupLeavesTogether
 pub mod MovedSubtree
