@@ -77,8 +77,8 @@ def options_fault(words):
 
 
 def are_attributes(rest):
-    """Whether there is one option, `set=`."""
-    return len(rest) == 1 and rest[0].startswith(b"set=")
+    """Whether there is one option, `set=`, and it is right."""
+    return len(rest) == 1 and rest[0].startswith(b"set=") and options_fault(rest) is None
 
 
 WORD_FAULTS = {
@@ -105,7 +105,7 @@ def fault_of(line):
     if len(words) < len(fixed) or not allowed:
         return "BadLine"
     faults = {WORD_FAULTS[kind](word) for kind, word in zip(fixed, words)}
-    faults.add(options_fault(rest) if form[-1:] in ("*", "=") else None)
+    faults.add(options_fault(rest) if form[-1:] == "*" else None)
     return next((fault for fault in refusals.OF_FORM if fault in faults), None)
 
 

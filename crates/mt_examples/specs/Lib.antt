@@ -9,7 +9,6 @@ pub mod RefusalsOfMove
 pub mod DetachTakesTheTree
 pub mod OccupiedPlace
 pub mod Attributes
-pub mod AttributesOfANewMount
 pub mod OrderOfRefusals
 pub mod LaggingWatcher
 pub mod WatchersInTime
