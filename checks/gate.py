@@ -50,6 +50,7 @@ PROGRAM_CHECKS = (
     ("checks of the program", "checks/program.py", PROGRAM),
     ("checks of the server", "checks/server.py", PROGRAM, CLIENT),
     ("the running kernel", "checks/kernel.py", PROGRAM),
+    ("where mounts come", "checks/reach.py", PROGRAM, CLIENT),
 )
 
 

@@ -107,7 +107,8 @@ def check_help(helps):
         entries = [word for word, _ in ENTRY.findall(section("mountd-lines.7", "LINES"))]
         check_same(f"the lines of mountd-lines.7, by the help of {program}", usages(text), entries)
     found = [word.replace("\\-", "-") for word in re.findall(r"(?m)^\.It Cm (\S+)", page("mountctl.1"))]
-    wanted = [*words_in_place(helps["mountctl"]), *words_in_place(helps["mountctl"], "SOCKET WORD..")]
+    # Some stand in the place of a line, and of a socket too.
+    wanted = {*words_in_place(helps["mountctl"]), *words_in_place(helps["mountctl"], "SOCKET WORD..")}
     check_same("the words of mountctl.1", wanted, found)
 
 
@@ -197,6 +198,11 @@ PUT_TOGETHER = {
         "SOCKET: changes were lost",
         "SOCKET: others made changes",
         "table N: mount ID is left out: REASON",
+        "NAME: line N has a path or a device that cannot be read",
+        "several lines are of mount ID",
+        "NS: none of the tables, nor one of several of this name",
+        "PATH: no path that begins with a slash, or one with a backslash that begins no escape",
+        "the table has no root mount, so no path leads anywhere",
         "WORD: neither a refusal nor an errno",
         "WORD: neither a refusal nor an errno; the nearest is NAME",
     ],
@@ -286,7 +292,7 @@ def offered(*words):
 def check_offers(helps):
     """The completion offers the options and words of mountctl --help, and after each word what may stand there."""
     check_same("the options that the completion offers", options(helps["mountctl"]), offered("-"))
-    check_same("the words that the completion offers alone", words_in_place(helps["mountctl"], "SOCKET WORD.."), [*offered("imp"), *offered("exp")])
+    check_same("the words that the completion offers alone", words_in_place(helps["mountctl"], "SOCKET WORD.."), [*offered("imp"), *offered("exp"), *offered("rea"), *offered("ori"), *offered("hol")])
     check_same("what the completion offers to be explained", [*refusals.NAMES, *errnos_of_sources()], offered("explain", ""))
     there = usages(helps["mountctl"])
     words = {*there, *words_in_place(helps["mountctl"])}

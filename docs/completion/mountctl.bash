@@ -13,10 +13,10 @@ _mountctl_words()
 {
     local count=$#
     case $1:$count in
-        :0) echo mkfs mkdir newns copyns dropns mount bind rbind move pivot umount detach setattr show find watch take follow close quit stop - monitor mirror tree dot spaces what-if ;;
+        :0) echo mkfs mkdir newns copyns dropns mount bind rbind move pivot umount detach setattr show find watch take follow close quit stop - monitor mirror tree dot spaces what-if reach origin holders ;;
         copyns:2) echo less ;;
         watch:1 | dot:1) echo all ;;
-        show:2 | find:3) echo --json ;;
+        show:2 | find:3 | reach:3 | origin:3 | holders:[23]) echo --json ;;
         tree:[12])
             [[ " $* " == *" --"* ]] || printf '%s\n' --ascii --json
             [[ " $* " == *" --"* || $count == 1 ]] && echo all
@@ -92,13 +92,19 @@ _mountctl()
     if ((${#words[@]} == 0)); then
         mapfile -t COMPREPLY < <(
             _mountctl_sockets "$current"
-            compgen -W "-e -h --help -q -V --version --wait import explain ${MOUNTD_SOCKET:+$(_mountctl_words)}" -- "$current"
+            compgen -W "-e -h --help -q -V --version --wait import explain reach origin holders ${MOUNTD_SOCKET:+$(_mountctl_words)}" -- "$current"
         )
         compopt -o filenames 2> /dev/null
         return
     fi
     if [[ ${words[0]} == explain ]]; then
         mapfile -t COMPREPLY < <(((${#words[@]} == 1)) && compgen -W "$_mountctl_refusals $_mountctl_errnos" -- "$current")
+        return
+    fi
+    # Tables are asked where files come first, and a namespace of a server else.
+    if [[ ${words[0]} == @(reach|origin|holders) && " ${words[*]} " != *" -- "* ]]; then
+        [[ $current == -* ]] && mapfile -t COMPREPLY < <(compgen -W "-- --pid --all" -- "$current")
+        compopt -o default 2> /dev/null
         return
     fi
     # A word that begins a line is no socket: that is the one of the environment.

@@ -30,11 +30,22 @@ In the place of WORD..:
   what-if FILE.. -- LINE..
                            makes the namespaces of an import in a new server, and tells what a line changes there;
                            further lines may stand in front of it, each behind --
+  reach NS PATH [--json]   says to which mounts a mount made there comes, by which group, and why not to others
+  origin NS PATH [--json]  says where the mount there comes from, and what takes it away
+  holders SOURCE|MAJ:MIN|NS PATH [--json]
+                           names the mounts that still show a filesystem, or the directory there
 
 In the place of SOCKET WORD..:
   import                   reads the lines of a mountinfo, and prints a script that makes its namespace
   import FILE..            reads those of several processes, and prints a script that makes all their namespaces
   import --pid PID..       reads those of these processes
+  reach TABLE.. -- NS PATH [--json]
+                           the same of tables: files with the lines of a mountinfo, --pid PID.., or --all for each
+                           mount namespace of this machine; NS is a file's name, a process or the number of a table
+  origin TABLE.. -- NS PATH [--json]
+                           where the mount there comes from
+  holders TABLE.. -- SOURCE|MAJ:MIN|NS PATH [--json]
+                           what still shows it
   explain REFUSAL|ERRNO    says what the refusal of this name is, and what Linux says in its place;
                            of an error of Linux, by its name or number, which refusals stand behind it
 

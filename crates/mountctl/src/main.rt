@@ -5,6 +5,7 @@ ghost use Rattle.std.specs.Prelude.{◌≡◌, None};
 ghost use Rattle.mt_lines.specs.Reading.{fault_of};
 
 mod arguments;
+mod asked;
 mod connection;
 mod explain;
 mod fault;
@@ -20,6 +21,7 @@ mod options;
 mod places;
 mod processes;
 mod provide;
+mod questions;
 mod quiet;
 mod screen;
 mod script;
@@ -30,6 +32,7 @@ mod task;
 mod what_if;
 
 use crate::arguments::{Lack, Manner, manner_of, parser, socket_of, usage, words_of};
+use crate::asked::{answer_question, asked_by};
 use crate::connection::{connected, status_of};
 use crate::explain::explain;
 use crate::fault::Fault;
@@ -38,6 +41,7 @@ use crate::import::{ImportFault, ROW_LIMIT, import};
 use crate::lines::run_line;
 use crate::marked::Marked;
 use crate::messages::NAME;
+use crate::questions::{Question, form_of_words, run_question};
 use crate::quiet::Quiet;
 use crate::screen::standard_output;
 use crate::script::{SCRIPT_LIMIT, run_script};
@@ -119,6 +123,13 @@ fn run_on<R: Input + Drop, W: Output, O: Output>(
         },
         Task::List => list_spaces(alloc, lines, writer, out),
         Task::WhatIf => Ok(false),
+        Task::Question(question) => match asked_by(question, words) {
+            Some(asked) => {
+                let (form, _) = form_of_words(words);
+                answer_question(alloc, form, question, asked, lines, writer, out)
+            }
+            None => Ok(false),
+        },
     }
 }
 
@@ -223,6 +234,18 @@ fn run(rt: &HostRuntime) -> io::Result<ExitCode> {
         [_, "import", words @ ..] => import_files(rt, words),
         [_, "explain", "-h" | "--help"] => run_or_explain(rt, &[NAME, "--help"]),
         [_, "explain", words @ ..] => explain(rt, words),
+        [_, "reach" | "origin" | "holders", "-h" | "--help"] => {
+            run_or_explain(rt, &[NAME, "--help"])
+        }
+        [_, "reach", words @ ..] if words.contains(&"--") => {
+            run_question(rt, Question::Reach, words)
+        }
+        [_, "origin", words @ ..] if words.contains(&"--") => {
+            run_question(rt, Question::Origin, words)
+        }
+        [_, "holders", words @ ..] if words.contains(&"--") => {
+            run_question(rt, Question::Holders, words)
+        }
         words => run_or_explain(rt, words),
     };
     Ok(code)

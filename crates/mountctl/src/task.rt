@@ -1,7 +1,9 @@
 //! What the words behind the socket ask for.
 
+use crate::asked::asked_by;
 use crate::marked::Marks;
 use crate::options::{Chosen, Options, chosen_in};
+use crate::questions::Question;
 use mt_events::opening::Scope;
 use mt_lines::words::number;
 use mt_protocol::form::{Form, form_of};
@@ -10,7 +12,9 @@ use mt_render::drawing::Drawing;
 use mt_render::telling::Telling;
 
 /// The first words of what may stand in the place of a line.
-const TASK_WORDS: [&str; 7] = ["-", "monitor", "mirror", "tree", "dot", "spaces", "what-if"];
+const TASK_WORDS: [&str; 10] = [
+    "-", "monitor", "mirror", "tree", "dot", "spaces", "what-if", "reach", "origin", "holders",
+];
 
 /// Whether a word begins a line of a session, or what may stand in its place.
 pub(crate) fn begins_words(word: &str) -> bool {
@@ -36,6 +40,8 @@ pub(crate) enum Task {
     List,
     /// What lines change in the namespaces of tables.
     WhatIf,
+    /// The answer to a question about the tables of all namespaces.
+    Question(Question),
 }
 
 impl Task {
@@ -82,6 +88,12 @@ pub(crate) enum WordFault {
     TooMany,
     /// Behind `explain`, which stands in the place of a socket.
     Explain,
+    /// Behind `reach`.
+    Reach,
+    /// Behind `origin`.
+    Origin,
+    /// Behind `holders`.
+    Holders,
 }
 
 impl WordFault {
@@ -98,6 +110,13 @@ impl WordFault {
             WordFault::Import => "import takes files, or --pid and processes, or no words",
             WordFault::WhatIf => "what-if takes files, and lines behind --",
             WordFault::TooMany => "more than 64 tables",
+            WordFault::Reach =>
+                "reach takes tables, and behind -- a namespace and a path; behind a socket those alone",
+            WordFault::Origin =>
+                "origin takes tables, and behind -- a namespace and a path; behind a socket those alone",
+            WordFault::Holders => {
+                "holders takes tables, and behind -- a source, a device, or a namespace and a path; behind a socket those alone"
+            }
             WordFault::Explain => "explain takes the name of a refusal, or an errno",
         }
     }
@@ -258,6 +277,14 @@ fn is_what_if(words: &[&str]) -> bool {
     }
 }
 
+/// The question of words whose first is its name.
+fn question_of(question: Question, words: &[&str]) -> Result<Task, WordFault> {
+    match asked_by(question, words) {
+        Some(_) => Ok(Task::Question(question)),
+        None => Err(question.fault()),
+    }
+}
+
 /// The task of these words: the client's own where the first is one of its own, which no line begins with, and else the
 /// line that they are.
 pub(crate) fn task_of(words: &[&str]) -> Result<Task, WordFault> {
@@ -279,6 +306,9 @@ pub(crate) fn task_of(words: &[&str]) -> Result<Task, WordFault> {
         ["spaces", ..] => Err(WordFault::Spaces),
         ["what-if", behind @ ..] if is_what_if(behind) => Ok(Task::WhatIf),
         ["what-if", ..] => Err(WordFault::WhatIf),
+        ["reach", ..] => question_of(Question::Reach, words),
+        ["origin", ..] => question_of(Question::Origin, words),
+        ["holders", ..] => question_of(Question::Holders, words),
         _ => Ok(Task::Ask),
     }
 }

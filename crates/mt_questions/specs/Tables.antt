@@ -1,9 +1,40 @@
--- The tables of namespaces, under the names that people call them by.
+-- The tables of namespaces, and what people call those.
 -- A word with no source is this project's rule.
-use Rattle.std.specs.Prelude.{ℕ, List}
+use Rattle.std.specs.Prelude.{ℕ, Bool, ◌==◌, List, []}
+use Rattle.std.specs.List.{filter, find, flat_map}
+use Rattle.std.specs.Option.{option_map_or}
 use Rattle.mt_import.specs.Reading.{ToldMount}
+use Rattle.mt_reach.specs.declared.row.SeenRow.{SeenRow}
+use Rattle.mt_questions.specs.declared.table.CalledSpace.{CalledSpace}
 
 -- what people call a namespace, and what the lines of its table tell, in their order
 pub record ToldTable : Type 0 where
   pub name : List ℕ
   pub rows : List ToldMount
+
+-- the rows of all tables by rising ID, the namespaces in their order, and whether none of the machine is missing
+pub record SeenView : Type 0 where
+  pub rows : List SeenRow
+  pub names : List CalledSpace
+  pub complete : Bool
+
+-- what people call the namespace of a number
+abbrev pub goes_by : ℕ → CalledSpace → Bool
+goes_by n s = s.space == n
+
+abbrev pub name_among : List CalledSpace → ℕ → List ℕ
+name_among names n = option_map_or (λ (s : CalledSpace). s.name) (find (goes_by n) names) []
+
+abbrev pub called_name : SeenView → ℕ → List ℕ
+called_name t n = name_among t.names n
+
+-- a mount is in a namespace
+abbrev pub is_of_space : ℕ → SeenRow → Bool
+is_of_space n r = r.space == n
+
+-- the rows of all namespaces, those of each together, by rising ID
+abbrev pub rows_of_space : List SeenRow → CalledSpace → List SeenRow
+rows_of_space rows s = filter (is_of_space s.space) rows
+
+abbrev pub rows_by_space : SeenView → List SeenRow
+rows_by_space t = flat_map (rows_of_space t.rows) t.names
