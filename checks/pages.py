@@ -201,6 +201,10 @@ PUT_TOGETHER = {
         "SOCKET: changes were lost",
         "SOCKET: others made changes",
         "table N: mount ID is left out: REASON",
+        "TABLE: ID POINT is left out: REASON",
+        "TABLE: ID POINT is private here: REASON",
+        "line N: LINE: REASON",
+        "line N: a quote is not closed",
         "WORD: neither a refusal nor an errno",
         "WORD: neither a refusal nor an errno; the nearest is NAME",
     ],
@@ -290,7 +294,7 @@ def offered(*words):
 def check_offers(helps):
     """The completion offers the options and words of mountctl --help, and after each word what may stand there."""
     check_same("the options that the completion offers", options(helps["mountctl"]), offered("-"))
-    check_same("the words that the completion offers alone", words_in_place(helps["mountctl"], "SOCKET WORD.."), [*offered("imp"), *offered("exp")])
+    check_same("the words that the completion offers alone", words_in_place(helps["mountctl"], "SOCKET WORD.."), [*offered("wha"), *offered("imp"), *offered("exp")])
     check_same("what the completion offers to be explained", [*refusals_of_page(), *errnos_of_sources()], offered("explain", ""))
     there = usages(helps["mountctl"])
     words = {*there, *words_in_place(helps["mountctl"])}

@@ -14,8 +14,8 @@ With --built the program that is built already, crates/NAME/out/NAME, takes the 
 `rt try --` in crates/NAME: one would prove everything to build it, the other build it once more. This is for
 .ci/run, where `rt ci` has just proved and built it from nothing.
 
-The block after `<!-- what-if -->` is what a terminal shows: commands after `$ `, and what each prints. The first one
-starts the server and the last one stops it. With --built it is run too.
+The block after `<!-- what-if -->` is what a terminal shows: commands after `$ `, and what each prints. With --built it is
+run too.
 """
 import os
 import re
@@ -24,7 +24,7 @@ import sys
 import tempfile
 
 from documents.example import EXAMPLE
-from documents.steps import MOST_SECONDS, STEP, wait_for_socket
+from documents.steps import STEP
 from harness.runs import TOP, check, difference, failures, read, shown
 from sessions import cases
 
@@ -64,18 +64,14 @@ def check_printed(command, wanted, found):
 def check_question():
     """What README.md's question shows is what the programs print."""
     [text] = QUESTION.findall(read("README.md"))
-    folders = [os.path.join(TOP, "crates", name, "out") for name in ("mountd", "mountctl")]
-    environment = dict(os.environ, PATH=os.pathsep.join([*folders, os.environ["PATH"]]))
-    (start, _), *asked = STEP.findall(text)
+    environment = dict(os.environ, PATH=os.pathsep.join([os.path.join(TOP, "crates", "mountctl", "out"), os.environ["PATH"]]))
+    asked = STEP.findall(text)
     with tempfile.TemporaryDirectory() as folder:
         os.symlink(os.path.join(TOP, "docs"), os.path.join(folder, "docs"))
-        settings = {"cwd": folder, "env": environment, "stdout": subprocess.PIPE}
-        with subprocess.Popen(["sh", "-ec", b"exec " + start.rstrip(b"& ")], **settings) as server:
-            wait_for_socket(folder)
-            for command, wanted in asked:
-                check_printed(command, wanted, subprocess.run(["sh", "-ec", command], **settings).stdout)
-            server.wait(MOST_SECONDS)
-            check("README.md's server of the question ends well", server.returncode == 0, f"status {server.returncode}")
+        for command, wanted in asked:
+            settings = {"cwd": folder, "env": environment, "stdin": subprocess.DEVNULL, "stdout": subprocess.PIPE}
+            check_printed(command, wanted, subprocess.run(["sh", "-c", command], check=False, **settings).stdout)
+    check("README.md has a question", len(asked) > 0)
 
 
 def main():

@@ -16,6 +16,7 @@ import time
 
 from clients.answers import check_answers
 from clients.crowds import check_crowds
+from clients.foretold import check_foretold
 from clients.hosts import check_hosts
 from clients.imports import check_import
 from clients.limits import check_limits
@@ -101,6 +102,7 @@ CLIENT_PARTS = {
     "worlds": check_worlds,
     "hosts": check_hosts,
     "questions": check_questions,
+    "foretold": check_foretold,
 }
 
 

@@ -92,13 +92,19 @@ _mountctl()
     if ((${#words[@]} == 0)); then
         mapfile -t COMPREPLY < <(
             _mountctl_sockets "$current"
-            compgen -W "-e -h --help -q -V --version --wait import explain ${MOUNTD_SOCKET:+$(_mountctl_words)}" -- "$current"
+            compgen -W "-e -h --help -q -V --version --wait what-if import explain ${MOUNTD_SOCKET:+$(_mountctl_words)}" -- "$current"
         )
         compopt -o filenames 2> /dev/null
         return
     fi
     if [[ ${words[0]} == explain ]]; then
         mapfile -t COMPREPLY < <(((${#words[@]} == 1)) && compgen -W "$_mountctl_refusals $_mountctl_errnos" -- "$current")
+        return
+    fi
+    if [[ ${words[0]} == what-if && " ${words[*]} " != *" -- "* ]]; then
+        # Tables stand here: files, which readline completes itself.
+        [[ $current == -* ]] && mapfile -t COMPREPLY < <(compgen -W "-- --all --each --fail-if-elsewhere --json --pid" -- "$current")
+        compopt -o default 2> /dev/null
         return
     fi
     # A word that begins a line is no socket: that is the one of the environment.

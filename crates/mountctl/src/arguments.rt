@@ -32,6 +32,12 @@ In the place of WORD..:
                            further lines may stand in front of it, each behind --
 
 In the place of SOCKET WORD..:
+  what-if [OPTION].. TABLE.. -- LINE [-- LINE]..
+                           tells what lines would change in the namespaces of tables, with no server: each TABLE is a file, or
+                           with --pid a process; --all stands for each mount namespace of this machine. A LINE is one of
+                           mount, umount, unshare, nsenter, pivot_root or of a session; - stands for those of standard input.
+                           --each tells what each line changes, --json prints objects, and with --fail-if-elsewhere the
+                           status is 4 where a namespace changes that no line names
   import                   reads the lines of a mountinfo, and prints a script that makes its namespace
   import FILE..            reads those of several processes, and prints a script that makes all their namespaces
   import --pid PID..       reads those of these processes

@@ -14,12 +14,14 @@ mod kept;
 mod lines;
 mod marked;
 mod messages;
+mod missed;
 mod namespaces;
 mod newness;
 mod options;
 mod places;
 mod processes;
 mod provide;
+mod question;
 mod quiet;
 mod screen;
 mod script;
@@ -38,6 +40,7 @@ use crate::import::{ImportFault, ROW_LIMIT, import};
 use crate::lines::run_line;
 use crate::marked::Marked;
 use crate::messages::NAME;
+use crate::question::run_question;
 use crate::quiet::Quiet;
 use crate::screen::standard_output;
 use crate::script::{SCRIPT_LIMIT, run_script};
@@ -221,6 +224,8 @@ fn run(rt: &HostRuntime) -> io::Result<ExitCode> {
         [_, "import"] => run_import(rt),
         [_, "import", "-h" | "--help"] => run_or_explain(rt, &[NAME, "--help"]),
         [_, "import", words @ ..] => import_files(rt, words),
+        [_, "what-if", "-h" | "--help"] => run_or_explain(rt, &[NAME, "--help"]),
+        [_, "what-if", words @ ..] => run_question(rt, words),
         [_, "explain", "-h" | "--help"] => run_or_explain(rt, &[NAME, "--help"]),
         [_, "explain", words @ ..] => explain(rt, words),
         words => run_or_explain(rt, words),

@@ -76,8 +76,10 @@ pub(crate) enum WordFault {
     Spaces,
     /// Behind `import`, which stands in the place of a socket.
     Import,
-    /// Behind `what-if`.
+    /// Behind `what-if`, on a server.
     WhatIf,
+    /// Behind `what-if`, without a server.
+    Question,
     /// More tables than a server has namespaces.
     TooMany,
     /// Behind `explain`, which stands in the place of a socket.
@@ -97,6 +99,9 @@ impl WordFault {
             WordFault::Spaces => "spaces takes no words",
             WordFault::Import => "import takes files, or --pid and processes, or no words",
             WordFault::WhatIf => "what-if takes files, and lines behind --",
+            WordFault::Question => {
+                "what-if takes files, --pid and processes or --all, and lines behind --, or - for those of standard input"
+            }
             WordFault::TooMany => "more than 64 tables",
             WordFault::Explain => "explain takes the name of a refusal, or an errno",
         }

@@ -79,9 +79,13 @@ abbrev pub listed : Row → Row → List Field → List ℕ
 listed r s [] = codes "as before"
 listed r s (f ∷ fs) = change_words r s f ++ further_words r s fs
 
+-- the fields in which two rows differ
+unfoldable pub fields_changed : Row → Row → List Field
+fields_changed r s = filter (field_differs r s) fields
+
 -- what of the second row is not as in the first
 unfoldable pub changes_text : Row → Row → List ℕ
-changes_text r s = listed r s (filter (field_differs r s) fields)
+changes_text r s = listed r s (fields_changed r s)
 
 -- a mount and its mount point
 abbrev pub mount_words : Row → List ℕ

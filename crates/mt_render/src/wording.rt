@@ -125,8 +125,8 @@ fn push_left_mount(text: &mut Vec<u8>, rows: &[Row], id: MountId) -> Result<(), 
     }
 }
 
-/// Appends a line as a terminal is given it.
-fn push_shown(text: &mut Vec<u8>, line: &[u8]) -> Result<(), AllocError>
+/// Appends a line as a terminal is given it. Fails for want of memory alone.
+pub fn push_shown(text: &mut Vec<u8>, line: &[u8]) -> Result<(), AllocError>
     ensures { OnOk result (text.new.items ≡ text.old.items ++ shown_line line.now) }
 {
     text.extend_from_slice(&terminal_text(*text.allocator(), line)?)?;
@@ -178,8 +178,8 @@ fn push_new_line(text: &mut Vec<u8>, space: Named<'_>, row: &Row) -> Result<(), 
     push_shown(text, &line)
 }
 
-/// Appends the mount point of a mount that stands where it stood.
-fn push_standing(text: &mut Vec<u8>, before: &Row, after: &Row) -> Result<(), AllocError>
+/// Appends the mount point of a mount that stands where it stood. Fails for want of memory alone.
+pub fn push_standing(text: &mut Vec<u8>, before: &Row, after: &Row) -> Result<(), AllocError>
     ensures { OnOk result (text.new.items ≡ text.old.items ++ standing before.now after.now) }
 {
     if before.point.is_same(&after.point) {

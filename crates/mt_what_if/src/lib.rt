@@ -1,0 +1,28 @@
+//! What lines would change in the namespaces of tables.
+#![tactic(auto)]
+
+mod abridged;
+mod along;
+pub mod asked;
+mod copies;
+pub mod difference;
+pub mod elsewhere;
+pub mod foretelling;
+pub mod gathered;
+mod json;
+pub mod known_space;
+mod lines;
+mod naming;
+pub mod numbers;
+mod provide;
+pub mod scene;
+mod space;
+mod table_row;
+pub mod told;
+pub mod trial;
+pub mod trying;
+mod unmounts;
+mod walking;
+mod words;
+
+pub use mt_skel::fault;
