@@ -186,10 +186,8 @@ PUT_TOGETHER = {
     "mountctl": [
         "connection fault: SOCKET: REASON",
         "line N: LINE: no NAME",
-        "line N: BadLine: REASON",
-        "line N: NoEntry: DST, PATH",
-        "BadLine: REASON",
-        "NoEntry: DST, PATH",
+        "line N: NAME: REASON",
+        "NAME: REASON",
         "line N is no row of a mountinfo",
         "FILE: line N is no row of a mountinfo",
         "FILE: REASON",

@@ -35,6 +35,7 @@ from clients.pictures import check_pictures, update_pictures
 from clients.python import check_python
 from clients.questions import check_questions
 from clients.reasons import check_reasons
+from clients.refusals import check_refusals
 from clients.starts import check_starts
 from clients.terminals import check_terminals
 from clients.worlds import check_worlds
@@ -89,6 +90,7 @@ CLIENT_PARTS = {
     "writes": check_writes,
     "reading": check_reading,
     "reasons": check_reasons,
+    "refusals": check_refusals,
     "starts": check_starts,
     "terminals": check_terminals,
     "retold": check_retold,

@@ -33,7 +33,7 @@ enum Look {
 }
 
 /// What is no line of an answer is a connection fault, but for want of memory.
-fn fault_of_line(fault: Refusal) -> Fault {
+pub(crate) fn fault_of_line(fault: Refusal) -> Fault {
     match fault {
         Refusal::NoMemory => Fault::NoMemory,
         _ => Fault::Connection,
