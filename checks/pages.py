@@ -296,7 +296,7 @@ def check_offers(helps):
     check("the words that the completion offers without a socket", words <= {*offered("")}, " ".join(offered("")))
     del os.environ["MOUNTD_SOCKET"]
     for front in [], ["-e"], ["--wait", "5"], ["--wait=5", "-q"]:
-        check_same(f"what completes tree behind {front}", ["--ascii", "--json", "all"], offered(*front, "tree", ""))
+        check_same(f"what completes tree behind {front}", ["--ascii", "--json", "--name", "all"], offered(*front, "tree", ""))
     for word, usage in {**usages(helps["mountd"]), **words_in_place(helps["mountctl"])}.items():
         wanted = set(re.findall(r"(?<![^\s\[|])(?:--)?[a-z]+=?", usage.removeprefix(word))) - {word}
         found = {offer for count in range(4) for offer in offered("socket", word, *["1"] * count, "")}

@@ -18,20 +18,25 @@ const TASKS: &str = "
 
 In the place of WORD..:
   -                        sends the lines of standard input, one after another, but for comments
-  monitor NS|all [--json] [--time]
+  monitor NS|all [--json] [--time] [--name NS=NAME]..
                            tells each change as it comes, in words or as JSON, and when it came
   mirror NS K              follows K posts of a namespace, and shows the table that they lead to
-  tree [NS|all] [--ascii|--json]
-                           draws the mounts of a namespace, or of all, each below its parent
+  tree [NS [PATH]|all] [--ascii|--json] [--name NS=NAME]..
+                           draws the mounts of a namespace, of a part of it, or of all, each below its parent
   show NS --json           prints the mounts of a namespace as JSON
   find NS PATH --json      prints the mount on which a path ends as JSON
-  dot [NS|all]             draws mounts and peer groups as a graph for Graphviz
-  spaces                   lists the namespaces, each with the number of its mounts
+  dot [NS [PATH]|all] [--name NS=NAME]..
+                           draws the same and peer groups as a graph for Graphviz
+  spaces [--json] [--name NS=NAME]..
+                           lists the namespaces, each with its name and the number of its mounts
   what-if FILE.. -- LINE..
                            makes the namespaces of an import in a new server, and tells what a line changes there;
                            further lines may stand in front of it, each behind --
 
 In the place of SOCKET WORD..:
+  tree FILE.. -- [NS|all] [--ascii]
+                           draws the tables of files, of --pid PID.. or of --all namespaces of this machine, without a server
+  dot FILE.. -- [NS|all]   draws them as a graph
   import                   reads the lines of a mountinfo, and prints a script that makes its namespace
   import FILE..            reads those of several processes, and prints a script that makes all their namespaces
   import --pid PID..       reads those of these processes

@@ -28,12 +28,14 @@ pub(crate) enum Task {
     Mirror { space: u64, count: u64 },
     /// A drawing of the tables of these namespaces.
     Draw { scope: Scope, drawing: Drawing },
+    /// A drawing of the part of a namespace that a path leads to.
+    DrawPart { drawing: Drawing },
     /// The mount on which a path ends, as JSON.
     Find,
     /// Each change of these namespaces as it comes.
     Tell { scope: Scope, marks: Marks },
     /// The namespaces, with the number of their mounts.
-    List,
+    List { telling: Telling },
     /// What lines change in the namespaces of tables.
     WhatIf,
 }
@@ -49,6 +51,12 @@ impl Task {
             Task::Draw {
                 drawing: Drawing::FlatJson | Drawing::NestedJson,
                 ..
+            }
+            | Task::DrawPart {
+                drawing: Drawing::NestedJson,
+            }
+            | Task::List {
+                telling: Telling::Json,
             }
             | Task::Find => Some(untimed),
             Task::Tell { marks, .. } if marks.time || marks.telling == Telling::Json => Some(marks),
@@ -74,6 +82,10 @@ pub(crate) enum WordFault {
     Graph,
     /// Behind `spaces`.
     Spaces,
+    /// Behind `--name`.
+    Name,
+    /// Behind tables, of which none is of a namespace.
+    NoTable,
     /// Behind `import`, which stands in the place of a socket.
     Import,
     /// Behind `what-if`.
@@ -92,9 +104,11 @@ impl WordFault {
             WordFault::Find => "find takes a namespace and a path, and --json",
             WordFault::Monitor => "monitor takes a namespace, or all, and --json and --time",
             WordFault::Mirror => "mirror takes a namespace and a count",
-            WordFault::Tree => "tree takes a namespace, all or none, and --ascii or --json",
-            WordFault::Graph => "dot takes a namespace, all or none",
-            WordFault::Spaces => "spaces takes no words",
+            WordFault::Tree => "tree takes a namespace and a path, all or none, --ascii or --json",
+            WordFault::Graph => "dot takes a namespace and a path, all or none",
+            WordFault::Spaces => "spaces takes --json, or no words",
+            WordFault::Name => "a name is given as --name 2=web, once for each namespace",
+            WordFault::NoTable => "none of the tables is of this namespace",
             WordFault::Import => "import takes files, or --pid and processes, or no words",
             WordFault::WhatIf => "what-if takes files, and lines behind --",
             WordFault::TooMany => "more than 64 tables",
@@ -105,30 +119,78 @@ impl WordFault {
 
 /// The telling of these words, or None where they are no namespace nor `all`, or other options than `--json` and `--time`.
 fn monitor_of(words: &[&str]) -> Option<Task> {
-    let Chosen { options, word } = chosen_in(words)?;
-    if options.ascii {
+    let Chosen {
+        options,
+        word,
+        path,
+    } = chosen_in(words)?;
+    if options.ascii || path.is_some() {
         return None;
     }
     let scope = named_scope(word?)?;
-    let telling = if options.json {
-        Telling::Json
-    } else {
-        Telling::Words
-    };
     let marks = Marks {
-        telling,
+        telling: telling_of(options),
         time: options.time,
     };
     Some(Task::Tell { scope, marks })
 }
 
-/// The graph of these words, or None where they are no namespace, `all` or none.
-fn graph_of(words: &[&str]) -> Option<Task> {
-    let scope = scope_of(words)?;
-    Some(Task::Draw {
-        scope,
-        drawing: Drawing::Graph,
+/// How the options ask to be told.
+fn telling_of(options: Options) -> Telling {
+    if options.json {
+        Telling::Json
+    } else {
+        Telling::Words
+    }
+}
+
+/// The list of these words, or None where they are other than `--json`.
+fn list_of(words: &[&str]) -> Option<Task> {
+    let Chosen { options, word, .. } = chosen_in(words)?;
+    if options.ascii || options.time || word.is_some() {
+        return None;
+    }
+    Some(Task::List {
+        telling: telling_of(options),
     })
+}
+
+/// The drawing of a namespace and of a path in it, of all namespaces where there is neither, or None where there is no such
+/// scope.
+fn drawn(drawing: Drawing, word: Option<&str>, path: Option<&str>) -> Option<Task> {
+    let scope = match word {
+        Some(word) => named_scope(word)?,
+        None => Scope::All,
+    };
+    match (scope, path) {
+        (Scope::One(_), Some(path)) if path.as_bytes().starts_with(b"/") => {
+            Some(Task::DrawPart { drawing })
+        }
+        (_, Some(_)) => None,
+        (scope, None) => Some(Task::Draw { scope, drawing }),
+    }
+}
+
+/// The graph of these words, or None where they are no namespace, and a path in it, nor `all` or none.
+fn graph_of(words: &[&str]) -> Option<Task> {
+    let Chosen {
+        options,
+        word,
+        path,
+    } = chosen_in(words)?;
+    if options.ascii || options.json || options.time {
+        return None;
+    }
+    drawn(Drawing::Graph, word, path)
+}
+
+/// The namespace and the path behind the first word of such a drawing, or None where they are others.
+pub(crate) fn part_words<'a>(words: &[&'a str]) -> Option<(&'a str, &'a str)> {
+    let [_drawing, behind @ ..] = words else {
+        return None;
+    };
+    let chosen = chosen_in(behind)?;
+    Some((chosen.word?, chosen.path?))
 }
 
 /// The mirror of these words, or None where they are not two numbers. A count that is none is the server's to refuse.
@@ -149,18 +211,14 @@ fn named_scope(word: &str) -> Option<Scope> {
     }
 }
 
-/// The namespaces of these words: one, or all where there is no word or that of all. None where they are neither.
-fn scope_of(words: &[&str]) -> Option<Scope> {
-    match words {
-        [] => Some(Scope::All),
-        [word] => named_scope(word),
-        _ => None,
-    }
-}
-
-/// The tree of these words, or None where they are no namespace, `all` or none, or other options than `--ascii` or `--json`.
+/// The tree of these words, or None where they are no namespace, and a path in it, nor `all` or none, or other options than
+/// `--ascii` or `--json`.
 fn tree_of(words: &[&str]) -> Option<Task> {
-    let Chosen { options, word } = chosen_in(words)?;
+    let Chosen {
+        options,
+        word,
+        path,
+    } = chosen_in(words)?;
     let drawing = match options {
         Options {
             ascii: false,
@@ -179,11 +237,7 @@ fn tree_of(words: &[&str]) -> Option<Task> {
         } => Drawing::NestedJson,
         _ => return None,
     };
-    let scope = match word {
-        Some(word) => named_scope(word)?,
-        None => Scope::All,
-    };
-    Some(Task::Draw { scope, drawing })
+    drawn(drawing, word, path)
 }
 
 /// The words without `--json`, where it stands first or last among them. None where it does not.
@@ -275,8 +329,7 @@ pub(crate) fn task_of(words: &[&str]) -> Result<Task, WordFault> {
         ["mirror", behind @ ..] => mirror_of(behind).ok_or(WordFault::Mirror),
         ["tree", behind @ ..] => tree_of(behind).ok_or(WordFault::Tree),
         ["dot", behind @ ..] => graph_of(behind).ok_or(WordFault::Graph),
-        ["spaces"] => Ok(Task::List),
-        ["spaces", ..] => Err(WordFault::Spaces),
+        ["spaces", behind @ ..] => list_of(behind).ok_or(WordFault::Spaces),
         ["what-if", behind @ ..] if is_what_if(behind) => Ok(Task::WhatIf),
         ["what-if", ..] => Err(WordFault::WhatIf),
         _ => Ok(Task::Ask),

@@ -16,6 +16,7 @@ use Rattle.mt_events.specs.Mirrors.{MirrorView}
 use Rattle.mt_events.specs.Posts.{PostView, ended}
 use Rattle.mt_terminal.specs.Terminal.{terminal_text}
 use Rattle.mt_render.specs.Propagation.{propagation}
+use Rattle.mt_render.specs.Named.{name_words}
 use Rattle.mt_render.specs.declared.field.Field.{Field}
 use Rattle.mt_render.specs.declared.field.Field.TheVariants.{Point, Parent, Root, ReadOnly, Nosuid, Nodev, Noexec, Nosymfollow, Nodiratime, AccessTimes, Propagation}
 
@@ -86,11 +87,6 @@ changes_text r s = listed r s (filter (field_differs r s) fields)
 -- a mount and its mount point
 abbrev pub mount_words : Row → List ℕ
 mount_words r = decimal r.id ++ codes " " ++ path_text r.point
-
--- the name of a namespace, if it has one
-abbrev pub name_words : List ℕ → List ℕ
-name_words [] = []
-name_words (b ∷ bs) = codes " (" ++ escaped (b ∷ bs) ++ codes ")"
 
 abbrev pub space_words : List ℕ → ℕ → List ℕ
 space_words name n = codes " in namespace " ++ decimal n ++ name_words name

@@ -1,6 +1,6 @@
 use Rattle.std.proofs.Common.{◌≡◌, drop}
-use Rattle.mt_client.specs.Telling.{name_in}
-use Rattle.mt_client.proofs.named.name_of.Given as goal
+use Rattle.mt_render.specs.Named.{name_in}
+use Rattle.mt_render.proofs.named.name_in.Given as goal
 
 -- the first name among those that are left is the first one of all
 abbrev pub invariant-names : goal.invariant-names
