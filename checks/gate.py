@@ -49,6 +49,7 @@ PROGRAM_CHECKS = (
     ("pages", "checks/pages.py", PROGRAM, CLIENT),
     ("checks of the program", "checks/program.py", PROGRAM),
     ("checks of the server", "checks/server.py", PROGRAM, CLIENT),
+    ("pages in a browser", "checks/browser.py", PROGRAM, CLIENT),
     ("the running kernel", "checks/kernel.py", PROGRAM),
 )
 

@@ -191,6 +191,8 @@ PUT_TOGETHER = {
     "mountctl": [
         "connection fault: SOCKET: REASON",
         "line N: LINE: no NAME",
+        "no NAME",
+        "line N: a page has a watcher of its own",
         "line N: BadLine: REASON",
         "line N: NoEntry: DST, PATH",
         "BadLine: REASON",

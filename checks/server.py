@@ -32,6 +32,7 @@ from clients.mountctl import (
 )
 from clients.objects import check_objects
 from clients.pictures import check_pictures, update_pictures
+from clients.played import check_played
 from clients.python import check_python
 from clients.questions import check_questions
 from clients.reasons import check_reasons
@@ -101,6 +102,7 @@ CLIENT_PARTS = {
     "worlds": check_worlds,
     "hosts": check_hosts,
     "questions": check_questions,
+    "played": check_played,
 }
 
 

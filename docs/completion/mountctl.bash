@@ -13,7 +13,7 @@ _mountctl_words()
 {
     local count=$#
     case $1:$count in
-        :0) echo mkfs mkdir newns copyns dropns mount bind rbind move pivot umount detach setattr show find watch take follow close quit stop - monitor mirror tree dot spaces what-if ;;
+        :0) echo mkfs mkdir newns copyns dropns mount bind rbind move pivot umount detach setattr show find watch take follow close quit stop - monitor mirror tree dot spaces what-if page ;;
         copyns:2) echo less ;;
         watch:1 | dot:1) echo all ;;
         show:2 | find:3) echo --json ;;
@@ -92,7 +92,7 @@ _mountctl()
     if ((${#words[@]} == 0)); then
         mapfile -t COMPREPLY < <(
             _mountctl_sockets "$current"
-            compgen -W "-e -h --help -q -V --version --wait import explain ${MOUNTD_SOCKET:+$(_mountctl_words)}" -- "$current"
+            compgen -W "-e -h --help -q -V --version --wait import explain page ${MOUNTD_SOCKET:+$(_mountctl_words)}" -- "$current"
         )
         compopt -o filenames 2> /dev/null
         return

@@ -30,6 +30,8 @@ In the place of WORD..:
   what-if FILE.. -- LINE..
                            makes the namespaces of an import in a new server, and tells what a line changes there;
                            further lines may stand in front of it, each behind --
+  page [TITLE]             plays the lines of standard input, and prints what they do as a page for a browser;
+                           without SOCKET, also where MOUNTD_SOCKET is set, in a new server of its own
 
 In the place of SOCKET WORD..:
   import                   reads the lines of a mountinfo, and prints a script that makes its namespace

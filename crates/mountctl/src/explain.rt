@@ -15,7 +15,7 @@ use std::io::Print;
 use std::process::ExitCode;
 
 /// The sentence of mountd-lines(7) on a refusal.
-fn sentence_of(refusal: Refusal) -> &'static str {
+pub(crate) fn sentence_of(refusal: Refusal) -> &'static str {
     match refusal {
         Refusal::BadLine => "The line has not the form of a line.",
         Refusal::TooLong => "A line, path, component or label is longer than its limit.",

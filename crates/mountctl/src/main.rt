@@ -17,7 +17,10 @@ mod messages;
 mod namespaces;
 mod newness;
 mod options;
+mod page;
+mod page_task;
 mod places;
+mod played;
 mod processes;
 mod provide;
 mod quiet;
@@ -38,6 +41,7 @@ use crate::import::{ImportFault, ROW_LIMIT, import};
 use crate::lines::run_line;
 use crate::marked::Marked;
 use crate::messages::NAME;
+use crate::page_task::run_page;
 use crate::quiet::Quiet;
 use crate::screen::standard_output;
 use crate::script::{SCRIPT_LIMIT, run_script};
@@ -63,6 +67,9 @@ pub(crate) const PROGRAM: Program = Program {
     name: NAME,
     failed: 3,
 };
+
+/// The word that asks for a page.
+const PAGE: &str = "page";
 
 /// The longest line of an answer, in bytes before its line end.
 pub(crate) const LINE_LIMIT: u32 = 134_217_728;
@@ -118,7 +125,7 @@ fn run_on<R: Input + Drop, W: Output, O: Output>(
             None => Ok(false),
         },
         Task::List => list_spaces(alloc, lines, writer, out),
-        Task::WhatIf => Ok(false),
+        Task::WhatIf | Task::Page => Ok(false),
     }
 }
 
@@ -154,6 +161,9 @@ fn run_task(
 fn run_words(rt: &HostRuntime, socket: &str, words: &[&str], manner: Manner) -> ExitCode {
     let task = match task_of(words) {
         Ok(Task::WhatIf) => return run_what_if(rt, socket, words, manner.wait),
+        Ok(Task::Page) => {
+            return run_page(rt, Some(socket), words.get(1..).unwrap_or(&[]), manner.wait);
+        }
         Ok(task) => task,
         Err(fault) => return PROGRAM.refuse(rt, fault.message()),
     };
@@ -187,6 +197,9 @@ fn run_import(rt: &HostRuntime) -> ExitCode {
 fn run_matches(rt: &HostRuntime, matches: &ArgMatches<'_>) -> Result<ExitCode, AllocError> {
     let first = matches.get_str("SOCKET");
     let behind = matches.get_strs("WORD").unwrap_or(&[]);
+    if first == Some(PAGE) {
+        return Ok(run_page(rt, None, behind, 0));
+    }
     let words = words_of(rt, first, behind)?;
     if words.is_empty() {
         return Ok(PROGRAM.refuse(rt, Lack::Word.message()));

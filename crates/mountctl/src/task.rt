@@ -36,6 +36,8 @@ pub(crate) enum Task {
     List,
     /// What lines change in the namespaces of tables.
     WhatIf,
+    /// The page of the session on standard input.
+    Page,
 }
 
 impl Task {
@@ -80,6 +82,8 @@ pub(crate) enum WordFault {
     WhatIf,
     /// More tables than a server has namespaces.
     TooMany,
+    /// Behind `page`.
+    Page,
     /// Behind `explain`, which stands in the place of a socket.
     Explain,
 }
@@ -98,6 +102,7 @@ impl WordFault {
             WordFault::Import => "import takes files, or --pid and processes, or no words",
             WordFault::WhatIf => "what-if takes files, and lines behind --",
             WordFault::TooMany => "more than 64 tables",
+            WordFault::Page => "page takes a title, or no words",
             WordFault::Explain => "explain takes the name of a refusal, or an errno",
         }
     }
@@ -279,6 +284,7 @@ pub(crate) fn task_of(words: &[&str]) -> Result<Task, WordFault> {
         ["spaces", ..] => Err(WordFault::Spaces),
         ["what-if", behind @ ..] if is_what_if(behind) => Ok(Task::WhatIf),
         ["what-if", ..] => Err(WordFault::WhatIf),
+        ["page", ..] => Ok(Task::Page),
         _ => Ok(Task::Ask),
     }
 }
