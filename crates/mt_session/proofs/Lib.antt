@@ -1,3 +1,5 @@
+pub mod EndLaws
+pub mod LoopLaws
 pub mod PassLaws
 pub mod TurnLaws
 pub mod SessionLaws
@@ -11,3 +13,4 @@ pub mod SharedLineLaws
 pub mod GivingLaws
 pub mod FollowLaws
 pub mod AnswerLaws
+pub mod WantsLaws

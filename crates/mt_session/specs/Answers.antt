@@ -1,6 +1,6 @@
 -- The texts of answers: a refusal, what a command answers, a table, the place where a path ends. Those of what a watcher found and of posts are in mt_events.
 -- A word with no source is this project's rule.
-use Rattle.std.specs.Prelude.{ℕ, List, [], ◌∷◌, ◌++◌, Result, Ok, Err, codes, decimal, cond}
+use Rattle.std.specs.Prelude.{ℕ, Bool, true, false, List, [], ◌∷◌, ◌++◌, Result, Ok, Err, codes, decimal, cond}
 use Rattle.mt_skel.specs.declared.fault.Fault.{Fault}
 use Rattle.mt_skel.specs.declared.fault.Fault.TheVariants.{NoNamespace}
 use Rattle.mt_skel.specs.Fault.{name_of}
@@ -12,7 +12,10 @@ use Rattle.mt_book.specs.declared.command.Command.{Command}
 use Rattle.mt_book.specs.declared.command.Reply.{Reply}
 use Rattle.mt_book.specs.declared.command.Reply.TheVariants.{Done, Number}
 use Rattle.mt_book.specs.Step.{after}
+use Rattle.mt_book.specs.Book.{found_at}
 use Rattle.mt_book.specs.History.{space_number}
+use Rattle.mt_requests.specs.declared.request.Request.{Request}
+use Rattle.mt_requests.specs.declared.request.Request.TheVariants.{Show, Find}
 
 -- the line of a refusal
 abbrev pub refusal : Fault → List ℕ
@@ -37,3 +40,15 @@ place_text mount names = codes "ok " ++ decimal mount ++ codes " " ++ path_text 
 abbrev pub found_text : Result (ℕ × List (List ℕ)) Fault → List ℕ
 found_text (Ok p) = place_text p.0 p.1
 found_text (Err f) = refusal f
+
+-- a request that asks what the tables are, and changes nothing
+abbrev pub is_question : Request → Bool
+is_question (Show n) = true
+is_question (Find n path) = true
+is_question r = false
+
+-- what a question is answered; any other request is only answered that it was done
+abbrev pub asked_text : List Command → Request → List ℕ
+asked_text journal (Show n) = shown_text journal n
+asked_text journal (Find n path) = found_text (found_at (after journal) n path)
+asked_text journal r = done_text

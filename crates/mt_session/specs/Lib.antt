@@ -1,3 +1,4 @@
+pub mod Answering
 pub mod Answers
 pub mod Forms
 pub mod Headline
@@ -11,3 +12,4 @@ pub mod SharedSession
 pub mod SharedTurns
 pub mod Taking
 pub mod Text
+pub mod Wants

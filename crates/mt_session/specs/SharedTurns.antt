@@ -23,7 +23,8 @@ use Rattle.mt_desk.specs.Held.{IsLogged}
 use Rattle.mt_desk.specs.Calls.{WatcherView, unseen, IsApplied, IsClosed}
 use Rattle.mt_desk.specs.Headline.{Close as Closes, IsScheduledBy}
 use Rattle.mt_requests.specs.declared.request.Request.{Request}
-use Rattle.mt_requests.specs.declared.request.Request.TheVariants.{Run, Show, Find, Watch, Take, Follow, Close, Stop}
+use Rattle.mt_requests.specs.declared.request.Request.TheVariants.{Run, Watch, Take, Follow, Close, Stop}
+use Rattle.mt_session.specs.Answers.{is_question}
 use Rattle.mt_events.specs.Texts.{lines_of_posts}
 use Rattle.mt_session.specs.Requests.{SessionState, session_state}
 use Rattle.mt_events.specs.declared.texts.PrintedPosts.{PrintedPosts}
@@ -89,13 +90,11 @@ IsDoneBy d w r now w' = (now ≡ d) × (w' ≡ w)
 -- though its posts could not be told.
 abbrev pub IsUndoneBy : DeskView → Option WatcherView → Request → DeskView → Option WatcherView → Type 0
 IsUndoneBy d w (Run c) now w' = (now ≡ d) × (w' ≡ w)
-IsUndoneBy d w (Show n) now w' = (now ≡ d) × (w' ≡ w)
-IsUndoneBy d w (Find n path) now w' = (now ≡ d) × (w' ≡ w)
 IsUndoneBy d None (Watch scope) now w' =
     (w' ≡ None)
     × ((now ≡ d) ⊎ ((held : DeskView) × (begun : WatcherView) × IsBegun d scope held (Some begun) × IsClosed held begun [] now))
 IsUndoneBy d (Some w) Close now w' = (posts : List PostView) × IsClosed d w posts now × (w' ≡ None) × IsScheduledBy (Closes w posts) now
-IsUndoneBy d w r now w' = ⊥
+IsUndoneBy d w r now w' = (is_question r ≡ true) × (now ≡ d) × (w' ≡ w)
 
 -- A session's watcher is closed, if it has one, and these posts were sent to it and not taken; all that it has taken, and these, are in order by a schedule of
 -- the desk.

@@ -3,22 +3,24 @@
 //! A session reads lines ([`line`]), makes requests of them ([`request`]), does these, and sends the text of the
 //! answers ([`text`], [`stream`]). A plain session does them on a floor of its own ([`session`]); [`serving`] is all
 //! that it does from its first line to its end. A session in a thread of its own does them at a desk that others share
-//! ([`shared_session`]), answers by [`shared_answer`], and is served by [`shared_serving`]; [`bell`] and [`turns`] are
-//! where it waits, and [`gate`] where a test can hold it. [`laws`] has what is true of every list of lines.
+//! ([`shared_session`]), answers piece by piece, and is served by [`shared_serving`]; [`bell`] and [`turns`] are
+//! where it waits, and [`gate`] where a test can hold it. Both are one loop over lines ([`answering`]). [`laws`] has what is true of every list of lines.
 #![tactic(auto)]
 
+pub mod answering;
 pub mod bell;
 pub mod gate;
 pub mod laws;
 mod queries;
 pub mod serving;
 pub mod session;
-pub mod shared_answer;
+mod shared_answer;
 mod shared_follow;
 pub mod shared_serving;
 pub mod shared_session;
 pub mod text;
 pub mod turns;
+mod wants;
 
 pub use mt_floor::{event, floor, watch};
 pub use mt_lines::{line, memory, stream};

@@ -1,18 +1,20 @@
 //! What a book shows, and why it shows nothing.
-ghost use Rattle.std.specs.Prelude.{◌≡◌, ◌≢◌, IfOk, IfErr};
+ghost use Rattle.std.specs.Prelude.{◌≡◌, ◌≢◌, true, IfOk, IfErr};
 ghost use Rattle.mt_book.specs.Step.{after};
 ghost use Rattle.mt_book.specs.Book.{found_at};
-ghost use Rattle.mt_session.specs.Answers.{refusal, shown_text, found_text};
+ghost use Rattle.mt_session.specs.Answers.{refusal, shown_text, found_text, is_question, asked_text};
 
 use crate::text::Text;
 use mt_book::book::Book;
+use mt_book::command::Reply;
 use mt_events::texts::push_heading;
+use mt_requests::request::Request;
 use mt_skel::fault::Fault;
 use mt_skel::names::Names;
 use std::alloc::Global;
 
 /// The lines that show a namespace's table.
-pub(crate) fn show(alloc: Global, book: &Book, space: u64) -> Result<Text, Fault>
+fn show(alloc: Global, book: &Book, space: u64) -> Result<Text, Fault>
     ensures ok { IfOk result (λ text. text ≡ shown_text book.now.journal space) }
     ensures memory { IfErr result (λ fault. fault ≡ Fault.NoMemory) }
 {
@@ -38,7 +40,7 @@ pub(crate) fn told_refusal(fault: Fault) -> Result<Text, Fault>
 }
 
 /// The line that says where a path ends.
-pub(crate) fn find(alloc: Global, book: &Book, space: u64, path: &Names) -> Result<Text, Fault>
+fn find(alloc: Global, book: &Book, space: u64, path: &Names) -> Result<Text, Fault>
     ensures ok { IfOk result (λ text. text ≡ found_text (found_at (after book.now.journal) space path.now)) }
     ensures memory { IfErr result (λ fault. fault ≡ Fault.NoMemory) }
 {
@@ -47,5 +49,17 @@ pub(crate) fn find(alloc: Global, book: &Book, space: u64, path: &Names) -> Resu
         Ok((mount, names)) => Ok(Text::place(alloc, mount, &names)?),
         Err(Fault::NoMemory) => Err(Fault::NoMemory),
         Err(fault) => Ok(Text::refusal(fault)),
+    }
+}
+
+/// What a question is answered. Any other request is only answered that it was done.
+pub(crate) fn asked(alloc: Global, book: &Book, request: &Request) -> Result<Text, Fault>
+    ensures ok { IfOk result (λ text. text ≡ asked_text book.now.journal request.now) }
+    ensures memory { IfErr result (λ fault. (fault ≡ Fault.NoMemory) × (is_question request.now ≡ true)) }
+{
+    match request {
+        Request::Show(space) => show(alloc, book, *space),
+        Request::Find { space, path } => find(alloc, book, *space, path),
+        _ => Ok(Text::reply(Reply::Done)),
     }
 }

@@ -9,8 +9,9 @@ ghost use Rattle.mt_session.specs.Answers.{reply_text};
 ghost use Rattle.mt_session.specs.Serving.{reply_in, begun_in, phase_in};
 ghost use Rattle.mt_session.specs.Requests.{session_state, session_at, answer_to, state_to, left, begun, replied_text, opened_text, by_phase, rest_text, taken_text, end_of_followed, closed_text, taken, next_posts, IsUndone};
 
-use crate::queries::{find, show, told_refusal};
+use crate::queries::{asked, told_refusal};
 use crate::text::Text;
+use crate::wants::{Wants, wants_of};
 use mt_book::command::{Command, Reply};
 use mt_events::opening::{Opening, Scope};
 use mt_events::texts::PrintedPosts;
@@ -221,6 +222,11 @@ impl Session {
         }
     }
 
+    /// Where memory for its answers comes from.
+    pub(crate) fn alloc(&self) -> Global {
+        self.alloc
+    }
+
     /// Begins a watcher, and tells what it finds. Where there is no memory to tell it, the watcher is closed again.
     fn watch(&mut self, floor: &mut Floor, scope: Scope) -> Result<Text, Fault>
         requires none { self.old ≡ None }
@@ -265,24 +271,22 @@ impl Session {
         ensures idle { floor.new.due ≡ [] }
     {
         floor.settle();
-        match (request, self.watcher) {
-            (Request::Run(command), _) => run(floor, command),
-            (Request::Show(space), _) => show(self.alloc, floor.book(), *space),
-            (Request::Find { space, path }, _) => find(self.alloc, floor.book(), *space, path),
-            (Request::Watch(scope), None) => self.watch(floor, *scope),
-            (Request::Watch(_), Some(_)) => Ok(Text::refusal(Fault::WatcherOpen)),
-            (Request::Take(most), Some(key)) => take(self.alloc, floor, key, *most),
-            (Request::Follow(most), Some(key)) => follow(self.alloc, floor, key, *most),
-            (Request::Close, Some(key)) => {
+        match (wants_of(request), self.watcher) {
+            (Wants::Answer, _) => asked(self.alloc, floor.book(), request),
+            (Wants::Change(command), _) => run(floor, command),
+            (Wants::Watcher(scope), None) => self.watch(floor, scope),
+            (Wants::Watcher(_), Some(_)) => Ok(Text::refusal(Fault::WatcherOpen)),
+            (Wants::Waiting(most), Some(key)) => take(self.alloc, floor, key, most),
+            (Wants::Coming(most), Some(key)) => follow(self.alloc, floor, key, most),
+            (Wants::Leave, Some(key)) => {
                 let text = close(self.alloc, floor, key)?;
                 self.watcher = None;
                 Ok(text)
             }
-            (Request::Take(_) | Request::Follow(_) | Request::Close, None) => {
+            (Wants::Waiting(_) | Wants::Coming(_) | Wants::Leave, None) => {
                 Ok(Text::refusal(Fault::NoWatcher))
             }
-            (Request::Quit, _) => Ok(Text::reply(Reply::Done)),
-            (Request::Stop, _) => {
+            (Wants::Stop, _) => {
                 stop(floor);
                 Ok(Text::reply(Reply::Done))
             }

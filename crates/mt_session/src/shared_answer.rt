@@ -27,20 +27,23 @@ use mt_requests::request::Request;
 use mt_skel::fault::Fault;
 use std::alloc::Global;
 use std::sync::{Mutex, Wait};
+use std::time::Clock;
 
 /// What a session shares with the others, and what is its own for all its requests.
 #[derive(Drop)]
-pub struct Shared<'a, J: Naming, G: Gate> {
+pub(crate) struct Shared<'a, J: Naming, G: Gate, R> {
+    /// What is waited by.
+    pub(crate) rt: &'a R,
     /// The desk, which is held while a request is done.
-    pub desk: &'a Mutex<Desk<J>>,
+    pub(crate) desk: &'a Mutex<Desk<J>>,
     /// Where a session that follows rests.
-    pub bell: &'a Bell,
+    pub(crate) bell: &'a Bell,
     /// What is called at moments of the session.
-    pub gate: &'a G,
+    pub(crate) gate: &'a G,
     /// The session's number.
-    pub number: u64,
+    pub(crate) number: u64,
     /// What memory for answers comes from.
-    pub alloc: Global,
+    pub(crate) alloc: Global,
 }
 
 /// A piece of an answer.
@@ -99,9 +102,8 @@ impl Piece {
 }
 
 /// Does a request while the desk is held. Refused as `NoMemory` alone.
-fn do_locked<J: Naming, G: Gate, R: Wait>(
-    rt: &R,
-    shared: &Shared<'_, J, G>,
+fn do_locked<J: Naming, G: Gate, R: Wait + Clock>(
+    shared: &Shared<'_, J, G, R>,
     session: &mut SharedSession<J>,
     request: &Request,
 ) -> Result<Text, Fault>
@@ -110,77 +112,73 @@ fn do_locked<J: Naming, G: Gate, R: Wait>(
     ensures memory { IsOkUnless result Fault.NoMemory }
     ensures undone { OnErr result (IsNotDoneAt session.old request.now session.new) }
 {
-    shared.bell.turns().begin(rt);
-    let mut desk = shared.desk.lock(rt);
-    let answer = session.locked(rt, &mut *desk, request);
+    shared.bell.turns().begin(shared.rt);
+    let mut desk = shared.desk.lock(shared.rt);
+    let answer = session.locked(shared.rt, &mut *desk, request);
     if answer.is_ok() && matches!(request, Request::Run(_)) {
-        shared.gate.in_lock(rt, shared.number);
+        shared.gate.in_lock(shared.rt, shared.number);
     }
     drop(desk);
-    shared.bell.turns().end(rt);
+    shared.bell.turns().end(shared.rt);
     answer
 }
 
 /// Meets the desk while it is held.
-fn meet<J: Naming, G: Gate, R: Wait>(
-    rt: &R,
-    shared: &Shared<'_, J, G>,
+fn meet<J: Naming, G: Gate, R: Wait + Clock>(
+    shared: &Shared<'_, J, G, R>,
     session: &mut SharedSession<J>,
 ) -> Option<Meeting>
     ensures met { HasMet session.old.own result session.new.own session.new.sight.seen }
     ensures sight { SeesOn session.old.sight session.new.sight }
 {
-    shared.bell.turns().begin(rt);
-    let mut desk = shared.desk.lock(rt);
+    shared.bell.turns().begin(shared.rt);
+    let mut desk = shared.desk.lock(shared.rt);
     let met = session.meet(&mut *desk);
     drop(desk);
-    shared.bell.turns().end(rt);
+    shared.bell.turns().end(shared.rt);
     met
 }
 
 /// Ends the session's watcher, if it has one, while the desk is held, and hands out what was sent to it and not taken.
-fn end_watcher<J: Naming, G: Gate, R: Wait>(
-    rt: &R,
-    shared: &Shared<'_, J, G>,
+fn end_watcher<J: Naming, G: Gate, R: Wait + Clock>(
+    shared: &Shared<'_, J, G, R>,
     session: &mut SharedSession<J>,
 ) -> Option<SharedPosts>
     ensures none { session.new.own ≡ None }
     ensures ended { HasEndedAt session.old result session.new.sight }
 {
-    shared.bell.turns().begin(rt);
-    let mut desk = shared.desk.lock(rt);
-    let posts = session.end(rt, &mut *desk);
+    shared.bell.turns().begin(shared.rt);
+    let mut desk = shared.desk.lock(shared.rt);
+    let posts = session.end(shared.rt, &mut *desk);
     drop(desk);
-    shared.bell.turns().end(rt);
+    shared.bell.turns().end(shared.rt);
     posts
 }
 
 /// Closes the session's watcher, if it has one, at the desk after so much of the history as the session has seen then. The
 /// desk is held until it is closed, and not while posts are let go.
-pub fn leave<J: Naming, G: Gate, R: Wait>(
-    rt: &R,
-    shared: &Shared<'_, J, G>,
+pub(crate) fn leave<J: Naming, G: Gate, R: Wait + Clock>(
+    shared: &Shared<'_, J, G, R>,
     session: &mut SharedSession<J>,
 )
     ensures none { session.new.own ≡ None }
     ensures left { HasLeft session.old.own session.new.sight.seen }
     ensures sight { SeesOn session.old.sight session.new.sight }
 {
-    let _posts = end_watcher(rt, shared, session);
+    let _posts = end_watcher(shared, session);
 }
 
 /// Closes the session's watcher: the answer to a `close`, a single piece. The desk is held until the watcher is closed, and
 /// not while its posts are printed.
-pub(crate) fn answer_close<J: Naming, G: Gate, R: Wait>(
-    rt: &R,
-    shared: &Shared<'_, J, G>,
+pub(crate) fn answer_close<J: Naming, G: Gate, R: Wait + Clock>(
+    shared: &Shared<'_, J, G, R>,
     session: &mut SharedSession<J>,
 ) -> Piece
     ensures { IsPiece session.old Close [] result.text result.then session.new }
 {
-    let ended = end_watcher(rt, shared, session);
+    let ended = end_watcher(shared, session);
     let piece = told_end(shared.alloc, ended);
-    shared.gate.before_answer(rt, shared.number);
+    shared.gate.before_answer(shared.rt, shared.number);
     piece
 }
 
@@ -204,9 +202,8 @@ fn told_end(alloc: Global, ended: Option<SharedPosts>) -> Piece
 }
 
 /// Does a request other than `close` while the desk is held: its answer, a single piece.
-pub(crate) fn answer_locked<J: Naming, G: Gate, R: Wait>(
-    rt: &R,
-    shared: &Shared<'_, J, G>,
+pub(crate) fn answer_locked<J: Naming, G: Gate, R: Wait + Clock>(
+    shared: &Shared<'_, J, G, R>,
     session: &mut SharedSession<J>,
     request: &Request,
 ) -> Piece
@@ -214,14 +211,14 @@ pub(crate) fn answer_locked<J: Naming, G: Gate, R: Wait>(
     requires other { request.now ≢ Request.Close }
     ensures { IsPiece session.old request.now [] result.text result.then session.new }
 {
-    let answer = do_locked(rt, shared, session, request);
+    let answer = do_locked(shared, session, request);
     if wakes(request) {
-        shared.bell.ring(rt);
+        shared.bell.ring(shared.rt);
     }
     if matches!(request, Request::Stop) {
-        shared.gate.stopped(rt, shared.number);
+        shared.gate.stopped(shared.rt, shared.number);
     }
-    shared.gate.before_answer(rt, shared.number);
+    shared.gate.before_answer(shared.rt, shared.number);
     match answer {
         Ok(text) => Piece::last(text, end_of(request)),
         Err(_) => Piece::last(Text::refusal(Fault::NoMemory), None),
@@ -239,9 +236,8 @@ pub(crate) enum Portion {
 
 /// Takes up to so many posts, of which none waited at first: the session meets the desk, and takes again if some have
 /// come. Refused as `NoWatcher` where it has none, and as `NoMemory`, where the posts that were taken are lost.
-fn take_met<J: Naming, G: Gate, R: Wait>(
-    rt: &R,
-    shared: &Shared<'_, J, G>,
+fn take_met<J: Naming, G: Gate, R: Wait + Clock>(
+    shared: &Shared<'_, J, G, R>,
     session: &mut SharedSession<J>,
     most: u64,
 ) -> Result<Portion, Fault>
@@ -250,11 +246,11 @@ fn take_met<J: Naming, G: Gate, R: Wait>(
     ensures portion { IsPortion session.old.own most result session.new.own session.new.sight.seen }
     ensures sight { SeesOn session.old.sight session.new.sight }
 {
-    let Some(meeting) = meet(rt, shared, session) else {
+    let Some(meeting) = meet(shared, session) else {
         return Err(Fault::NoWatcher);
     };
     if meeting.posted > meeting.taken {
-        let posts = session.pops(rt, most)?;
+        let posts = session.pops(shared.rt, most)?;
         return Ok(Portion::Posts(posts));
     }
     Ok(Portion::Empty(meeting.state))
@@ -262,9 +258,8 @@ fn take_met<J: Naming, G: Gate, R: Wait>(
 
 /// Takes up to so many posts. Refused as `NoWatcher` where the session has none, and as `NoMemory`, where the posts that
 /// were taken are lost.
-pub(crate) fn take_posts<J: Naming, G: Gate, R: Wait>(
-    rt: &R,
-    shared: &Shared<'_, J, G>,
+pub(crate) fn take_posts<J: Naming, G: Gate, R: Wait + Clock>(
+    shared: &Shared<'_, J, G, R>,
     session: &mut SharedSession<J>,
     most: u64,
 ) -> Result<Portion, Fault>
@@ -272,9 +267,9 @@ pub(crate) fn take_posts<J: Naming, G: Gate, R: Wait>(
     ensures portion { IsPortion session.old.own most result session.new.own session.new.sight.seen }
     ensures sight { SeesOn session.old.sight session.new.sight }
 {
-    let printed = session.pops(rt, most)?;
+    let printed = session.pops(shared.rt, most)?;
     if printed.posts == 0 {
-        return take_met(rt, shared, session, most);
+        return take_met(shared, session, most);
     }
     Ok(Portion::Posts(printed))
 }
@@ -294,16 +289,15 @@ fn took_posts(alloc: Global, printed: &PrintedPosts) -> Piece
 }
 
 /// Takes up to so many posts: the answer to a `take`, a single piece.
-pub(crate) fn answer_take<J: Naming, G: Gate, R: Wait>(
-    rt: &R,
-    shared: &Shared<'_, J, G>,
+pub(crate) fn answer_take<J: Naming, G: Gate, R: Wait + Clock>(
+    shared: &Shared<'_, J, G, R>,
     session: &mut SharedSession<J>,
     most: u64,
 ) -> Piece
     requires { 0 < most }
     ensures { IsPiece session.old (Take most) [] result.text result.then session.new }
 {
-    match take_posts(rt, shared, session, most) {
+    match take_posts(shared, session, most) {
         Ok(Portion::Posts(printed)) => took_posts(shared.alloc, &printed),
         Ok(Portion::Empty(phase)) => Piece::last(phase_text(0, phase), None),
         Err(fault) => Piece::refusal(fault),

@@ -26,17 +26,16 @@ use std::time::Clock;
 const MOST_AT_ONCE: u64 = 64;
 
 /// The last piece of an answer to a `follow`.
-fn last<J: Naming, G: Gate, R: Wait>(rt: &R, shared: &Shared<'_, J, G>, text: Text) -> Piece
+fn last<J: Naming, G: Gate, R: Wait + Clock>(shared: &Shared<'_, J, G, R>, text: Text) -> Piece
     ensures { EndsWith text None result.text result.then }
 {
-    shared.gate.before_answer(rt, shared.number);
+    shared.gate.before_answer(shared.rt, shared.number);
     Piece::last(text, None)
 }
 
 /// What comes next where none wait: the session rests, or tells why there will be no more.
 fn pause<J: Naming, G: Gate, R: Wait + Clock>(
-    rt: &R,
-    shared: &Shared<'_, J, G>,
+    shared: &Shared<'_, J, G, R>,
     told: u64,
     phase: Phase,
 ) -> Piece
@@ -44,9 +43,9 @@ fn pause<J: Naming, G: Gate, R: Wait + Clock>(
     ensures over { phase ≢ Phase.Open → EndsWith (by_phase (count_text told) phase) None result.text result.then }
 {
     if phase != Phase::Open {
-        return last(rt, shared, phase_text(told, phase));
+        return last(shared, phase_text(told, phase));
     }
-    shared.bell.rest(rt);
+    shared.bell.rest(shared.rt);
     Piece {
         text: None,
         tells: false,
@@ -55,14 +54,14 @@ fn pause<J: Naming, G: Gate, R: Wait + Clock>(
 }
 
 /// Why no posts can be told.
-fn refuse<J: Naming, G: Gate, R: Wait>(rt: &R, shared: &Shared<'_, J, G>, fault: Fault) -> Piece
+fn refuse<J: Naming, G: Gate, R: Wait + Clock>(shared: &Shared<'_, J, G, R>, fault: Fault) -> Piece
     ensures lost { fault ≡ Fault.NoMemory → EndsWith (refusal NoMemory) (Some Memory) result.text result.then }
     ensures others { fault ≢ Fault.NoMemory → EndsWith (refusal fault) None result.text result.then }
 {
     if fault == Fault::NoMemory {
         return Piece::refusal(fault);
     }
-    last(rt, shared, Text::refusal(fault))
+    last(shared, Text::refusal(fault))
 }
 
 /// Posts, with which so many are told.
@@ -79,8 +78,7 @@ fn tell(printed: PrintedPosts, told: u64) -> Piece
 
 /// The next piece of the answer to a `follow` of so many posts, of which so many were told.
 pub(crate) fn follow<J: Naming, G: Gate, R: Wait + Clock>(
-    rt: &R,
-    shared: &Shared<'_, J, G>,
+    shared: &Shared<'_, J, G, R>,
     session: &mut SharedSession<J>,
     most: u64,
     told: u64,
@@ -90,14 +88,14 @@ pub(crate) fn follow<J: Naming, G: Gate, R: Wait + Clock>(
     ensures { (s : SharedView) (out : List ℕ) → IsSoFar s (Follow most) out told session.old → IsPiece s (Follow most) out result.text result.then session.new }
 {
     if told == most {
-        return last(rt, shared, Text::reply(Reply::Number(told)));
+        return last(shared, Text::reply(Reply::Number(told)));
     }
-    match take_posts(rt, shared, session, (most - told).min(MOST_AT_ONCE)) {
+    match take_posts(shared, session, (most - told).min(MOST_AT_ONCE)) {
         Ok(Portion::Posts(printed)) => {
             let told = told + printed.posts;
             tell(printed, told)
         }
-        Ok(Portion::Empty(phase)) => pause(rt, shared, told, phase),
-        Err(fault) => refuse(rt, shared, fault),
+        Ok(Portion::Empty(phase)) => pause(shared, told, phase),
+        Err(fault) => refuse(shared, fault),
     }
 }

@@ -1,36 +1,35 @@
 //! A session in a thread of its own: lines in, answers out, at a desk that others share.
-ghost use Rattle.std.specs.Prelude.{◌≡◌, ◌<◌, ◌≤◌, ◌⊎◌, ℕ, List, [], take, unwrap_or, Option, IsTrue, IfErr, OnOk, OnErr, Ok, None, Some};
-ghost use Rattle.mt_history.specs.Entries.{WitnessView};
+ghost use Rattle.std.specs.Prelude.{◌≡◌, ◌<◌, ◌≤◌, ◌⊎◌, ℕ, List, [], take, unwrap_or, Option, true, IsTrue, IfErr, OnOk, OnErr, Ok, None, Some};
 ghost use Rattle.std.specs.Io.KnownBytes.{Appends};
 ghost use Rattle.mt_lines.specs.Reading.{known_left, failed_calls, last_faults, limit_of, fault_of};
 ghost use Rattle.mt_lines.specs.Stream.{HasFailed, IsInterrupted};
 ghost use Rattle.mt_requests.specs.Requests.{request_of, HasRightCount};
 ghost use Rattle.mt_session.specs.Session.{line_limit, IsReadEnd, IsReadEndRun, IsCutCause, IsCutRun};
-ghost use Rattle.mt_session.specs.SharedTurns.{SharedView, SeesOn};
-ghost use Rattle.mt_session.specs.SharedSession.{ServedShared, ServedSharedLine, HasLeft};
-ghost use Rattle.mt_session.specs.SharedServing.{IsSoFar, IsPiece, IsWithin, IsCutPiece, ServesAsked, ServesLine};
+ghost use Rattle.mt_session.specs.Answering.{is_by_answer};
+ghost use Rattle.mt_session.specs.SharedTurns.{SharedView};
+ghost use Rattle.mt_session.specs.SharedSession.{ServedShared};
+ghost use Rattle.mt_session.specs.SharedServing.{IsSoFar, IsPiece, IsWithin, IsCutPiece, ServesAsked};
 
+use crate::answering::{Answers, answer_with, serve_lines};
 use crate::bell::Bell;
 use crate::gate::Gate;
-use crate::serving::{End, MOST_LINES, answer_with};
+use crate::serving::End;
 use crate::shared_answer::{Piece, Shared, Then, answer_close, answer_locked, answer_take, leave};
 use crate::shared_follow::follow;
 use crate::shared_session::SharedSession;
 use crate::text::Text;
 use mt_desk::desk::Desk;
 use mt_desk::lines::Naming;
-use mt_lines::line::{Line, LineReader};
+use mt_lines::line::LineReader;
 use mt_lines::stream::{Cut, Input, Output, find_reader, send};
 use mt_requests::request::{Request, read_request};
-use mt_skel::fault::Fault;
 use std::alloc::Global;
 use std::sync::{Mutex, Wait};
 use std::time::Clock;
 
 /// The next piece of the answer to a request, of which so many posts were told.
 fn next_piece<J: Naming, G: Gate, R: Wait + Clock>(
-    rt: &R,
-    shared: &Shared<'_, J, G>,
+    shared: &Shared<'_, J, G, R>,
     session: &mut SharedSession<J>,
     request: &Request,
     told: u64,
@@ -40,17 +39,17 @@ fn next_piece<J: Naming, G: Gate, R: Wait + Clock>(
     ensures { (s : SharedView) (out : List ℕ) → IsSoFar s request.now out told session.old → IsPiece s request.now out result.text result.then session.new }
 {
     if let Request::Follow(most) = request {
-        return follow(rt, shared, session, *most, told);
+        return follow(shared, session, *most, told);
     }
     if let Request::Take(most) = request {
-        let piece = answer_take(rt, shared, session, *most);
-        shared.gate.before_answer(rt, shared.number);
+        let piece = answer_take(shared, session, *most);
+        shared.gate.before_answer(shared.rt, shared.number);
         return piece;
     }
     if matches!(request, Request::Close) {
-        return answer_close(rt, shared, session);
+        return answer_close(shared, session);
     }
-    answer_locked(rt, shared, session, request)
+    answer_locked(shared, session, request)
 }
 
 /// Sends a piece of an answer, or finds out whether the client is still there where it has no text.
@@ -71,8 +70,7 @@ fn send_piece<O: Output>(writer: &mut O, text: &Option<Text>) -> Result<(), Cut>
 
 /// Serves a request: how the session ends by it, if it does.
 fn serve_request<J: Naming, O: Output, G: Gate, R: Wait + Clock>(
-    rt: &R,
-    shared: &Shared<'_, J, G>,
+    shared: &Shared<'_, J, G, R>,
     session: &mut SharedSession<J>,
     writer: &mut O,
     request: &Request,
@@ -83,13 +81,13 @@ fn serve_request<J: Naming, O: Output, G: Gate, R: Wait + Clock>(
     ensures cut_run { IsTrue O.counts → O.faults writer.old ≡ [] → IsCutRun result (O.faults writer.new) }
 {
     let mut told = 0u64;
-    'pieces: for _piece in rt.forever() {
-        let piece = next_piece(rt, shared, session, request, told);
+    'pieces: for _piece in shared.rt.forever() {
+        let piece = next_piece(shared, session, request, told);
         if let Err(cut) = send_piece(writer, &piece.text) {
             return Some(End::Cut(cut));
         }
         if piece.tells {
-            shared.gate.taken(rt, shared.number);
+            shared.gate.taken(shared.rt, shared.number);
         }
         match piece.then {
             Then::More(count) => told = count,
@@ -99,97 +97,43 @@ fn serve_request<J: Naming, O: Output, G: Gate, R: Wait + Clock>(
     unreachable!()
 }
 
-/// Serves a line that was read whole: how the session ends by it, if it does.
-fn serve_text<J: Naming, O: Output, G: Gate, R: Wait + Clock>(
-    rt: &R,
-    shared: &Shared<'_, J, G>,
+/// Answers a line that was read whole: how the session ends by it, if it does.
+fn answer_line<J: Naming, O: Output, G: Gate, R: Wait + Clock>(
+    shared: &Shared<'_, J, G, R>,
     session: &mut SharedSession<J>,
-    line: &[u8],
     writer: &mut O,
+    line: &[u8],
 ) -> Option<End>
-    ensures served { ServesAsked session.old (request_of line.now) (O.contents writer.old) (O.contents writer.new) result session.new }
+    ensures answered { ServesAsked session.old (request_of line.now) (O.contents writer.old) (O.contents writer.new) result session.new }
+    ensures end { is_by_answer result ≡ true }
     ensures cut { IsTrue O.counts → IsCutCause result (O.failed writer.old) (O.failed writer.new) }
     ensures cut_run { IsTrue O.counts → O.faults writer.old ≡ [] → IsCutRun result (O.faults writer.new) }
 {
     match read_request(shared.alloc, line) {
-        Ok(request) => serve_request(rt, shared, session, writer, &request),
+        Ok(request) => serve_request(shared, session, writer, &request),
         Err(fault) => answer_with(writer, &Text::refusal(fault), None),
     }
 }
 
-/// Serves what a reader says of a line: how the session ends by it, if it does.
-fn serve_line<J: Naming, O: Output, G: Gate, R: Wait + Clock>(
-    rt: &R,
-    shared: &Shared<'_, J, G>,
-    session: &mut SharedSession<J>,
-    writer: &mut O,
-    line: Line,
-    bytes: &[u8],
-) -> Option<End>
-    ensures served { ServesLine line bytes.now session.old (O.contents writer.old) (O.contents writer.new) result session.new }
-    ensures cut { IsTrue O.counts → IsCutCause result (O.failed writer.old) (O.failed writer.new) }
-    ensures cut_run { IsTrue O.counts → O.faults writer.old ≡ [] → IsCutRun result (O.faults writer.new) }
-{
-    match line {
-        Line::Text => serve_text(rt, shared, session, bytes, writer),
-        Line::TooLong => answer_with(writer, &Text::refusal(Fault::TooLong), None),
-        Line::Unended => { answer_with(writer, &Text::refusal(Fault::BadLine), Some(End::Input)) }
-        Line::End => Some(End::Input),
-    }
-}
+/// A session in a thread of its own is answered at the desk, which others share.
+impl<'a, J: Naming, G: Gate, R: Wait + Clock> Answers for Shared<'a, J, G, R> {
+    ghost use Rattle.std.specs.Prelude.{⊤};
+    ghost use Rattle.mt_session.specs.SharedServing.{OnDesk};
 
-/// Serves one line: how the session ends by it, or by what came in its place, if it does.
-///
-/// One line leaves the reader, and its whole answer goes to the writer, before the next one is read (`served`). At the end
-/// of the input, and at a fault of the reader, nothing is written; of a fault the reader has lost no whole line. Where the
-/// session goes on, the reader has met no fault. [`serve_shared`] is the loop of this call.
-pub fn serve_shared_next<J: Naming, I: Input + Drop, O: Output, G: Gate, R: Wait + Clock>(
-    rt: &R,
-    shared: &Shared<'_, J, G>,
-    session: &mut SharedSession<J>,
-    lines: &mut LineReader<I>,
-    writer: &mut O,
-) -> Option<End>
-    requires fresh { fault_of lines.old ≡ None }
-    requires limit { limit_of lines.old ≡ line_limit }
-    ensures served { ServedSharedLine (known_left lines.old) (known_left lines.new) session.old session.new (O.contents writer.old) (O.contents writer.new) result }
-    ensures fresh { result ≡ None → fault_of lines.new ≡ None }
-    ensures limit { limit_of lines.new ≡ line_limit }
-    ensures read { IsTrue I.counts → IsReadEnd result (failed_calls lines.old) (failed_calls lines.new) }
-    ensures read_run { IsTrue I.counts → last_faults lines.old ≡ [] → IsReadEndRun result (last_faults lines.new) }
-    ensures cut { IsTrue O.counts → IsCutCause result (O.failed writer.old) (O.failed writer.new) }
-    ensures cut_run { IsTrue O.counts → O.faults writer.old ≡ [] → IsCutRun result (O.faults writer.new) }
-{
-    let line = match lines.next() {
-        Ok(line) => line,
-        Err(fault) => return Some(End::Read(fault)),
-    };
-    serve_line(rt, shared, session, writer, line, lines.line())
-}
+    type Session = SharedSession<J>;
 
-/// Serves lines until the session ends: how it does. What is said of it holds once its watcher is closed.
-fn serve_all<J: Naming, I: Input + Drop, O: Output, G: Gate, R: Wait + Clock>(
-    rt: &R,
-    shared: &Shared<'_, J, G>,
-    session: &mut SharedSession<J>,
-    lines: &mut LineReader<I>,
-    writer: &mut O,
-) -> End
-    requires none { session.old.own ≡ None }
-    requires fresh { fault_of lines.old ≡ None }
-    requires limit { limit_of lines.old ≡ line_limit }
-    ensures served { (v : WitnessView) → HasLeft session.new.own v.seen → SeesOn session.new.sight v → ServedShared (known_left lines.old) (known_left lines.new) (O.contents writer.old) (O.contents writer.new) result session.old.sight v }
-    ensures read { IsTrue I.counts → IsReadEnd (Some result) (failed_calls lines.old) (failed_calls lines.new) }
-    ensures read_run { IsTrue I.counts → last_faults lines.old ≡ [] → IsReadEndRun (Some result) (last_faults lines.new) }
-    ensures cut { IsTrue O.counts → IsCutCause (Some result) (O.failed writer.old) (O.failed writer.new) }
-    ensures cut_run { IsTrue O.counts → O.faults writer.old ≡ [] → IsCutRun (Some result) (O.faults writer.new) }
-{
-    'lines: for _count in 0..MOST_LINES {
-        if let Some(end) = serve_shared_next(rt, shared, session, lines, writer) {
-            return end;
-        }
+    ghost is_ready = { λ s. ⊤ };
+
+    ghost answers = { OnDesk };
+
+    fn answer<W: Output>(
+        &mut self,
+        session: &mut SharedSession<J>,
+        writer: &mut W,
+        line: &[u8],
+    ) -> Option<End> {
+        answer_line(self, session, writer, line)
     }
-    End::Spent
 }
 
 /// Serves the lines that a reader has left, one answer each, at a desk that other sessions share, until the session ends,
@@ -197,7 +141,7 @@ fn serve_all<J: Naming, I: Input + Drop, O: Output, G: Gate, R: Wait + Clock>(
 ///
 /// The reader has met no fault, and its lines are of at most `LINE_LIMIT` bytes (serving.rt). It is lent, so that its
 /// caller knows of its last calls: where it has ended the session, its last call failed, and none came after that. Each line
-/// is answered before the next one is read ([`serve_shared_next`]), and all of them that the reader had read whole at a fault.
+/// is answered before the next one is read (`serve_next` of answering.rt), and all of them that the reader had read whole at a fault.
 /// This is said of the bytes that are known of a stream: of one in memory, and of a stream over one.
 ///
 /// The desk is held while a request is done, and not while the session reads, writes, rests, or prints the posts that it
@@ -250,14 +194,15 @@ where
     ensures cut { IsTrue O.counts → IsCutCause (Some result) (O.failed writer.old) (O.failed writer.new) }
     ensures cut_run { IsTrue O.counts → O.faults writer.old ≡ [] → IsCutRun (Some result) (O.faults writer.new) }
 {
-    let shared = Shared {
+    let mut shared = Shared {
+        rt,
         desk,
         bell,
         gate,
         number,
         alloc,
     };
-    let end = serve_all(rt, &shared, session, lines, writer);
-    leave(rt, &shared, session);
+    let end = serve_lines(&mut shared, session, lines, writer);
+    leave(&shared, session);
     end
 }
