@@ -76,6 +76,11 @@ def options_fault(words):
     return "BadLine" if len(set(seen)) < len(seen) else None
 
 
+def are_attributes(rest):
+    """Whether there is one option, `set=`, and it is right."""
+    return len(rest) == 1 and rest[0].startswith(b"set=") and options_fault(rest) is None
+
+
 WORD_FAULTS = {
     "L": label_fault,
     "P": path_fault,
@@ -94,9 +99,9 @@ def fault_of(line):
     form = FORMS.get(command)
     if form is None or b"" in words or b"\0" in line:
         return "BadLine"
-    fixed = form.rstrip("?*")
+    fixed = form.rstrip("?*=")
     rest = words[len(fixed) :]
-    allowed = form[-1:] == "*" or rest == [] or (form[-1:] == "?" and rest == [b"less"])
+    allowed = form[-1:] == "*" or rest == [] or (form[-1:] == "?" and rest == [b"less"]) or (form[-1:] == "=" and are_attributes(rest))
     if len(words) < len(fixed) or not allowed:
         return "BadLine"
     faults = {WORD_FAULTS[kind](word) for kind, word in zip(fixed, words)}
@@ -113,6 +118,7 @@ WORDS = {
     "T": [b"1", b"8", b"1024"],
     "F": [b"1", b"8", b"1048576"],
     "?": [b"less"],
+    "=": [b"set=ro", b"set=noatime,nosuid", b"set=ro,ro", b"set=noatime,strictatime"],
     "*": [b"rec", b"set=ro", b"clr=ro", b"set=noatime", b"clr=atime,noexec", b"prop=shared", b"prop=slave", b"set=ro,ro"],
 }
 PIECES = (
@@ -128,7 +134,7 @@ def whole(chance):
     command = chance.choice(list(FORMS))
     words = [command]
     for kind in FORMS[command]:
-        times = 1 if kind not in "?*" else chance.randint(0, 1 if kind == "?" else 3)
+        times = 1 if kind not in "?*=" else chance.randint(0, 3 if kind == "*" else 1)
         words += [chance.choice(WORDS[kind]) for _ in range(times)]
     return b" ".join(words)
 

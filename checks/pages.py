@@ -1,5 +1,5 @@
 #!/usr/bin/env -S python3 -B
-"""The pages of docs/man/ and the completion of docs/completion/ say what is so. A program of the gate.
+"""The pages of docs/man/ and the completion of docs/completion/ say what is so, and docs/pages/template.html is sealed. A program of the gate.
 
 Usage: checks/pages.py MOUNTD MOUNTCTL
 
@@ -21,6 +21,7 @@ import tempfile
 from documents.lines import check_lines
 from documents.refusals import check_refusals
 from documents.steps import STEP, wait_for_socket
+from documents.template import check_template
 from harness import refusals
 from harness.runs import MOST_SECONDS, TOP, check, difference, failures, is_there, read, run, shown
 from sessions.cases import check_session
@@ -354,6 +355,7 @@ def main():
     check_examples(programs)
     check_offers(helps)
     check_options(programs["mountd"])
+    check_template()
     if failures:
         raise SystemExit(f"checks of the pages failed: {len(failures)}")
     print("the pages and the completion say what is so")

@@ -144,7 +144,15 @@ class Author:
     # The words of each command after its namespace.
 
     def mount(self, rows):
-        return [self.chance.choice(self.filesystems), self.path(rows)]
+        options = self.attributes_of_new() if self.chance.random() < self.attributes else []
+        return [self.chance.choice(self.filesystems), self.path(rows), *options]
+
+    def attributes_of_new(self):
+        """The attributes of a new mount, if any: now and then access times that clash."""
+        words = self.chance.sample(FLAGS, self.chance.randint(0, 2))
+        if self.chance.random() < 0.5:
+            words += self.chance.sample(TIMES, 1 if self.chance.random() < 0.9 else 2)
+        return [b"set=" + b",".join(words)] if words else []
 
     def bind(self, rows):
         return [self.chance.choice([self.path, self.point])(rows), self.path(rows)]

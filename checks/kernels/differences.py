@@ -80,8 +80,8 @@ ACCESS_TIMES = {b"noatime", b"strictatime"}
 
 
 def options(words):
-    """The words of each option of a setattr."""
-    named = (option.partition(b"=") for option in words[3:])
+    """The words of each option of a setattr, or of a mount."""
+    named = (option.partition(b"=") for option in words[4 if words[0] == b"mount" else 3 :])
     return {name: set(text.split(b",")) for name, _, text in named}
 
 
@@ -92,10 +92,11 @@ def is_empty(words):
 
 
 def has_no_clash(words):
-    """Whether the access times of a setattr clash for us alone, who take `relatime` for one."""
+    """Whether the access times of a setattr, or of a mount, clash for us alone, who take `relatime` for one."""
     asked = options(words)
     times = asked.get(b"set", set()) & ACCESS_TIMES
-    return len(times) == 0 or (len(times) == 1 and b"atime" in asked.get(b"clr", set()))
+    is_cleared = words[0] == b"mount" or b"atime" in asked.get(b"clr", set())
+    return len(times) == 0 or (len(times) == 1 and is_cleared)
 
 
 def is_root_destination(step):

@@ -163,9 +163,10 @@ class Kernel:
         self.enter(self.empty)
         self.spaces.pop(int(number)).close()
 
-    def mount(self, number, name, path):
+    def mount(self, number, name, path, *options):
         self.enter(self.spaces[int(number)])
-        syscalls.mount_filesystem(self.filesystems[name], path)
+        words = {word for option in options for word in option.removeprefix(b"set=").split(b",")}
+        syscalls.mount_filesystem(self.filesystems[name], path, words)
 
     def bind(self, number, source, path, flags=0):
         self.enter(self.spaces[int(number)])

@@ -1,6 +1,8 @@
 """The kernel's calls about mounts and namespaces, each an OSError where it is refused. A module, a part of kernel.py."""
 import ctypes
 import errno
+import functools
+import operator
 import os
 
 LIBC = ctypes.CDLL(None, use_errno=True)
@@ -84,9 +86,9 @@ def umount(target, flags=0):
     return checked(LIBC.umount2(target, flags))
 
 
-def mount_setattr(path, attr_set=0, attr_clr=0, propagation=0, flags=0):
+def mount_setattr(path, attr_set=0, attr_clr=0, propagation=0, flags=0, folder=AT_FDCWD):
     attr = MountAttr(attr_set, attr_clr, propagation, 0)
-    return call(MOUNT_SETATTR, AT_FDCWD, path, flags, ctypes.byref(attr), ctypes.sizeof(attr))
+    return call(MOUNT_SETATTR, folder, path, flags, ctypes.byref(attr), ctypes.sizeof(attr))
 
 
 def new_filesystem(kind, source):
@@ -100,10 +102,17 @@ def new_filesystem(kind, source):
         os.close(opened)
 
 
-def mount_filesystem(filesystem, path):
-    """Mounts at a path the root of such a filesystem, which is private and stands on top there."""
+def mount_filesystem(filesystem, path, words=()):
+    """Mounts at a path the root of such a filesystem, which is private and stands on top there, with attributes.
+
+    As mount(2) does, it looks up the path first, and no mount is seen without them.
+    """
+    os.stat(path)
     tree = call(OPEN_TREE, filesystem, b"", OPEN_TREE_CLONE | AT_EMPTY_PATH | os.O_CLOEXEC)
     try:
+        if words:
+            attributes = functools.reduce(operator.or_, (ATTRIBUTES[word] for word in words))
+            mount_setattr(b"", attributes, ATTRIBUTES[b"atime"], flags=AT_EMPTY_PATH, folder=tree)
         call(MOVE_MOUNT, tree, b"", AT_FDCWD, path, MOVE_MOUNT_F_EMPTY_PATH)
     finally:
         os.close(tree)

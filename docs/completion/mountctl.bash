@@ -15,6 +15,7 @@ _mountctl_words()
     case $1:$count in
         :0) echo mkfs mkdir newns copyns dropns mount bind rbind move pivot umount detach setattr show find watch take follow close quit stop - monitor mirror tree dot spaces what-if ;;
         copyns:2) echo less ;;
+        mount:4) echo set={ro,nosuid,nodev,noexec,nosymfollow,nodiratime,relatime,noatime,strictatime} ;;
         watch:1 | dot:1) echo all ;;
         show:2 | find:3) echo --json ;;
         tree:[12])

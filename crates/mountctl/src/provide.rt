@@ -209,7 +209,7 @@ pub(crate) fn provide<R: Input + Drop, W: Output>(
         return Ok(());
     };
     match (Verb::of(verb.as_bytes()), behind) {
-        (Some(Verb::Mount), [space, filesystem, path]) => {
+        (Some(Verb::Mount), [space, filesystem, path, ..]) => {
             let name = filesystem.as_bytes();
             let _made = answer_to(alloc, &[b"mkfs", name, name, b"none"], lines, writer)?;
             provide_path(

@@ -7,7 +7,7 @@ use Rattle.mt_skel.specs.declared.fault.Fault.{Fault}
 use Rattle.mt_skel.specs.Outcome.{refusal_of, refuse_if, outcome}
 use Rattle.mt_skel.proofs.OutcomeLaws.{not_refused, accepted, passed, stopped}
 use Rattle.mt_skel.specs.Skeleton.{fs_named}
-use Rattle.mt_skel.specs.declared.fault.Fault.TheVariants.{NotMountRoot, RootPlace, SharedParent, IntoItself, Unbindable, UnbindableInside, TooMany}
+use Rattle.mt_skel.specs.declared.fault.Fault.TheVariants.{NotMountRoot, RootPlace, BadAttr, SharedParent, IntoItself, Unbindable, UnbindableInside, TooMany}
 use Rattle.mt_mounts.specs.declared.mount.Place.{Place}
 use Rattle.mt_mounts.specs.Forest.{is_below}
 use Rattle.mt_mounts.specs.Walk.{walk}
@@ -17,8 +17,10 @@ use Rattle.mt_propagate.specs.Limits.{too_many_mounts, too_many_spaces}
 use Rattle.mt_propagate.specs.Copies.{Source, new_copies, copy_id}
 use Rattle.mt_propagate.specs.Copied.{copied}
 use Rattle.mt_bind.specs.Spaces.{originals, with_space, new_space_refusals, new_space, with_copy, copy_space_refusals, copy_space, without_space, drop_space_refusals, drop_space}
-use Rattle.mt_bind.specs.Sources.{fresh, source_at, tree_of}
-use Rattle.mt_bind.specs.Mounting.{stands_on_shared, any_unbindable, mounted_refusals, mounted, bound_refusals, bound, moved_refusals, moved, too_many, copied_with_id, mounted_effect, bound_effect, moved_effect}
+use Rattle.mt_setattr.specs.declared.change.SetWords.{SetWords}
+use Rattle.mt_setattr.specs.Words.{nothing_set, sets_two_times, new_with}
+use Rattle.mt_bind.specs.Sources.{fresh_with, source_at, tree_of}
+use Rattle.mt_bind.specs.Mounting.{stands_on_shared, any_unbindable, mounted_refusals, mounted_with, mounted, bound_refusals, bound, moved_refusals, moved, too_many, copied_with_id, mounted_effect, bound_effect, moved_effect}
 use Rattle.mt_bind.specs.Pivoting.{root_id, with_pivot, pivoted_refusals, pivoted}
 
 -- the place where a path ends
@@ -88,25 +90,31 @@ drop_space_accepted w n v e =
     record { there = not-false _ (not_refused _ _ a.1.0); world = a.0 }
 
 -- a mount
-pub record IsAcceptedMount (w : WorldView) (n : ℕ) (name : List ℕ) (path : List (List ℕ)) (v : WorldView) (i : ℕ) : Type 0 where
+pub record IsAcceptedMount (w : WorldView) (n : ℕ) (name : List ℕ) (path : List (List ℕ)) (set : SetWords) (v : WorldView) (i : ℕ) : Type 0 where
   pub named : fs_named w.skel name ≡ Some (fs_of w name)
   pub ended : walk w.skel w.forest n path ≡ Ok (path_end w n path)
   pub off_root : is_root_place w (path_end w n path) ≡ false
-  pub few : AreFew w (fresh w (fs_of w name)) (path_end w n path)
-  pub world : copied w (fresh w (fs_of w name)) (path_end w n path) ≡ v
-  pub id : copy_id w (fresh w (fs_of w name)) (path_end w n path) (path_end w n path).mount 0 ≡ i
+  pub one_time : sets_two_times set ≡ false
+  pub few : AreFew w (fresh_with w (fs_of w name) (new_with set)) (path_end w n path)
+  pub world : copied w (fresh_with w (fs_of w name) (new_with set)) (path_end w n path) ≡ v
+  pub id : copy_id w (fresh_with w (fs_of w name) (new_with set)) (path_end w n path) (path_end w n path).mount 0 ≡ i
 
-pub mount_accepted : (w : WorldView) (n : ℕ) (name : List ℕ) (path : List (List ℕ)) (v : WorldView) (i : ℕ) → mounted w n name path ≡ Ok (v, i) → IsAcceptedMount w n name path v i
-mount_accepted w n name path v i e =
-    let a = accepted (mounted_refusals w (fs_named w.skel name) (walk w.skel w.forest n path)) _ _ e in
+pub mount_with_accepted : (w : WorldView) (n : ℕ) (name : List ℕ) (path : List (List ℕ)) (set : SetWords) (v : WorldView) (i : ℕ) → mounted_with w n name path set ≡ Ok (v, i) → IsAcceptedMount w n name path set v i
+mount_with_accepted w n name path set v i e =
+    let a = accepted (mounted_refusals w set (fs_named w.skel name) (walk w.skel w.forest n path)) _ _ e in
     record {
       named = has_name _ (not_refused _ _ a.1.0);
       ended = has_ended _ a.1.1.0;
       off_root = not_refused _ _ a.1.1.1.0;
-      few = not_refused _ _ a.1.1.1.1.0;
+      one_time = not_refused _ _ a.1.1.1.1.0;
+      few = not_refused _ _ a.1.1.1.1.1.0;
       world = ap (λ x. x.0) a.0;
       id = ap (λ x. x.1) a.0;
     }
+
+-- one of which nothing is said
+pub mount_accepted : (w : WorldView) (n : ℕ) (name : List ℕ) (path : List (List ℕ)) (v : WorldView) (i : ℕ) → mounted w n name path ≡ Ok (v, i) → IsAcceptedMount w n name path nothing_set v i
+mount_accepted w n name path v i e = mount_with_accepted w n name path nothing_set v i e
 
 -- a bind
 pub record IsAcceptedBind (w : WorldView) (n : ℕ) (recursive : Bool) (from to : List (List ℕ)) (v : WorldView) (i : ℕ) : Type 0 where
@@ -202,10 +210,14 @@ module _ {T : Type 0} {w : WorldView} {src : Source} {p : Place} {effect : T} {o
   pub planned_refused : (f : Fault) → (f ≡ TooMany) × IsTrue (too_many_mounts w (length (new_copies w given p))) → o ≡ Err f
   planned_refused f r = late.decided ∙ stopped _ TooMany [] _ (judged ∙ r.1) ∙ ap (λ (f : Fault). Err f) (sym r.0)
 
--- a mount whose filesystem is named and whose path ends off a root place
-pub mounted_late : (w : WorldView) (n : ℕ) (name : List ℕ) (path : List (List ℕ)) (f : ℕ) (p : Place) → fs_named w.skel name ≡ Some f → walk w.skel w.forest n path ≡ Ok p → is_root_place w p ≡ false
-    → IsLate (mounted w n name path) w (fresh w f) p (copied_with_id w (fresh w f) p)
-mounted_late w n name path f p named ended off = record { decided = (λ i. outcome (mounted_refusals w (named i) (ended i)) (mounted_effect w (named i) (ended i))) ∙ passed (is_root_place w p) RootPlace _ _ off }
+-- a mount whose filesystem is named, whose path ends off a root place, and of which at most one access time is said
+pub mounted_late : (w : WorldView) (n : ℕ) (name : List ℕ) (path : List (List ℕ)) (set : SetWords) (f : ℕ) (p : Place) → fs_named w.skel name ≡ Some f → walk w.skel w.forest n path ≡ Ok p → is_root_place w p ≡ false
+    → sets_two_times set ≡ false → IsLate (mounted_with w n name path set) w (fresh_with w f (new_with set)) p (copied_with_id w (fresh_with w f (new_with set)) p)
+mounted_late w n name path set f p named ended off one = record {
+  decided = (λ i. outcome (mounted_refusals w set (named i) (ended i)) (mounted_effect w set (named i) (ended i)))
+      ∙ passed (is_root_place w p) RootPlace _ _ off
+      ∙ passed (sets_two_times set) BadAttr _ _ one;
+}
 
 -- a bind whose paths end, the other one off a root place, and whose mount may be bound
 pub bound_late : (w : WorldView) (n : ℕ) (recursive : Bool) (from to : List (List ℕ)) (s p : Place) → walk w.skel w.forest n from ≡ Ok s → walk w.skel w.forest n to ≡ Ok p → is_root_place w p ≡ false

@@ -21,8 +21,9 @@ use Rattle.mt_propagate.proofs.PrivateLaws.{only-private, rising}
 use Rattle.mt_propagate.proofs.RowLaws.{row-first, part-filtered}
 use Rattle.mt_propagate.proofs.ShownLaws.{grouped-state, state-mount}
 use Rattle.mt_propagate.proofs.WalkLaws.{root_fits}
+use Rattle.mt_setattr.specs.declared.change.SetWords.{SetWords}
 use Rattle.mt_bind.specs.Spaces.{with_space, new_space, with_copy, copy_space, without_space}
-use Rattle.mt_bind.specs.Mounting.{mounted, bound, moved}
+use Rattle.mt_bind.specs.Mounting.{mounted_with, bound, moved}
 use Rattle.mt_bind.proofs.AcceptedLaws.{fs_of, new_space_accepted, copy_space_accepted}
 use Rattle.mt_bind.proofs.SpaceLaws.{new_root}
 use Rattle.mt_bind.proofs.NamespaceCopyLaws.{old-in, copy-in}
@@ -38,11 +39,11 @@ copying_outside : (n : ℕ) (w v : WorldView) → IsWellFormed w → IsContained
 copying_outside n w v h c m = subst (IsSameOutside n w) m.made (copied-outside w h m.src m.dest m.source m.destination m.near n c m.here)
 
 -- a mount, a bind and a move keep contained namespaces contained, and made in one they change nothing outside it
-pub mount_contained : (k : ℕ) (w : WorldView) (n : ℕ) (name : List ℕ) (path : List (List ℕ)) (v : WorldView) (i : ℕ) → IsWellFormed w → IsContained k w → mounted w n name path ≡ Ok (v, i) → IsContained k v
-mount_contained k w n name path v i h c e = copying_contained k n w v h c (mount_copies w n name path v i h e)
+pub mount_contained : (k : ℕ) (w : WorldView) (n : ℕ) (name : List ℕ) (path : List (List ℕ)) (set : SetWords) (v : WorldView) (i : ℕ) → IsWellFormed w → IsContained k w → mounted_with w n name path set ≡ Ok (v, i) → IsContained k v
+mount_contained k w n name path set v i h c e = copying_contained k n w v h c (mount_copies w n name path set v i h e)
 
-pub mount_outside : (w : WorldView) (n : ℕ) (name : List ℕ) (path : List (List ℕ)) (v : WorldView) (i : ℕ) → IsWellFormed w → IsContained n w → mounted w n name path ≡ Ok (v, i) → IsSameOutside n w v
-mount_outside w n name path v i h c e = copying_outside n w v h c (mount_copies w n name path v i h e)
+pub mount_outside : (w : WorldView) (n : ℕ) (name : List ℕ) (path : List (List ℕ)) (set : SetWords) (v : WorldView) (i : ℕ) → IsWellFormed w → IsContained n w → mounted_with w n name path set ≡ Ok (v, i) → IsSameOutside n w v
+mount_outside w n name path set v i h c e = copying_outside n w v h c (mount_copies w n name path set v i h e)
 
 pub bind_contained : (k : ℕ) (w : WorldView) (n : ℕ) (recursive : Bool) (from to : List (List ℕ)) (v : WorldView) (i : ℕ) → IsWellFormed w → IsContained k w → bound w n recursive from to ≡ Ok (v, i) → IsContained k v
 bind_contained k w n recursive from to v i h c e = copying_contained k n w v h c (bind_copies w n recursive from to v i h e)

@@ -3,6 +3,7 @@ use Rattle.std.proofs.Common.{◌≡◌, ℕ, Bool, true, false, List, Option, S
 use Rattle.std.specs.Prelude.{unwrap_or}
 use Rattle.mt_skel.specs.Outcome.{refusal_of}
 use Rattle.mt_skel.specs.Skeleton.{root_of}
+use Rattle.mt_mounts.specs.declared.mount.Attrs.{Attrs}
 use Rattle.mt_mounts.specs.declared.mount.Mount.{Mount}
 use Rattle.mt_mounts.specs.declared.mount.Place.{Place}
 use Rattle.mt_mounts.specs.Forest.{mount_at, is_below}
@@ -17,9 +18,11 @@ use Rattle.mt_propagate.specs.Sound.{IsSource, IsDestination}
 use Rattle.mt_propagate.proofs.WalkLaws.{walked}
 use Rattle.mt_propagate.proofs.ContainedLaws.{below-space, ended-inside}
 use Rattle.mt_propagate.proofs.MovedLaws.{source_kept}
-use Rattle.mt_bind.specs.Sources.{fresh, source_at, tree_of}
-use Rattle.mt_bind.specs.Mounting.{mounted, bound, moved}
-use Rattle.mt_bind.proofs.AcceptedLaws.{path_end, fs_of, mount_accepted, bind_accepted, move_accepted}
+use Rattle.mt_setattr.specs.declared.change.SetWords.{SetWords}
+use Rattle.mt_setattr.specs.Words.{new_with}
+use Rattle.mt_bind.specs.Sources.{fresh_with, source_at, tree_of}
+use Rattle.mt_bind.specs.Mounting.{mounted_with, bound, moved}
+use Rattle.mt_bind.proofs.AcceptedLaws.{path_end, fs_of, mount_with_accepted, bind_accepted, move_accepted}
 use Rattle.mt_bind.proofs.TreeOfLaws.{below_self, tree_source, tree_below}
 use Rattle.mt_bind.proofs.SourceLaws.{fresh_is_source, alone_is_source, alone_only, holds_there, no_zero, one_row, within_source, within_below}
 
@@ -48,8 +51,8 @@ near_below : (w : WorldView) → IsWellFormed w → (top n : ℕ) (ms : List Mou
     → (i : ℕ) (m q : Mount) → mount_at ms i ≡ Some m → mount_at w.forest i ≡ Some q → q.space ≡ space_of w dest.mount
 near_below w h top n ms dest below at here i m q e f = sym (below-space w h top i q f (below i m e)) ∙ at ∙ sym here
 
-fresh_near : (w : WorldView) → IsWellFormed w → (fs : ℕ) (dest : Place) → IsLocal w (fresh w fs) dest
-fresh_near w h fs dest i m q e f = no_zero w h q (ap (mount_at w.forest) (sym (one_row (record unknown { root = root_of w.skel fs }) i m e).0) ∙ f)
+fresh_near : (w : WorldView) → IsWellFormed w → (fs : ℕ) (attrs : Attrs) (dest : Place) → IsLocal w (fresh_with w fs attrs) dest
+fresh_near w h fs attrs dest i m q e f = no_zero w h q (ap (mount_at w.forest) (sym (one_row (record unknown { root = root_of w.skel fs; attrs = attrs }) i m e).0) ∙ f)
 
 -- where the place is the end of a path, off a root place
 copying : (w v : WorldView) (n : ℕ) (path : List (List ℕ)) (src : Source) → IsWellFormed w → walk w.skel w.forest n path ≡ Ok (path_end w n path) → is_root_place w (path_end w n path) ≡ false → copied w src (path_end w n path) ≡ v
@@ -59,18 +62,19 @@ copying w v n path src h ended off made source near =
     let here = ended-inside w h n path (ap refusal_of ended) in
     record { src = src; dest = p; made = made; source = source; destination = destination w n path p h ended off; near = near here; here = here }
 
-pub mount_copies : (w : WorldView) (n : ℕ) (name : List ℕ) (path : List (List ℕ)) (v : WorldView) (i : ℕ) → IsWellFormed w → mounted w n name path ≡ Ok (v, i) → IsCopying n w v
-mount_copies w n name path v i h e =
-    let a = mount_accepted w n name path v i e in
+pub mount_copies : (w : WorldView) (n : ℕ) (name : List ℕ) (path : List (List ℕ)) (set : SetWords) (v : WorldView) (i : ℕ) → IsWellFormed w → mounted_with w n name path set ≡ Ok (v, i) → IsCopying n w v
+mount_copies w n name path set v i h e =
+    let a = mount_with_accepted w n name path set v i e in
     let fs = fs_of w name in
     let p = path_end w n path in
     let r = (walked w n h path p a.ended).0 in
     let low = holds_there w.skel r.0.root p.dir r.3 in
-    copying w v n path (fresh w fs) h a.ended a.off_root a.world (fresh_is_source w h fs p (omega (arith, low))) (λ here. fresh_near w h fs p)
+    let attrs = new_with set in
+    copying w v n path (fresh_with w fs attrs) h a.ended a.off_root a.world (fresh_is_source w h fs attrs p (omega (arith, low))) (λ here. fresh_near w h fs attrs p)
 
 -- a world stays well-formed through a mount that is accepted
-pub mount_keeps : (w : WorldView) (n : ℕ) (name : List ℕ) (path : List (List ℕ)) (v : WorldView) (i : ℕ) → IsWellFormed w → mounted w n name path ≡ Ok (v, i) → IsWellFormed v
-mount_keeps w n name path v i h e = copying_keeps n w v h (mount_copies w n name path v i h e)
+pub mount_keeps : (w : WorldView) (n : ℕ) (name : List ℕ) (path : List (List ℕ)) (set : SetWords) (v : WorldView) (i : ℕ) → IsWellFormed w → mounted_with w n name path set ≡ Ok (v, i) → IsWellFormed v
+mount_keeps w n name path set v i h e = copying_keeps n w v h (mount_copies w n name path set v i h e)
 
 -- what is bound from the end of a walk is a source tree
 pub bound_source : (w : WorldView) (n : ℕ) (from : List (List ℕ)) (recursive : Bool) (p dest : Place) → IsWellFormed w → walk w.skel w.forest n from ≡ Ok p → IsSource w (source_at w recursive p) dest

@@ -10,12 +10,14 @@ use Rattle.mt_propagate.specs.World.{WorldView}
 use Rattle.mt_propagate.specs.Limits.{too_many_mounts}
 use Rattle.mt_propagate.proofs.SizeLaws.{IsSized, few_pass, copied_sized}
 use Rattle.mt_bind.specs.Spaces.{originals, new_space, with_space, copy_space, with_copy, drop_space, without_space}
-use Rattle.mt_bind.specs.Sources.{fresh, top_at, is_bound_along, source_at, tree_of}
-use Rattle.mt_bind.specs.Mounting.{mounted, bound, moved}
+use Rattle.mt_setattr.specs.declared.change.SetWords.{SetWords}
+use Rattle.mt_setattr.specs.Words.{new_with}
+use Rattle.mt_bind.specs.Sources.{fresh_with, top_at, is_bound_along, source_at, tree_of}
+use Rattle.mt_bind.specs.Mounting.{mounted_with, bound, moved}
 use Rattle.mt_bind.specs.Pivoting.{root_id, pivoted_mount, with_pivot, pivoted}
 use Rattle.mt_bind.proofs.SpaceLaws.{new_root}
 use Rattle.mt_bind.proofs.NamespaceCopyLaws.{copy}
-use Rattle.mt_bind.proofs.AcceptedLaws.{path_end, fs_of, new_space_accepted, copy_space_accepted, drop_space_accepted, mount_accepted, bind_accepted, move_accepted, pivot_accepted}
+use Rattle.mt_bind.proofs.AcceptedLaws.{path_end, fs_of, new_space_accepted, copy_space_accepted, drop_space_accepted, mount_with_accepted, bind_accepted, move_accepted, pivot_accepted}
 
 -- a namespace more, with these mounts
 added_sized : (w v : WorldView) (ms : List Mount) → too_many_mounts w (length ms) ≡ false → v.forest ≡ w.forest ++ ms → v.next_mount ≡ w.next_mount + length ms → v.next_space ≡ w.next_space + 1 → v.peering.next ≡ w.peering.next → IsSized w v 1
@@ -49,10 +51,10 @@ dropped_sized w v n few e =
     subst (λ (x : WorldView). IsSized w x 0) (drop_space_accepted w n v e).world (same_sized w (without_space w n) few (few_pass (λ (m : Mount). not (m.space == n)) w.forest) (refl, refl, refl))
 
 -- a mount
-pub mount_sized : (w v : WorldView) (n : ℕ) (name : List ℕ) (path : List (List ℕ)) (i : ℕ) → mounted w n name path ≡ Ok (v, i) → IsSized w v 0
-mount_sized w v n name path i e =
-    let a = mount_accepted w n name path v i e in
-    subst (λ (x : WorldView). IsSized w x 0) a.world (copied_sized w (fresh w (fs_of w name)) (path_end w n path) (omega arith) a.few)
+pub mount_sized : (w v : WorldView) (n : ℕ) (name : List ℕ) (path : List (List ℕ)) (set : SetWords) (i : ℕ) → mounted_with w n name path set ≡ Ok (v, i) → IsSized w v 0
+mount_sized w v n name path set i e =
+    let a = mount_with_accepted w n name path set v i e in
+    subst (λ (x : WorldView). IsSized w x 0) a.world (copied_sized w (fresh_with w (fs_of w name) (new_with set)) (path_end w n path) (omega arith) a.few)
 
 -- a bind
 pub bind_sized : (w v : WorldView) (n : ℕ) (recursive : Bool) (from to : List (List ℕ)) (i : ℕ) → length w.forest ≤ 4096 → bound w n recursive from to ≡ Ok (v, i) → IsSized w v 0

@@ -9,6 +9,7 @@ use Rattle.std.proofs.lemmas.Bool.{cases_eq, ne_eqb, and_parts, and_from}
 use Rattle.mt_skel.specs.Skeleton.{Skeleton, Directory, directory, holds, directory_number, root_of}
 use Rattle.mt_skel.proofs.KeyedLaws.{row_at-key, rises-map, rises-filter}
 use Rattle.mt_skel.proofs.SkeletonLaws.{at_number, holds-Decides}
+use Rattle.mt_mounts.specs.declared.mount.Attrs.{Attrs}
 use Rattle.mt_mounts.specs.declared.mount.Mount.{Mount}
 use Rattle.mt_mounts.specs.declared.mount.Place.{Place}
 use Rattle.mt_mounts.specs.Forest.{id_of, mount_at, is_below}
@@ -24,7 +25,7 @@ use Rattle.mt_propagate.proofs.KeyLaws.{group_known, master_known}
 use Rattle.mt_propagate.proofs.CopyRowLaws.{state_at_mount, root_is}
 use Rattle.mt_propagate.proofs.TreeLaws.{parent-is}
 use Rattle.mt_propagate.proofs.RowLaws.{picked-row, row-picked, mapped-row, row-mapped}
-use Rattle.mt_bind.specs.Sources.{fresh, alone, top_at, tree_within, is_bindable, stands_within, leads_within, is_bound_along, path_to}
+use Rattle.mt_bind.specs.Sources.{fresh_with, alone, top_at, tree_within, is_bindable, stands_within, leads_within, is_bound_along, path_to}
 use Rattle.mt_bind.proofs.TreeOfLaws.{part_tree, below_self, below_parent, below_has_parent, above_not_below, path_top, path_step}
 
 -- a directory that another holds is there, and of the filesystem of the other
@@ -69,9 +70,9 @@ module _ (w : WorldView) (h : IsWellFormed w) where
   zero_state i s z e = let q = state_at_mount w h i s e in no_zero q.0 (ap (mount_at w.forest) (sym z) ∙ q.1)
 
   -- a fresh mount
-  pub fresh_is_source : (fs : ℕ) (dest : Place) → 0 < length w.skel.directories → IsSource w (fresh w fs) dest
-  fresh_is_source fs dest some =
-      let m : Mount = record unknown { root = root_of w.skel fs } in
+  pub fresh_is_source : (fs : ℕ) (attrs : Attrs) (dest : Place) → 0 < length w.skel.directories → IsSource w (fresh_with w fs attrs) dest
+  fresh_is_source fs attrs dest some =
+      let m : Mount = record unknown { root = root_of w.skel fs; attrs = attrs } in
       record {
         tree = one_tree w.skel m (λ p e. let v : None ≡ Some p = e in absurd (cc)) (root_there w.skel fs some);
         group_fs = λ i g x e is. zero_state i (state_of w i) (one_row m i x e).0 (group_known w i g is);

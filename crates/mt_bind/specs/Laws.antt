@@ -4,8 +4,9 @@ use Rattle.std.specs.Prelude.{◌≡◌, ◌≢◌, ℕ, ◌<◌, Bool, true, Li
 use Rattle.mt_propagate.specs.World.{WorldView}
 use Rattle.mt_propagate.specs.WellFormed.{IsWellFormed}
 use Rattle.mt_propagate.specs.Contained.{IsContained, IsSameOutside}
+use Rattle.mt_setattr.specs.declared.change.SetWords.{SetWords}
 use Rattle.mt_bind.specs.Spaces.{new_space, with_copy, copy_space, without_space}
-use Rattle.mt_bind.specs.Mounting.{mounted, bound, moved}
+use Rattle.mt_bind.specs.Mounting.{mounted_with, bound, moved}
 use Rattle.mt_bind.specs.Pivoting.{pivoted}
 
 -- a world stays well-formed when a namespace is copied, whether into one less privileged or not; where the namespace has no
@@ -19,7 +20,7 @@ EndingKeeps = (w : WorldView) → IsWellFormed w → (n : ℕ) → IsWellFormed 
 
 -- a world stays well-formed through a mount that is accepted (mount_namespaces(7); `sharedsubtree`, mount states)
 abbrev pub MountKeeps : Type 0
-MountKeeps = (w : WorldView) (n : ℕ) (name : List ℕ) (path : List (List ℕ)) (v : WorldView) (i : ℕ) → IsWellFormed w → mounted w n name path ≡ Ok (v, i) → IsWellFormed v
+MountKeeps = (w : WorldView) (n : ℕ) (name : List ℕ) (path : List (List ℕ)) (set : SetWords) (v : WorldView) (i : ℕ) → IsWellFormed w → mounted_with w n name path set ≡ Ok (v, i) → IsWellFormed v
 
 -- and through a bind, of one mount or of a tree (`sharedsubtree`, bind and rbind semantics)
 abbrev pub BindKeeps : Type 0
@@ -41,7 +42,7 @@ LessIsContained = (w : WorldView) (m : ℕ) (v : WorldView) (n : ℕ) → IsWell
 -- a contained namespace stays so through a mount that is accepted, in whichever namespace
 abbrev pub MountKeepsContained : Type 0
 MountKeepsContained =
-    (k : ℕ) (w : WorldView) (n : ℕ) (name : List ℕ) (path : List (List ℕ)) (v : WorldView) (i : ℕ) → IsWellFormed w → IsContained k w → mounted w n name path ≡ Ok (v, i) → IsContained k v
+    (k : ℕ) (w : WorldView) (n : ℕ) (name : List ℕ) (path : List (List ℕ)) (set : SetWords) (v : WorldView) (i : ℕ) → IsWellFormed w → IsContained k w → mounted_with w n name path set ≡ Ok (v, i) → IsContained k v
 
 -- through a bind
 abbrev pub BindKeepsContained : Type 0
@@ -71,7 +72,7 @@ EndKeepsContained = (k : ℕ) (w : WorldView) (n : ℕ) → IsWellFormed w → I
 
 -- a mount in a contained namespace changes nothing outside it
 abbrev pub MountStaysInside : Type 0
-MountStaysInside = (w : WorldView) (n : ℕ) (name : List ℕ) (path : List (List ℕ)) (v : WorldView) (i : ℕ) → IsWellFormed w → IsContained n w → mounted w n name path ≡ Ok (v, i) → IsSameOutside n w v
+MountStaysInside = (w : WorldView) (n : ℕ) (name : List ℕ) (path : List (List ℕ)) (set : SetWords) (v : WorldView) (i : ℕ) → IsWellFormed w → IsContained n w → mounted_with w n name path set ≡ Ok (v, i) → IsSameOutside n w v
 
 -- nor does a bind
 abbrev pub BindStaysInside : Type 0

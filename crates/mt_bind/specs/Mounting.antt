@@ -5,7 +5,7 @@ use Rattle.std.specs.Prelude.{ℕ, Bool, false, not, ◌&&◌, List, [], ◌∷�
 use Rattle.std.specs.List.{list_any}
 use Rattle.std.specs.Option.{unwrap_or, option_map_or}
 use Rattle.mt_skel.specs.declared.fault.Fault.{Fault}
-use Rattle.mt_skel.specs.declared.fault.Fault.TheVariants.{NoFilesystem, RootPlace, TooMany, Unbindable, NotMountRoot, SharedParent, IntoItself, UnbindableInside}
+use Rattle.mt_skel.specs.declared.fault.Fault.TheVariants.{NoFilesystem, RootPlace, BadAttr, TooMany, Unbindable, NotMountRoot, SharedParent, IntoItself, UnbindableInside}
 use Rattle.mt_skel.specs.Outcome.{refuse_if, refusal_of, outcome}
 use Rattle.mt_skel.specs.Skeleton.{fs_named}
 use Rattle.mt_mounts.specs.declared.mount.Mount.{Mount}
@@ -17,7 +17,9 @@ use Rattle.mt_propagate.specs.Named.{place_or_nowhere, is_root_place, is_root_mo
 use Rattle.mt_propagate.specs.Limits.{too_many_mounts}
 use Rattle.mt_propagate.specs.Copies.{Source, new_copies, copy_id}
 use Rattle.mt_propagate.specs.Copied.{copied}
-use Rattle.mt_bind.specs.Sources.{fresh, source_at, tree_of}
+use Rattle.mt_setattr.specs.declared.change.SetWords.{SetWords}
+use Rattle.mt_setattr.specs.Words.{nothing_set, sets_two_times, new_with}
+use Rattle.mt_bind.specs.Sources.{fresh_with, source_at, tree_of}
 
 module _ (w : WorldView) where
   -- the copies are too many
@@ -36,25 +38,31 @@ module _ (w : WorldView) where
   abbrev pub any_unbindable : ℕ → Bool
   any_unbindable i = list_any (λ (m : Mount). (state_of w m.id).unbindable) (tree_of w i).mounts
 
-  -- the refusals of a mount, of the filesystem that was found
-  abbrev pub mounted_refusals : Option ℕ → Result Place Fault → List (Option Fault)
-  mounted_refusals fs to =
+  -- the refusals of a mount with attributes, of the filesystem that was found (two access times at once: mount_setattr(2); where
+  -- this comes: this project's rule)
+  abbrev pub mounted_refusals : SetWords → Option ℕ → Result Place Fault → List (Option Fault)
+  mounted_refusals set fs to =
       let p = place_or_nowhere to in
       refuse_if (is_none fs) NoFilesystem
       ∷ refusal_of to
       ∷ refuse_if (is_root_place w p) RootPlace
-      ∷ too_many (fresh w (unwrap_or fs 0)) p ∷ []
+      ∷ refuse_if (sets_two_times set) BadAttr
+      ∷ too_many (fresh_with w (unwrap_or fs 0) (new_with set)) p ∷ []
 
-  abbrev pub mounted_effect : Option ℕ → Result Place Fault → WorldView × ℕ
-  mounted_effect fs to = copied_with_id (fresh w (unwrap_or fs 0)) (place_or_nowhere to)
+  abbrev pub mounted_effect : SetWords → Option ℕ → Result Place Fault → WorldView × ℕ
+  mounted_effect set fs to = copied_with_id (fresh_with w (unwrap_or fs 0) (new_with set)) (place_or_nowhere to)
 
-  -- a new mount of a filesystem where a path ends, and its ID (`sharedsubtree`, mount semantics; that a root place is no
-  -- destination is this project's rule)
-  abbrev pub mounted : ℕ → List ℕ → List (List ℕ) → Result (WorldView × ℕ) Fault
-  mounted n name path =
+  -- a new mount of a filesystem where a path ends, with attributes, and its ID (`sharedsubtree`, mount semantics; mount(2); that a
+  -- root place is no destination is this project's rule)
+  abbrev pub mounted_with : ℕ → List ℕ → List (List ℕ) → SetWords → Result (WorldView × ℕ) Fault
+  mounted_with n name path set =
       let fs = fs_named w.skel name in
       let place = walk w.skel w.forest n path in
-      outcome (mounted_refusals fs place) (mounted_effect fs place)
+      outcome (mounted_refusals set fs place) (mounted_effect set fs place)
+
+  -- the same where nothing is said of its attributes
+  abbrev pub mounted : ℕ → List ℕ → List (List ℕ) → Result (WorldView × ℕ) Fault
+  mounted n name path = mounted_with n name path nothing_set
 
   -- the refusals of a bind
   abbrev pub bound_refusals : Bool → Result Place Fault → Result Place Fault → List (Option Fault)

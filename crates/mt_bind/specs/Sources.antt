@@ -4,17 +4,23 @@ use Rattle.std.specs.Prelude.{ℕ, Bool, true, false, cond, not, ◌&&◌, ◌==
 use Rattle.std.specs.List.{filter, list_all, take_while, last_or}
 use Rattle.std.specs.Option.{option_map_or}
 use Rattle.mt_skel.specs.Skeleton.{root_of, holds}
+use Rattle.mt_mounts.specs.declared.mount.Attrs.{Attrs}
 use Rattle.mt_mounts.specs.declared.mount.Mount.{Mount}
 use Rattle.mt_mounts.specs.declared.mount.Place.{Place}
+use Rattle.mt_mounts.specs.Attrs.{new_attrs}
 use Rattle.mt_mounts.specs.Forest.{parents_up, is_below}
 use Rattle.mt_propagate.specs.World.{WorldView, state_of}
 use Rattle.mt_propagate.specs.Named.{mount_or_unknown}
 use Rattle.mt_propagate.specs.Copies.{Source}
 use Rattle.mt_propagate.specs.Plans.{fresh_source, top_of}
 
--- mount: one fresh private mount of a filesystem's root (`sharedsubtree`, mount semantics)
+-- mount: one fresh private mount of a filesystem's root, with attributes (`sharedsubtree`, mount semantics; mount(2))
+abbrev pub fresh_with : WorldView → ℕ → Attrs → Source
+fresh_with w fs attrs = fresh_source (root_of w.skel fs) attrs
+
+-- and with those of a mount of which nothing is said
 abbrev pub fresh : WorldView → ℕ → Source
-fresh w fs = fresh_source (root_of w.skel fs)
+fresh w fs = fresh_with w fs new_attrs
 
 -- the top of a bind shows the directory where the source path ends (mount(2), MS_BIND)
 abbrev pub top_at : WorldView → Place → Mount

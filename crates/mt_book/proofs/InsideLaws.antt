@@ -16,11 +16,12 @@ use Rattle.mt_bind.proofs.AcceptedLaws.{copy_space_accepted, drop_space_accepted
 use Rattle.mt_bind.proofs.InsideLaws.{mount_contained, mount_outside, bind_contained, bind_outside, move_contained, move_outside, made_contained, copied_contained, less_copied, end_contained, end_outside}
 use Rattle.mt_bind.proofs.PivotingLaws.{pivoted_contained, pivoted_outside}
 use Rattle.mt_unmount.proofs.InsideLaws.{unmounted-contained, unmounted-outside, detached-contained, detached-outside}
+use Rattle.mt_setattr.specs.Words.{nothing_set}
 use Rattle.mt_setattr.proofs.InsideLaws.{attributed-contained, attributed-outside}
 use Rattle.mt_info.specs.Table.{table_of}
 use Rattle.mt_info.proofs.OutsideTables.{same_table}
 use Rattle.mt_book.specs.declared.command.Command.{Command}
-use Rattle.mt_book.specs.declared.command.Command.TheVariants.{MakeFs, MakeDir, NewSpace, CopySpace, DropSpace, Mount, Bind, Move, Pivot, Unmount, Detach, SetAttr}
+use Rattle.mt_book.specs.declared.command.Command.TheVariants.{MakeFs, MakeDir, NewSpace, CopySpace, DropSpace, Mount, MountWith, Bind, Move, Pivot, Unmount, Detach, SetAttr}
 use Rattle.mt_book.specs.declared.command.Reply.{Reply}
 use Rattle.mt_book.specs.declared.command.Reply.TheVariants.{Number}
 use Rattle.mt_book.specs.Step.{step, makes_directories, world_or, next_world, after_from, after}
@@ -47,7 +48,8 @@ step_contained n w (MakeDir fs path) v r h a low off e = skel_contained n w (Mak
 step_contained n w (NewSpace fs) v r h a low off e = let q = number_ok _ v r e in made_contained n w fs v q.0 h a q.1
 step_contained n w (CopySpace k less) v r h a low off e = let q = number_ok _ v r e in copied_contained n w k less v q.0 h a low (other k n off) q.1
 step_contained n w (DropSpace k) v r h a low off e = subst (IsContained n) (drop_space_accepted w k v (done_ok _ v r e)).world (end_contained w h k n a)
-step_contained n w (Mount k fs path) v r h a low off e = let q = number_ok _ v r e in mount_contained n w k fs path v q.0 h a q.1
+step_contained n w (Mount k fs path) v r h a low off e = let q = number_ok _ v r e in mount_contained n w k fs path nothing_set v q.0 h a q.1
+step_contained n w (MountWith k fs path set) v r h a low off e = let q = number_ok _ v r e in mount_contained n w k fs path set v q.0 h a q.1
 step_contained n w (Bind k src dst deep) v r h a low off e = let q = number_ok _ v r e in bind_contained n w k deep src dst v q.0 h a q.1
 step_contained n w (Move k src dst) v r h a low off e = move_contained n w k src dst v h a (done_ok _ v r e)
 step_contained n w (Pivot k new old) v r h a low off e = pivoted_contained n w k new old v h a (done_ok _ v r e)
@@ -62,7 +64,8 @@ at_issue k n w v is a f = let same = eqb-true k n is in subst (λ x. IsSameOutsi
 step_outside : (n : ℕ) (w : WorldView) (c : Command) (v : WorldView) (r : Reply) → IsWellFormed w → IsContained n w → is_issued_in n c ≡ true → step w c ≡ Ok (v, r) → IsSameOutside n w v
 unfolding step
 step_outside n w (DropSpace k) v r h a is e = at_issue k n w v is a (λ b. subst (IsSameOutside k w) (drop_space_accepted w k v (done_ok _ v r e)).world (end_outside w h k b))
-step_outside n w (Mount k fs path) v r h a is e = at_issue k n w v is a (λ b. let q = number_ok _ v r e in mount_outside w k fs path v q.0 h b q.1)
+step_outside n w (Mount k fs path) v r h a is e = at_issue k n w v is a (λ b. let q = number_ok _ v r e in mount_outside w k fs path nothing_set v q.0 h b q.1)
+step_outside n w (MountWith k fs path set) v r h a is e = at_issue k n w v is a (λ b. let q = number_ok _ v r e in mount_outside w k fs path set v q.0 h b q.1)
 step_outside n w (Bind k src dst deep) v r h a is e = at_issue k n w v is a (λ b. let q = number_ok _ v r e in bind_outside w k deep src dst v q.0 h b q.1)
 step_outside n w (Move k src dst) v r h a is e = at_issue k n w v is a (λ b. move_outside w k src dst v h b (done_ok _ v r e))
 step_outside n w (Pivot k new old) v r h a is e = at_issue k n w v is a (λ b. pivoted_outside w k new old v h b (done_ok _ v r e))

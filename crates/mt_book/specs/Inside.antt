@@ -5,7 +5,7 @@ use Rattle.std.specs.List.{AllByRecursion}
 use Rattle.mt_propagate.specs.World.{WorldView}
 use Rattle.mt_info.specs.Table.{table_of}
 use Rattle.mt_book.specs.declared.command.Command.{Command}
-use Rattle.mt_book.specs.declared.command.Command.TheVariants.{CopySpace, DropSpace, Mount, Bind, Move, Pivot, Unmount, Detach, SetAttr}
+use Rattle.mt_book.specs.declared.command.Command.TheVariants.{CopySpace, DropSpace, Mount, MountWith, Bind, Move, Pivot, Unmount, Detach, SetAttr}
 use Rattle.mt_book.specs.declared.command.Reply.{Reply}
 use Rattle.mt_book.specs.declared.command.Reply.TheVariants.{Number}
 use Rattle.mt_book.specs.Step.{step, next_world, after}
@@ -16,6 +16,7 @@ use Rattle.mt_book.specs.Book.{answer}
 abbrev pub is_issued_in : ℕ → Command → Bool
 is_issued_in n (DropSpace k) = k == n
 is_issued_in n (Mount k fs path) = k == n
+is_issued_in n (MountWith k fs path set) = k == n
 is_issued_in n (Bind k src dst recursive) = k == n
 is_issued_in n (Move k src dst) = k == n
 is_issued_in n (Pivot k new old) = k == n

@@ -44,15 +44,15 @@ const FORMS: [(&[u8], &[u8]); 52] = [
     (b"mount -t tmpfs t /a", b"mount 1 t /a\n"),
     (
         b"mount -t tmpfs -o ro,nosuid,size=1m t /a",
-        b"mount 1 t /a\nsetattr 1 /a set=ro,nosuid\n",
+        b"mount 1 t /a set=ro,nosuid\n",
     ),
     (
         b"mount -t tmpfs -o user,exec,noatime t /a",
-        b"mount 1 t /a\nsetattr 1 /a set=nosuid,nodev,noatime clr=atime\n",
+        b"mount 1 t /a set=nosuid,nodev,noatime\n",
     ),
     (
         b"mount -rt tmpfs --source t --target /a",
-        b"mount 1 t /a\nsetattr 1 /a set=ro\n",
+        b"mount 1 t /a set=ro\n",
     ),
     (b"mount /dev/sda3 /a/", b"mount 1 /dev/sda3 /a\n"),
     (

@@ -1,6 +1,6 @@
 -- Lines, and what they ask for (mount(8), umount(8), unshare(1), nsenter(1), pivot_root(8)).
 -- A word with no source is this project's rule.
-use Rattle.std.specs.Prelude.{ℕ, nat_eq, Bool, false, not, ◌&&◌, if◌then◌else◌, List, [], ◌∷◌, Option, None, Some, is_some, Result, Ok, Err, codes}
+use Rattle.std.specs.Prelude.{ℕ, nat_eq, Bool, true, false, not, ◌&&◌, if◌then◌else◌, List, [], ◌∷◌, Option, None, Some, is_some, Result, Ok, Err, codes}
 use Rattle.std.specs.List.{starts_with}
 use Rattle.std.specs.Option.{option_map_or}
 use Rattle.std.specs.Str.{bytes_eq}
@@ -29,13 +29,18 @@ abbrev pub are_space_and_path : List (List ℕ) → Bool
 are_space_and_path (space ∷ path ∷ []) = may_name space && starts_with nat_eq path (codes "/")
 are_space_and_path words = false
 
--- and so is `mount NS FS PATH`
-abbrev pub are_space_label_and_path : List (List ℕ) → Bool
-are_space_label_and_path (space ∷ fs ∷ path ∷ []) = may_name space && may_name fs && starts_with nat_eq path (codes "/")
-are_space_label_and_path words = false
+-- and so is `mount NS FS PATH`, with `set=` behind it or not
+abbrev pub are_attributes : List (List ℕ) → Bool
+are_attributes [] = true
+are_attributes (word ∷ []) = starts_with nat_eq word (codes "set=")
+are_attributes words = false
+
+abbrev pub are_mount_words : List (List ℕ) → Bool
+are_mount_words (space ∷ fs ∷ path ∷ words) = may_name space && may_name fs && starts_with nat_eq path (codes "/") && are_attributes words
+are_mount_words words = false
 
 abbrev pub is_own_line : Tool → List (List ℕ) → Bool
-is_own_line Mount words = are_space_label_and_path words
+is_own_line Mount words = are_mount_words words
 is_own_line Umount words = are_space_and_path words
 is_own_line Unshare words = false
 is_own_line Nsenter words = false

@@ -5,7 +5,7 @@ use Rattle.std.specs.List.{flat_map, list_all, starts_with}
 use Rattle.mt_skel.specs.Escapes.{escaped}
 use Rattle.mt_lines.specs.Words.{pieces}
 use Rattle.mt_forms.specs.Given.{nothing_given, with_list}
-use Rattle.mt_forms.specs.Settings.{for_bind, for_new, for_remount, is_empty_setting, setting_text}
+use Rattle.mt_forms.specs.Settings.{for_bind, for_new, for_remount, is_empty_setting, set_option, setting_text}
 use Rattle.mt_forms.specs.declared.attribute.Attributes.{Attributes}
 use Rattle.mt_forms.specs.declared.operation.Operation.{Operation}
 use Rattle.mt_forms.specs.declared.operation.Operation.TheVariants as operation
@@ -66,8 +66,8 @@ changed_lines space to setting propagation = change_line space to setting ++ the
 abbrev pub bind_line : List ℕ → List ℕ → List ℕ → Bool → List ℕ
 bind_line space from to recursive = two_paths_line (if recursive then codes "rbind" else codes "bind") space from to
 
-abbrev pub new_mount_line : List ℕ → List ℕ → List ℕ → List ℕ
-new_mount_line space filesystem to = codes "mount" ++ behind_word space ++ behind_word filesystem ++ behind_path to ++ 10 ∷ []
+abbrev pub new_mount_line : List ℕ → List ℕ → List ℕ → Attributes → List ℕ
+new_mount_line space filesystem to set = codes "mount" ++ behind_word space ++ behind_word filesystem ++ behind_path to ++ set_option set ++ 10 ∷ []
 
 -- the attributes that the options of a mount in a table tell
 abbrev pub told_attributes : List ℕ → Attributes
@@ -95,7 +95,7 @@ script_text (operation.Bind from to recursive said propagation) space filesystem
 script_text (operation.Move from to propagation) space filesystem options =
     two_paths_line (codes "move") space from to ++ then_made space to propagation
 script_text (operation.Mount source kind to said propagation) space filesystem options =
-    new_mount_line space filesystem to ++ changed_lines space to (for_new said) propagation
+    new_mount_line space filesystem to (for_new said) ++ then_made space to propagation
 script_text (operation.Remount to said propagation) space filesystem options =
     changed_lines space to (for_remount said (told_attributes options)) propagation
 script_text (operation.Propagation to propagation) space filesystem options = then_made space to (Some propagation)

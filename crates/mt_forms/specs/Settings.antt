@@ -53,9 +53,9 @@ for_bind s = if is_passed s.set then set_exactly s.set else no_setting
 abbrev pub for_remount : Said → Attributes → Setting
 for_remount s old = set_exactly (laid_over old s)
 
--- a new mount is rw,relatime
-abbrev pub for_new : Said → Setting
-for_new s = record { set = record (timed_by s.set) { relatime = false }; clear = no_attributes; clears_atime = not (timed_by s.set).relatime }
+-- a new mount has what is said of it; relative access times are those of any new mount
+abbrev pub for_new : Said → Attributes
+for_new s = record (timed_by s.set) { relatime = false }
 
 abbrev pub is_empty_setting : Setting → Bool
 is_empty_setting c = are_none c.set && are_none c.clear && not c.clears_atime
@@ -90,5 +90,9 @@ option_text key (comma ∷ words) = key ++ words
 abbrev pub cleared_words : Setting → List ℕ
 cleared_words c = attribute_words c.clear ++ (if c.clears_atime then codes ",atime" else [])
 
+-- the attributes that are set, and the options of `setattr`
+abbrev pub set_option : Attributes → List ℕ
+set_option a = option_text (codes " set=") (attribute_words a)
+
 abbrev pub setting_text : Setting → List ℕ
-setting_text c = option_text (codes " set=") (attribute_words c.set) ++ option_text (codes " clr=") (cleared_words c)
+setting_text c = set_option c.set ++ option_text (codes " clr=") (cleared_words c)

@@ -1,6 +1,6 @@
 //! Lines, and what they ask for.
 ghost use Rattle.std.specs.Prelude.{◌≡◌};
-ghost use Rattle.mt_forms.specs.Lines.{may_name, are_space_and_path, are_space_label_and_path, is_own_line, asked_without, asked_by, by_beginning, asked_in, without_command, entered_from, by_first, behind_sudo, asked_of};
+ghost use Rattle.mt_forms.specs.Lines.{may_name, are_space_and_path, are_attributes, are_mount_words, is_own_line, asked_without, asked_by, by_beginning, asked_in, without_command, entered_from, by_first, behind_sudo, asked_of};
 
 use crate::command::{Beginning, Tool, beginning_of};
 use crate::given::{Given, nothing_given};
@@ -29,20 +29,27 @@ fn are_space_and_path(words: Words<'_>) -> bool
     may_name(space) && is_rooted(path)
 }
 
-/// Whether words are a namespace, a filesystem and a path.
-fn are_space_label_and_path(words: Words<'_>) -> bool
-    ensures { result ≡ are_space_label_and_path words.entry }
+/// Whether there are no words, or one with the attributes of a new mount.
+fn are_attributes(words: Words<'_>) -> bool
+    ensures { result ≡ are_attributes words.entry }
 {
     let mut words = words;
-    let (Some(space), Some(fs), Some(path), None) = (
-        words.next(),
-        words.next(),
-        words.next(),
-        words.next(),
-    ) else {
+    match (words.next(), words.next()) {
+        (None, _) => true,
+        (Some(word), None) => word.starts_with(b"set="),
+        (Some(_), Some(_)) => false,
+    }
+}
+
+/// Whether words are a namespace, a filesystem and a path, with attributes behind them or not.
+fn are_mount_words(words: Words<'_>) -> bool
+    ensures { result ≡ are_mount_words words.entry }
+{
+    let mut words = words;
+    let (Some(space), Some(fs), Some(path)) = (words.next(), words.next(), words.next()) else {
         return false;
     };
-    may_name(space) && may_name(fs) && is_rooted(path)
+    may_name(space) && may_name(fs) && is_rooted(path) && are_attributes(words)
 }
 
 /// Whether a line of a program is one of a session, which begins with the same word.
@@ -50,7 +57,7 @@ fn is_own_line(tool: Tool, words: Words<'_>) -> bool
     ensures { result ≡ is_own_line tool words.entry }
 {
     match tool {
-        Tool::Mount => are_space_label_and_path(words),
+        Tool::Mount => are_mount_words(words),
         Tool::Umount => are_space_and_path(words),
         Tool::Unshare | Tool::Nsenter | Tool::PivotRoot => false,
     }

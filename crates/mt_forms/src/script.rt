@@ -7,7 +7,7 @@ ghost use Rattle.mt_forms.specs.Scripts.{has_no_name, behind_slash, behind_word,
 use crate::attribute::Attributes;
 use crate::given::nothing_given;
 use crate::operation::{Operation, Propagation, PropagationKind, Reach};
-use crate::setting::{Setting, for_bind, for_new, for_remount, push_setting};
+use crate::setting::{Setting, for_bind, for_new, for_remount, push_set, push_setting};
 use crate::word::is_rooted;
 use mt_lines::words::{Pieces, Words};
 use mt_skel::escape::push_escaped;
@@ -171,14 +171,22 @@ fn push_bind(text: &mut Vec<u8>, space: &[u8], from: &[u8], to: &[u8], recursive
     Ok(())
 }
 
-/// Appends the line of a new mount of a filesystem.
-fn push_mount(text: &mut Vec<u8>, space: &[u8], filesystem: &[u8], to: &[u8]) -> Done
-    ensures { OnOk result (text.new.items ≡ text.old.items ++ new_mount_line space.now filesystem.now to.now) }
+/// Appends the line of a new mount of a filesystem, with these attributes.
+fn push_mount(
+    text: &mut Vec<u8>,
+    space: &[u8],
+    filesystem: &[u8],
+    to: &[u8],
+    set: Attributes,
+) -> Done
+    ensures { OnOk result (text.new.items ≡ text.old.items ++ new_mount_line space.now filesystem.now to.now set) }
 {
     text.extend_from_slice(b"mount")?;
     push_word(text, space)?;
     push_word(text, filesystem)?;
     push_path(text, to)?;
+    let alloc = *text.allocator();
+    push_set(text, alloc, set)?;
     text.push(b'\n')?;
     Ok(())
 }
@@ -274,8 +282,8 @@ fn push_operation(
             propagation,
             ..
         } => {
-            push_mount(text, space, filesystem, to.bytes())?;
-            push_attributes(text, space, to.bytes(), for_new(*said), *propagation)
+            push_mount(text, space, filesystem, to.bytes(), for_new(*said))?;
+            push_made(text, space, to.bytes(), *propagation)
         }
         Operation::Remount {
             to,
@@ -313,8 +321,7 @@ fn push_operation(
 /// alone.
 ///
 /// `filesystem` is the name of the one that is mounted, and `options` are those of the mount in its table, which a remount
-/// changes; other forms need neither. Paths have one slash before each name. A `mount` with attributes is two lines,
-/// since no line sets both at once: its copies do not have them.
+/// changes; other forms need neither. Paths have one slash before each name.
 ///
 /// There are no lines for an unmount of more mounts than one, or of a source, which a table has to tell first, and for `mkdir`. What the
 /// mounts of a copied namespace are made is told by [`later_session_lines`].

@@ -1,7 +1,7 @@
 //! What a line does to the attributes of a mount, and how `setattr` says it.
 ghost use Rattle.std.specs.Prelude.{◌≡◌, ◌++◌, IfOk, OnOk};
 ghost use Rattle.std.specs.List.{flat_map};
-ghost use Rattle.mt_forms.specs.Settings.{attribute_word, is_passed, are_none, no_setting, without_others, timed_by, set_exactly, for_bind, for_new, for_remount, is_empty_setting, listed_word, attribute_words, option_text, cleared_words, setting_text};
+ghost use Rattle.mt_forms.specs.Settings.{attribute_word, is_passed, are_none, no_setting, without_others, timed_by, set_exactly, for_bind, for_new, for_remount, is_empty_setting, listed_word, attribute_words, option_text, cleared_words, set_option, setting_text};
 
 use crate::attribute::{Attribute, Attributes, Said};
 use std::alloc::{AllocError, Global};
@@ -154,18 +154,13 @@ pub(crate) fn for_remount(said: Said, old: Attributes) -> Setting
     set_exactly(said.laid_over(old))
 }
 
-/// What is done to a new mount, which is `rw,relatime`, of which this is said.
-pub(crate) fn for_new(said: Said) -> Setting
+/// The attributes that are set of a new mount, which is `rw,relatime` otherwise, of which this is said.
+pub(crate) fn for_new(said: Said) -> Attributes
     ensures { result ≡ for_new said }
 {
-    let set = timed_by(said.set);
-    Setting {
-        set: Attributes {
-            relatime: false,
-            ..set
-        },
-        clear: Attributes::none(),
-        clears_atime: !set.relatime,
+    Attributes {
+        relatime: false,
+        ..timed_by(said.set)
     }
 }
 
@@ -239,6 +234,19 @@ fn cleared_words(alloc: Global, setting: Setting) -> Result<Vec<u8>, AllocError>
         words.extend_from_slice(b",atime")?;
     }
     Ok(words)
+}
+
+/// Appends the word that sets attributes, if there is one.
+pub(crate) fn push_set(
+    text: &mut Vec<u8>,
+    alloc: Global,
+    attributes: Attributes,
+) -> Result<(), AllocError>
+    ensures { OnOk result (text.new.items ≡ text.old.items ++ set_option attributes) }
+{
+    let set = attribute_words(alloc, attributes)?;
+    push_option(text, b" set=", set.as_slice())?;
+    Ok(())
 }
 
 /// Appends the options of a `setattr` line that changes attributes.

@@ -6,7 +6,7 @@ use Rattle.std.specs.Option.{option_map_or}
 use Rattle.std.specs.Str.{bytes_eq}
 use Rattle.mt_lines.specs.Words.{words}
 use Rattle.mt_protocol.specs.declared.argument.Argument.{Argument}
-use Rattle.mt_protocol.specs.declared.argument.Argument.TheVariants.{Space, Scope, Count, Label, Path, Less, Setting}
+use Rattle.mt_protocol.specs.declared.argument.Argument.TheVariants.{Space, Scope, Count, Label, Path, Less, Attributes, Setting}
 use Rattle.mt_protocol.specs.declared.form.Form.{Form}
 use Rattle.mt_protocol.specs.declared.form.Form.TheVariants.{Done, Number, Place, Table, Opening, Posts, Followed, Never}
 use Rattle.mt_protocol.specs.declared.verb.Verb.{Verb}
@@ -34,7 +34,7 @@ verb_row Mkdir = command (codes "mkdir") (Label ∷ Path ∷ []) Done
 verb_row Newns = command (codes "newns") (Label ∷ []) Number
 verb_row Copyns = command (codes "copyns") (Space ∷ Less ∷ []) Number
 verb_row Dropns = command (codes "dropns") (Space ∷ []) Done
-verb_row Mount = command (codes "mount") (Space ∷ Label ∷ Path ∷ []) Number
+verb_row Mount = command (codes "mount") (Space ∷ Label ∷ Path ∷ Attributes ∷ []) Number
 verb_row Bind = command (codes "bind") (Space ∷ Path ∷ Path ∷ []) Number
 verb_row Rbind = command (codes "rbind") (Space ∷ Path ∷ Path ∷ []) Number
 verb_row Move = command (codes "move") (Space ∷ Path ∷ Path ∷ []) Done
@@ -70,6 +70,7 @@ is_command verb = (verb_row verb).command
 -- an argument that may be left out
 abbrev pub is_optional : Argument → Bool
 is_optional Less = true
+is_optional Attributes = true
 is_optional Setting = true
 is_optional argument = false
 

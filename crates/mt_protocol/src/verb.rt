@@ -5,7 +5,7 @@ ghost use Rattle.std.specs.Str.{bytes_eq};
 ghost use Rattle.mt_protocol.specs.Verbs.{verb_row, verb_word, verb_arguments, verb_form, is_command, verb_of};
 
 use crate::argument::Argument;
-use crate::argument::Argument::{Count, Label, Less, Path, Scope, Setting, Space};
+use crate::argument::Argument::{Attributes, Count, Label, Less, Path, Scope, Setting, Space};
 use crate::form::Form;
 use crate::form::Form::{Done, Followed, Number, Opening, Place, Posts, Table};
 use std::marker::Model;
@@ -186,8 +186,8 @@ impl Verb {
                 "dropns NS",
                 "ends a namespace with all its mounts",
             ),
-            Verb::Mount => command(b"mount", &[Space, Label, Path], Number).says(
-                "mount NS FS PATH",
+            Verb::Mount => command(b"mount", &[Space, Label, Path, Attributes], Number).says(
+                "mount NS FS PATH [set=W,..]",
                 "mounts a filesystem at a path",
             ),
             Verb::Bind => command(b"bind", &[Space, Path, Path], Number).says(

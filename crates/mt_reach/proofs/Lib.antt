@@ -13,3 +13,4 @@ pub mod MissingLaws
 pub mod DownLaws
 pub mod GroupsLaws
 pub mod WalkedLaws
+pub mod PlaceLaws

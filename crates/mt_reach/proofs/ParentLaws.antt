@@ -91,14 +91,14 @@ module _ (w : WorldView) where
         let fourth : starts_with bytes_eq (mount_point w m.id) (mount_point w q.id) ≡ true = ap (λ k. starts_with bytes_eq (mount_point w m.id) (mount_point w k)) fits ∙ point_below m p e at in
         (λ k. first k && second k && third k && fourth k)
 
-    row_of_root : (m : Mount) → mount_at w.forest m.id ≡ Some m → m.place ≡ None → seen_parent_row (seen_rows w) (seen_mount w m) ≡ None
+    pub row_of_root : (m : Mount) → mount_at w.forest m.id ≡ Some m → m.place ≡ None → seen_parent_row (seen_rows w) (seen_mount w m) ≡ None
     row_of_root m e at =
         let r = seen_mount w m in
         let told : r.parent ≡ m.id = ap (λ o. option_map_or (λ (p : Place). p.mount) o m.id) at in
         let found : seen_at (seen_rows w) r.parent ≡ Some r = ap (seen_at (seen_rows w)) told ∙ seen_found m.id m e in
         ap (option_and_then (λ (q : SeenRow). cond (stands_on_row q r) (Some q) None)) found ∙ ap (λ b. cond b (Some r) None) (off_row r)
 
-    row_of_parent : (m q : Mount) (p : Place) → mount_at w.forest m.id ≡ Some m → m.place ≡ Some p → mount_at w.forest p.mount ≡ Some q → q.space ≡ m.space → seen_parent_row (seen_rows w) (seen_mount w m) ≡ Some (seen_mount w q)
+    pub row_of_parent : (m q : Mount) (p : Place) → mount_at w.forest m.id ≡ Some m → m.place ≡ Some p → mount_at w.forest p.mount ≡ Some q → q.space ≡ m.space → seen_parent_row (seen_rows w) (seen_mount w m) ≡ Some (seen_mount w q)
     row_of_parent m q p e at up near =
         let r = seen_mount w m in
         let told : r.parent ≡ p.mount = ap (λ o. option_map_or (λ (p : Place). p.mount) o m.id) at in

@@ -1,14 +1,15 @@
 -- What the laws of this crate say.
 -- A word with no source is this project's rule.
-use Rattle.std.specs.Prelude.{◌≡◌, ◌↔◌, ℕ, false, not, ◌&&◌, List, [], ◌∷◌, map, Option, Some, None, Ok, IsTrue, is_some}
+use Rattle.std.specs.Prelude.{◌≡◌, ◌↔◌, ℕ, true, false, not, ◌&&◌, List, [], ◌∷◌, map, Option, Some, None, Ok, IsTrue, is_some}
 use Rattle.std.specs.List.{filter, list_any}
 use Rattle.mt_skel.specs.Keyed.{has}
-use Rattle.mt_skel.specs.Skeleton.{is_directory}
+use Rattle.mt_skel.specs.Skeleton.{IsSkeleton, is_directory}
 use Rattle.mt_mounts.specs.declared.mount.Mount.{Mount}
 use Rattle.mt_mounts.specs.declared.mount.Place.{Place}
 use Rattle.mt_mounts.specs.Forest.{id_of, is_below, stands_on}
 use Rattle.mt_mounts.specs.Walk.{walk}
 use Rattle.mt_propagate.specs.World.{WorldView, group_of}
+use Rattle.mt_propagate.specs.Named.{is_mount_root, is_root_place}
 use Rattle.mt_propagate.specs.WellFormed.{IsWellFormed}
 use Rattle.mt_propagate.specs.Receivers.{hits}
 use Rattle.mt_bind.specs.Mounting.{mounted, stands_on_shared, any_unbindable}
@@ -18,7 +19,7 @@ use Rattle.mt_reach.specs.Missing.{missing_groups}
 use Rattle.mt_reach.specs.Seen.{seen_rows, seen_directory}
 use Rattle.mt_reach.specs.Reached.{reached}
 use Rattle.mt_reach.specs.Tree.{seen_children}
-use Rattle.mt_reach.specs.Refusals.{IsWitness, shared_parent, unbindable_inside, into_itself}
+use Rattle.mt_reach.specs.Refusals.{IsWitness, shared_parent, unbindable_inside, into_itself, off_root, at_root_place, left_outside}
 
 -- from the rows of a well-formed world the mounts that are reached from a directory that is there are its propagation targets
 -- (`sharedsubtree`, bind semantics)
@@ -52,6 +53,22 @@ SharedIsWitnessed = (w : WorldView) → IsWellFormed w → (i : ℕ) → (shared
 -- (`sharedsubtree`, move semantics)
 abbrev pub UnbindableIsWitnessed : Type 0
 UnbindableIsWitnessed = (w : WorldView) → IsWellFormed w → (i dest : ℕ) → IsWitness (unbindable_inside (seen_rows w) i dest) (is_some (group_of w dest) && any_unbindable w i)
+
+-- a path leads to the place p of a well-formed world
+abbrev pub PathEndsAt : WorldView → Place → Type 0
+PathEndsAt w p = (n : ℕ) × (path : List (List ℕ)) × (walk w.skel w.forest n path ≡ Ok p)
+
+-- the mount that a path ends on, but not at the root of, is none exactly where the path names a mount (umount2(2), EINVAL)
+abbrev pub OffRootIsWitnessed : Type 0
+OffRootIsWitnessed = (w : WorldView) (p : Place) → IsSkeleton w.skel → IsWellFormed w → PathEndsAt w p → (off_root (seen_rows w) p.mount (seen_directory w p.dir) ≡ None) ↔ (is_mount_root w p ≡ true)
+
+-- the root mount that a path ends at is none exactly where the path ends at no root place (pivot_root(2), EBUSY)
+abbrev pub RootPlaceIsWitnessed : Type 0
+RootPlaceIsWitnessed = (w : WorldView) (p : Place) → IsSkeleton w.skel → IsWellFormed w → PathEndsAt w p → (at_root_place (seen_rows w) p.mount (seen_directory w p.dir) ≡ None) ↔ (is_root_place w p ≡ false)
+
+-- the mounts for which the old root cannot go to a place are none exactly where that is on the new one or below it (pivot_root(2), EINVAL)
+abbrev pub OutsideIsWitnessed : Type 0
+OutsideIsWitnessed = (w : WorldView) → IsWellFormed w → (new dest : ℕ) → IsWitness (left_outside (seen_rows w) new dest) (not (is_below w.forest new dest))
 
 -- the mounts from one down to the one that it would be moved to are none exactly where that is not below it (mount(2), MS_MOVE)
 abbrev pub IntoIsWitnessed : Type 0

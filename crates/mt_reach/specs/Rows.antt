@@ -5,6 +5,7 @@ use Rattle.std.specs.List.{starts_with}
 use Rattle.std.specs.Option.{option_and_then}
 use Rattle.std.specs.Str.{bytes_eq}
 use Rattle.mt_skel.specs.Keyed.{row_at}
+use Rattle.mt_skel.specs.Skeleton.{path_eq}
 use Rattle.mt_peers.specs.Peers.{Peer}
 use Rattle.mt_info.specs.SameRow.{bool_eq}
 use Rattle.mt_reach.specs.declared.row.Device.{Device}
@@ -26,6 +27,10 @@ device_eq d e = (d.major == e.major) && (d.minor == e.minor)
 -- a directory is another one, or below it: both are of one filesystem, and the names of the one begin those of the other
 abbrev pub is_within : SeenDirectory → SeenDirectory → Bool
 is_within outer inner = device_eq outer.device inner.device && bool_eq outer.unlinked inner.unlinked && starts_with bytes_eq inner.path outer.path
+
+-- two directories are one
+abbrev pub is_same_directory : SeenDirectory → SeenDirectory → Bool
+is_same_directory d e = device_eq d.device e.device && bool_eq d.unlinked e.unlinked && path_eq d.path e.path
 
 -- a mount shows a directory that is the one at its root, or below that (proc_pid_mountinfo(5), field 4)
 abbrev pub shows : SeenRow → SeenDirectory → Bool

@@ -34,10 +34,18 @@ is_root_row rows n r = (r.space == n) && path_eq r.point [] && is_none (seen_par
 abbrev pub root_row : List SeenRow → ℕ → Option SeenRow
 root_row rows n = find (is_root_row rows n) rows
 
+-- the mount on which a path ends in a namespace; none where its table has no root mount (path_resolution(7))
+abbrev pub end_of : List SeenRow → ℕ → List (List ℕ) → Option SeenRow
+end_of rows n path = option_map (λ root. walked_from rows root [] path) (root_row rows n)
+
+-- the topmost mount of those that are stacked where a path ends, also on the root of a namespace (umount2(2))
+abbrev pub stack_end_of : List SeenRow → ℕ → List (List ℕ) → Option SeenRow
+stack_end_of rows n path = option_map (stack_top rows path) (end_of rows n path)
+
 -- the mount to which a path leads that is the mount point of a mount: the mount itself, or what is in front of it; none where the table
 -- has no root mount (path_resolution(7))
 abbrev pub mount_in_front : List SeenRow → SeenRow → Option SeenRow
-mount_in_front rows r = option_map (λ root. walked_from rows root [] r.point) (root_row rows r.space)
+mount_in_front rows r = end_of rows r.space r.point
 
 -- the directory of a mount that is at this point of its namespace
 abbrev pub directory_at : SeenRow → List (List ℕ) → SeenDirectory

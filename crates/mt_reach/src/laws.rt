@@ -1,5 +1,5 @@
 //! What is true of the answers about the rows of a world. The functions do nothing: their contracts are the laws.
-ghost use Rattle.mt_reach.specs.Laws.{ReachedAreHits, NoneIsMissing, MountsComeWhereReached, BusyIsWitnessed, SharedIsWitnessed, UnbindableIsWitnessed, IntoIsWitnessed};
+ghost use Rattle.mt_reach.specs.Laws.{ReachedAreHits, NoneIsMissing, MountsComeWhereReached, BusyIsWitnessed, SharedIsWitnessed, UnbindableIsWitnessed, IntoIsWitnessed, OffRootIsWitnessed, RootPlaceIsWitnessed, OutsideIsWitnessed};
 
 /// The mounts that are reached from a directory of a mount are those to which a mount made there propagates, where the rows
 /// are those of all namespaces of a well-formed world.
@@ -19,11 +19,14 @@ pub fn mounts_come_where_reached()
     ensures { MountsComeWhereReached }
 {}
 
-/// The mounts that are named for a refusal are none exactly where the refusal does not hold: for `Busy`, `SharedParent` and
-/// `UnbindableInside`, and for `IntoItself` of a move.
+/// The mounts that are named for a refusal are none exactly where the refusal does not hold: for `Busy`, `SharedParent`,
+/// `UnbindableInside`, `NotMountRoot` and `RootPlace`, and for `IntoItself` of a move and of a pivot.
 pub fn refusals_are_witnessed()
     ensures busy { BusyIsWitnessed }
     ensures shared { SharedIsWitnessed }
     ensures unbindable { UnbindableIsWitnessed }
     ensures into { IntoIsWitnessed }
+    ensures off { OffRootIsWitnessed }
+    ensures place { RootPlaceIsWitnessed }
+    ensures outside { OutsideIsWitnessed }
 {}

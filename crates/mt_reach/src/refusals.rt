@@ -1,9 +1,9 @@
 //! The mounts for which a command is refused: each list is empty exactly where the refusal does not hold.
 ghost use Rattle.std.specs.Prelude.{◌≡◌, IfOk, IsOkUnless, IsTrue};
 ghost use Rattle.mt_reach.specs.Tree.{seen_children, in_tree};
-ghost use Rattle.mt_reach.specs.Refusals.{shared_parent, is_unbindable_in, unbindable_inside, way_below, into_itself};
+ghost use Rattle.mt_reach.specs.Refusals.{shared_parent, is_unbindable_in, unbindable_inside, way_below, into_itself, is_below_in, tree_below, off_root, at_root_place, left_outside};
 
-use crate::row::SeenRow;
+use crate::row::{SeenDirectory, SeenRow};
 use crate::rows::SeenRows;
 use crate::upward::{Step, Upward};
 use mt_mounts::mount::MountId;
@@ -107,4 +107,75 @@ pub fn into_itself(rows: &SeenRows, id: MountId, onto: MountId) -> Result<Vec<Mo
     way.push(id)?;
     way.reverse();
     Ok(way)
+}
+
+/// Whether a mount stands on the goal, at whatever height. Refused as `NoMemory` alone.
+#[tactic(auto, unfolding(crate::specs::Refusals::is_below_in))]
+fn is_below_in(upward: &mut Upward<'_>, row: &SeenRow) -> Result<bool, Fault>
+    requires { upward.old.step ≡ Step.ToParent }
+    ensures inside { IfOk result (λ is. is ≡ is_below_in upward.old.rows upward.old.goal row.now) }
+    ensures kept { upward.new ≡ upward.old }
+    ensures memory { IsOkUnless result Fault.NoMemory }
+{
+    if row.id == upward.goal() {
+        return Ok(false);
+    }
+    upward.is_met(row.id)
+}
+
+/// The mounts that stand on a mount, at whatever height, by rising ID. Refused as `NoMemory` alone.
+pub fn tree_below(rows: &SeenRows, id: MountId) -> Result<Vec<MountId>, Fault>
+    ensures below { IfOk result (λ ids. ids.items ≡ tree_below rows.now id) }
+    ensures memory { IsOkUnless result Fault.NoMemory }
+{
+    let mut ids = Vec::new(rows.allocator());
+    let mut upward = Upward::new(rows, Step::ToParent, id);
+    'rows: for row in rows.rows() {
+        if is_below_in(&mut upward, row)? {
+            ids.push(row.id)?;
+        }
+    }
+    Ok(ids)
+}
+
+/// Why a path that ends in a directory of a mount names none, `NotMountRoot`: the mount, where the directory is not the one at its
+/// root (umount2(2), EINVAL). Takes no memory.
+pub fn off_root(rows: &SeenRows, id: MountId, directory: &SeenDirectory) -> Option<MountId>
+    ensures { result ≡ off_root rows.now id directory.now }
+{
+    let row = rows.get(id)?;
+    if row.root.is_same(directory) {
+        None
+    } else {
+        Some(id)
+    }
+}
+
+/// Why a path that ends in a directory of a mount is refused as `RootPlace`: the mount, where it is the root mount of its
+/// namespace, and the directory the one at its root. Takes no memory.
+pub fn at_root_place(rows: &SeenRows, id: MountId, directory: &SeenDirectory) -> Option<MountId>
+    ensures { result ≡ at_root_place rows.now id directory.now }
+{
+    let row = rows.get(id)?;
+    if rows.parent_row(row).is_none() && row.root.is_same(directory) {
+        Some(id)
+    } else {
+        None
+    }
+}
+
+/// Why a pivot to a mount is refused as `IntoItself`, where the old root would stand on another one: that one and the new root,
+/// where the first is not in the tree of the second (pivot_root(2), EINVAL). Refused as `NoMemory` alone.
+pub fn left_outside(rows: &SeenRows, new: MountId, onto: MountId) -> Result<Vec<MountId>, Fault>
+    ensures outside { IfOk result (λ ids. ids.items ≡ left_outside rows.now new onto) }
+    ensures memory { IsOkUnless result Fault.NoMemory }
+{
+    let mut ids = Vec::new(rows.allocator());
+    let mut upward = Upward::new(rows, Step::ToParent, new);
+    if upward.is_met(onto)? {
+        return Ok(ids);
+    }
+    ids.push(onto)?;
+    ids.push(new)?;
+    Ok(ids)
 }

@@ -1,6 +1,6 @@
 //! What a table tells of one mount.
 ghost use Rattle.std.specs.Prelude.{◌≡◌, IfOk, IsOkUnless};
-ghost use Rattle.mt_reach.specs.Rows.{device_eq, is_within, shows};
+ghost use Rattle.mt_reach.specs.Rows.{device_eq, is_same_directory, is_within, shows};
 ghost use Rattle.mt_reach.specs.Seen.{seen_row};
 ghost use Rattle.mt_reach.specs.Tree.{stands_on_row};
 ghost use Rattle.mt_reach.specs.Reasons.{overlaps};
@@ -86,6 +86,15 @@ impl SeenDirectory {
     {
         is_same_device(self.device, other.device)
             && (self.path.starts_with(&other.path) || other.path.starts_with(&self.path))
+    }
+
+    /// Whether this directory is the other one.
+    pub fn is_same(&self, other: &SeenDirectory) -> bool
+        ensures { result ≡ is_same_directory self.now other.now }
+    {
+        is_same_device(self.device, other.device)
+            && self.unlinked == other.unlinked
+            && self.path.is_same(&other.path)
     }
 
     /// Whether this directory is the other one, or below it.

@@ -2,7 +2,7 @@
 //!
 //! Each step looks at all rows, of which most are of another parent.
 ghost use Rattle.std.specs.Prelude.{◌≡◌, [], None, Some, option_copied, IfOk, IsOkUnless, MatchOption};
-ghost use Rattle.mt_reach.specs.Walking.{stands_at, stacked_at, stack_top, walked_from, is_root_row, root_row, mount_in_front, directory_at};
+ghost use Rattle.mt_reach.specs.Walking.{stands_at, stacked_at, stack_top, walked_from, is_root_row, root_row, end_of, stack_end_of, mount_in_front, directory_at};
 
 use crate::path::Path;
 use crate::row::{SeenDirectory, SeenRow};
@@ -82,17 +82,46 @@ pub fn root_row(rows: &SeenRows, space: SpaceId) -> Option<&SeenRow>
     None
 }
 
+/// The mount on which a path ends in a namespace; `None` where its table has no root mount. Every directory is taken to be there.
+/// Refused as `NoMemory` alone.
+pub fn end_of<'a>(
+    rows: &'a SeenRows,
+    space: SpaceId,
+    path: &Path,
+) -> Result<Option<&'a SeenRow>, Fault>
+    ensures end { IfOk result (λ end. option_copied end ≡ end_of rows.now space path.now) }
+    ensures memory { IsOkUnless result Fault.NoMemory }
+{
+    let Some(root) = root_row(rows, space) else {
+        return Ok(None);
+    };
+    let end = walk_rows(rows, root, path)?;
+    Ok(Some(end))
+}
+
+/// The topmost mount of those that are stacked where a path ends, as [`end_of`] but for the root of a namespace, on which a mount
+/// may stand. Refused as `NoMemory` alone.
+pub fn stack_end_of<'a>(
+    rows: &'a SeenRows,
+    space: SpaceId,
+    path: &Path,
+) -> Result<Option<&'a SeenRow>, Fault>
+    ensures top { IfOk result (λ top. option_copied top ≡ stack_end_of rows.now space path.now) }
+    ensures memory { IsOkUnless result Fault.NoMemory }
+{
+    let Some(end) = end_of(rows, space, path)? else {
+        return Ok(None);
+    };
+    Ok(Some(stack_top(rows, path, end)))
+}
+
 /// The mount to which the path leads that is a mount's mount point: the mount itself, or else what is in front of it; `None` where
 /// its table has no root mount. Refused as `NoMemory` alone.
 pub fn mount_in_front<'a>(rows: &'a SeenRows, row: &SeenRow) -> Result<Option<&'a SeenRow>, Fault>
     ensures front { IfOk result (λ end. option_copied end ≡ mount_in_front rows.now row.now) }
     ensures memory { IsOkUnless result Fault.NoMemory }
 {
-    let Some(root) = root_row(rows, row.space) else {
-        return Ok(None);
-    };
-    let end = walk_rows(rows, root, &row.point)?;
-    Ok(Some(end))
+    end_of(rows, row.space, &row.point)
 }
 
 /// The directory of a mount that is at a point of its namespace, which is its mount point or below that. Refused as `NoMemory`

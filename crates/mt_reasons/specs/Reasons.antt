@@ -8,7 +8,7 @@ use Rattle.mt_skel.specs.Escapes.{unescaped}
 use Rattle.mt_lines.specs.Words.{words, number_in_text}
 use Rattle.mt_protocol.specs.Verbs.{verb_of, verb_arguments, first_of}
 use Rattle.mt_protocol.specs.declared.argument.Argument.{Argument}
-use Rattle.mt_protocol.specs.declared.argument.Argument.TheVariants.{Space, Scope, Count, Label, Path, Less, Setting}
+use Rattle.mt_protocol.specs.declared.argument.Argument.TheVariants.{Space, Scope, Count, Label, Path, Less, Attributes, Setting}
 use Rattle.mt_protocol.specs.declared.verb.Verb.{Verb}
 use Rattle.mt_protocol.specs.declared.verb.Verb.TheVariants.{Setattr}
 use Rattle.mt_requests.specs.declared.request.Request.{Request}
@@ -71,8 +71,14 @@ IsWrongText word (reason.Zero told) = (told.now ≡ word) × (list_any (λ b. b 
 IsWrongText word (reason.Escape told) = (told.now ≡ word) × (unescaped word ≡ None)
 IsWrongText word reason = ⊥
 
+-- what is told of the attributes of a new mount is so: the word has another key, or a part of its list is no attribute that can be set
+abbrev pub IsWrongAttributes : List ℕ → Reason → Type 0
+IsWrongAttributes word (reason.NoAttributes told) = (told.now ≡ word) × (has_key (codes "set=") word ≡ false)
+IsWrongAttributes word (reason.SetWord told) = (has_key (codes "set=") word ≡ true) × IsWrongSet (drop 4 word) (reason.SetWord told)
+IsWrongAttributes word reason = ⊥
+
 -- What is told of a word as an argument is so: it is no number, neither one nor `all`, or none from 1 to `most`; a wrong text; not `less`;
--- or a wrong option.
+-- wrong attributes; or a wrong option.
 abbrev pub IsWrong : Argument → List ℕ → Reason → Type 0
 IsWrong Space word (reason.Number told) = (told.now ≡ word) × (number_in_text word ≡ None)
 IsWrong Scope word (reason.Scope told) = (told.now ≡ word) × (number_in_text word ≡ None) × (bytes_eq word (codes "all") ≡ false)
@@ -80,6 +86,7 @@ IsWrong (Count most) word (reason.Range told bound) = (told.now ≡ word) × (bo
 IsWrong Label word reason = IsWrongText word reason
 IsWrong Path word reason = IsWrongText word reason
 IsWrong Less word (reason.Less told) = (told.now ≡ word) × (bytes_eq word (codes "less") ≡ false)
+IsWrong Attributes word reason = IsWrongAttributes word reason
 IsWrong Setting word reason = IsWrongOption word reason
 IsWrong argument word reason = ⊥
 

@@ -8,7 +8,7 @@ ghost use Rattle.mt_protocol.specs.declared.argument.Argument.TheVariants as arg
 ghost use Rattle.mt_reasons.specs.Reasons.{is_refused_as_bad, is_empty_word, are_right, IsWrongText, Judges, IsToldOf, IsSo};
 
 use crate::nearest::nearest_to;
-use crate::options::option_reason;
+use crate::options::{attributes_reason, option_reason};
 use crate::reason::Reason;
 use crate::usage::usage_of;
 use mt_lines::words::{Words, number, words};
@@ -113,6 +113,7 @@ fn word_reason(argument: Argument, word: &[u8]) -> Option<Reason<'_>>
         Argument::Count(most) => count_reason(word, most),
         Argument::Label | Argument::Path => text_reason(word),
         Argument::Less => less_reason(word),
+        Argument::Attributes => attributes_reason(word),
         Argument::Setting => option_reason(word),
     }
 }

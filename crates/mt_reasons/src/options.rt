@@ -1,8 +1,8 @@
-//! What is wrong with an option of a `setattr` line.
+//! What is wrong with an option of a `setattr` line, or with the attributes of a `mount` line.
 ghost use Rattle.std.specs.Prelude.{◌≡◌, true, is_some, MatchOption};
 ghost use Rattle.mt_requests.specs.Options.{set_words, clr_words};
 ghost use Rattle.mt_reasons.specs.Reasons.{IsWrongSet, IsWrongClr, Judges};
-ghost use Rattle.mt_protocol.specs.declared.argument.Argument.TheVariants.{Setting};
+ghost use Rattle.mt_protocol.specs.declared.argument.Argument.TheVariants.{Attributes, Setting};
 
 use crate::reason::Reason;
 use mt_lines::words::Pieces;
@@ -38,6 +38,16 @@ fn clr_reason(list: &[u8]) -> Option<Reason<'_>>
         }
     }
     Some(Reason::ClrWord { word: list })
+}
+
+/// What is wrong with the attributes of a new mount.
+pub(crate) fn attributes_reason(word: &[u8]) -> Option<Reason<'_>>
+    ensures { Judges Attributes word.now result }
+{
+    match word.strip_prefix(b"set=") {
+        Some(list) => set_reason(list),
+        None => Some(Reason::NoAttributes { word }),
+    }
 }
 
 /// What is wrong with an option, by itself.

@@ -52,6 +52,10 @@ pub enum Reason<'a> {
     Less {
         word: &'a [u8],
     },
+    /// Another word stands where `set=` may stand.
+    NoAttributes {
+        word: &'a [u8],
+    },
     /// A word is no option of `setattr`.
     NoOption {
         word: &'a [u8],
@@ -73,10 +77,9 @@ pub enum Reason<'a> {
 }
 
 impl<'a> Reason<'a> {
-    /// Writes what is wrong with an option of `setattr`, or where another word stands in the place of `less`.
+    /// Writes what is wrong with an option.
     fn write_option<W: fmt::Write>(&self, f: &mut Formatter<W>) -> fmt::Result {
         match self {
-            Reason::Less { word } => { write!(f, "{}: only less may stand there", Shown(*word)) }
             Reason::NoOption { word } => {
                 write!(
                     f,
@@ -135,6 +138,10 @@ impl<'a> Reason<'a> {
                 "{}: a backslash begins none of \\040, \\011, \\012 and \\134",
                 Shown(*word)
             ),
+            Reason::Less { word } => { write!(f, "{}: only less may stand there", Shown(*word)) }
+            Reason::NoAttributes { word } => {
+                write!(f, "{}: only set= with words may stand there", Shown(*word))
+            }
             _ => self.write_option(f),
         }
     }

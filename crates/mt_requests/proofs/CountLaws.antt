@@ -1,5 +1,5 @@
 -- A line that is read has the verb of its request, and one that asks for posts asks for at least one, and for no more than it may.
-use Rattle.std.proofs.Common.{◌≡◌, ℕ, ◌<◌, ◌≤◌, Bool, true, false, cond, nat_lt, nat_le, ◌&&◌, List, [], ◌∷◌, Option, Some, None, unwrap_or, is_some, Result, Ok, Err, IfOk, inl, inr, refl, sym, ap, subst, ◌∙◌, arith}
+use Rattle.std.proofs.Common.{◌≡◌, ℕ, ◌<◌, ◌≤◌, Bool, true, false, cond, nat_lt, nat_le, ◌&&◌, List, [], ◌∷◌, drop, Option, Some, None, unwrap_or, is_some, Result, Ok, Err, IfOk, inl, inr, refl, sym, ap, subst, ◌∙◌, arith}
 use Rattle.std.proofs.lemmas.Bool.Decides.{nat_tests}
 use Rattle.std.specs.Option.{option_map_or}
 use Rattle.mt_skel.specs.declared.fault.Fault.{Fault}
@@ -10,11 +10,16 @@ use Rattle.mt_protocol.specs.declared.verb.Verb.{Verb}
 use Rattle.mt_protocol.specs.declared.verb.Verb.TheVariants as verb
 use Rattle.mt_requests.specs.declared.request.Request.{Request}
 use Rattle.mt_requests.proofs.FaultLaws.{no_faults}
-use Rattle.mt_requests.specs.Requests.{bad_unless, words_fault, request_with, HasRightCount, request_verb, read_by, by_words, request_of, ReadsAs, LinesTellVerbs}
+use Rattle.mt_requests.specs.Requests.{bad_unless, words_fault, options_behind, mount_said, command_verb, request_with, HasRightCount, request_verb, read_by, by_words, request_of, ReadsAs, LinesTellVerbs}
+
+-- a mount is one, with attributes or without
+mount_made : (n : ℕ) (fs : List ℕ) (path rest : List (List ℕ)) → command_verb (mount_said n fs path rest) ≡ verb.Mount
+mount_made n fs path [] = refl
+mount_made n fs path (word ∷ rest) = refl
 
 -- the request of a verb has the verb
 verb_made : (v : Verb) (w : List (List ℕ)) → request_verb (request_with v w) ≡ v
-verb_made verb.Mkfs w = refl
+verb_made verb.Mount w = mount_made _ _ _ (drop 1 (options_behind w))
 verb_made v w = refl
 
 -- a count is at least one, and at most so many

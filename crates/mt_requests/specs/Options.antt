@@ -1,4 +1,4 @@
--- The options of a `setattr` line (their words: mount_setattr(2); how a line writes them: this project's rule).
+-- The options of a `setattr` line, and of a `mount` line (their words: mount_setattr(2); how a line writes them: this project's rule).
 -- A word with no source is this project's rule.
 use Rattle.std.specs.Prelude.{ℕ, Bool, true, false, not, ◌&&◌, ◌||◌, nat_eq, nat_lt, if◌then◌else◌, List, [], ◌∷◌, length, drop, Option, Some, None, codes}
 use Rattle.std.specs.List.{filter, find, list_all, list_any, starts_with}
@@ -9,6 +9,7 @@ use Rattle.mt_peers.specs.declared.state.Kind.TheVariants.{Shared, Private, Slav
 use Rattle.mt_setattr.specs.declared.change.Change.{Change}
 use Rattle.mt_setattr.specs.declared.change.SetWords.{SetWords}
 use Rattle.mt_setattr.specs.declared.change.ClrWords.{ClrWords}
+pub use Rattle.mt_setattr.specs.Words.{nothing_set}
 use Rattle.mt_lines.specs.Words.{pieces}
 
 -- the keys of the options
@@ -48,10 +49,6 @@ is_clr_word w =
     bytes_eq w (codes "ro") || bytes_eq w (codes "nosuid") || bytes_eq w (codes "nodev") || bytes_eq w (codes "noexec") || bytes_eq w (codes "nosymfollow")
     || bytes_eq w (codes "nodiratime") || bytes_eq w (codes "atime")
 
--- nothing is set
-abbrev pub nothing_set : SetWords
-nothing_set = record { ro = false; nosuid = false; nodev = false; noexec = false; nosymfollow = false; nodiratime = false; relatime = false; noatime = false; strictatime = false }
-
 -- nothing is cleared
 abbrev pub nothing_cleared : ClrWords
 nothing_cleared = record { ro = false; nosuid = false; nodev = false; noexec = false; nosymfollow = false; nodiratime = false; atime = false }
@@ -76,6 +73,10 @@ set_words list =
       strictatime = lists list (codes "strictatime");
     })
     else None
+
+-- the attributes of a new mount, as a word `set=W,..` says them (mount(2), mountflags); none where it is another word
+abbrev pub attributes_of : List ℕ → Option SetWords
+attributes_of word = if has_key (codes "set=") word then set_words (drop 4 word) else None
 
 -- the attributes that are cleared (mount_setattr(2), attr_clr); none where another word is in the list
 abbrev pub clr_words : List ℕ → Option ClrWords

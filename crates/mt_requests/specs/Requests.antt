@@ -12,13 +12,14 @@ use Rattle.mt_skel.specs.Outcome.{refuse_if, first_fault}
 use Rattle.mt_lines.specs.Words.{pieces, words, number_in_text}
 use Rattle.mt_protocol.specs.Verbs.{verb_of, verb_arguments, first_of, is_optional, most_taken, most_followed}
 use Rattle.mt_protocol.specs.declared.argument.Argument.{Argument}
-use Rattle.mt_protocol.specs.declared.argument.Argument.TheVariants.{Space, Scope as Scoped, Count, Label, Path, Less, Setting}
+use Rattle.mt_protocol.specs.declared.argument.Argument.TheVariants.{Space, Scope as Scoped, Count, Label, Path, Less, Attributes, Setting}
 use Rattle.mt_protocol.specs.declared.verb.Verb.{Verb}
 use Rattle.mt_protocol.specs.declared.verb.Verb.TheVariants as verb
 use Rattle.mt_events.specs.declared.opening.Scope.{Scope}
 use Rattle.mt_events.specs.declared.opening.Scope.TheVariants.{One, All}
 use Rattle.mt_setattr.specs.declared.change.Change.{Change}
-use Rattle.mt_requests.specs.Options.{no_change, change_of}
+use Rattle.mt_setattr.specs.declared.change.SetWords.{SetWords}
+use Rattle.mt_requests.specs.Options.{nothing_set, no_change, attributes_of, change_of}
 use Rattle.mt_book.specs.declared.command.Command.{Command}
 use Rattle.mt_book.specs.declared.command.Command.TheVariants as command
 use Rattle.mt_requests.specs.declared.request.Request.{Request}
@@ -97,6 +98,7 @@ word_fault (Count most) word = bad_unless (is_some (count_of most word))
 word_fault Label word = label_fault word
 word_fault Path word = path_fault word
 word_fault Less word = bad_unless (bytes_eq word (codes "less"))
+word_fault Attributes word = bad_unless (is_some (attributes_of word))
 word_fault Setting word = None
 
 -- there is a word for each argument, but for those that may be left out, and none besides
@@ -122,6 +124,9 @@ number_said word = unwrap_or (number_in_text word) 0
 abbrev pub scope_said : List ℕ → Scope
 scope_said word = unwrap_or (scope_of word) All
 
+abbrev pub attributes_said : List ℕ → SetWords
+attributes_said word = unwrap_or (attributes_of word) nothing_set
+
 abbrev pub change_said : List (List ℕ) → Change
 change_said options = unwrap_or (change_of options) no_change
 
@@ -135,6 +140,11 @@ options_behind words = drop 1 (drop 1 words)
 abbrev pub third_of : List (List ℕ) → List ℕ
 third_of words = first_of (options_behind words)
 
+-- a mount, with attributes where a word says them
+abbrev pub mount_said : ℕ → List ℕ → List (List ℕ) → List (List ℕ) → Command
+mount_said n fs path [] = command.Mount n fs path
+mount_said n fs path (word ∷ words) = command.MountWith n fs path (attributes_said word)
+
 -- the request of a verb and the words behind it, where each can stand there
 abbrev pub request_with : Verb → List (List ℕ) → Request
 request_with verb.Mkfs w = request.Run (command.MakeFs (label_bytes (first_of w)) (label_bytes (second_of w)) (label_bytes (third_of w)))
@@ -142,7 +152,7 @@ request_with verb.Mkdir w = request.Run (command.MakeDir (label_bytes (first_of 
 request_with verb.Newns w = request.Run (command.NewSpace (label_bytes (first_of w)))
 request_with verb.Copyns w = request.Run (command.CopySpace (number_said (first_of w)) (bytes_eq (second_of w) (codes "less")))
 request_with verb.Dropns w = request.Run (command.DropSpace (number_said (first_of w)))
-request_with verb.Mount w = request.Run (command.Mount (number_said (first_of w)) (label_bytes (second_of w)) (path_names (third_of w)))
+request_with verb.Mount w = request.Run (mount_said (number_said (first_of w)) (label_bytes (second_of w)) (path_names (third_of w)) (drop 1 (options_behind w)))
 request_with verb.Bind w = request.Run (command.Bind (number_said (first_of w)) (path_names (second_of w)) (path_names (third_of w)) false)
 request_with verb.Rbind w = request.Run (command.Bind (number_said (first_of w)) (path_names (second_of w)) (path_names (third_of w)) true)
 request_with verb.Move w = request.Run (command.Move (number_said (first_of w)) (path_names (second_of w)) (path_names (third_of w)))
@@ -201,6 +211,7 @@ command_verb (command.NewSpace fs) = verb.Newns
 command_verb (command.CopySpace n less) = verb.Copyns
 command_verb (command.DropSpace n) = verb.Dropns
 command_verb (command.Mount n fs path) = verb.Mount
+command_verb (command.MountWith n fs path set) = verb.Mount
 command_verb (command.Bind n src dst recursive) = if recursive then verb.Rbind else verb.Bind
 command_verb (command.Move n src dst) = verb.Move
 command_verb (command.Pivot n new old) = verb.Pivot

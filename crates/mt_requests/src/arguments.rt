@@ -2,15 +2,15 @@
 ghost use Rattle.std.specs.Prelude.{◌≡◌, drop, None};
 ghost use Rattle.std.specs.List.{list_all};
 ghost use Rattle.mt_protocol.specs.Verbs.{first_of, is_optional};
-ghost use Rattle.mt_requests.specs.Requests.{prior_of_two, prior_fault, bad_unless, number_said, scope_of, scope_said, count_of, change_said, word_fault, word_faults, are_counted, words_fault, AreTexts};
+ghost use Rattle.mt_requests.specs.Requests.{prior_of_two, prior_fault, bad_unless, number_said, scope_of, scope_said, count_of, attributes_said, change_said, word_fault, word_faults, are_counted, words_fault, AreTexts};
 
 use crate::label::label_fault;
-use crate::options::{change_of, no_change};
+use crate::options::{attributes_of, change_of, no_change};
 use crate::path::path_fault;
 use mt_events::opening::Scope;
 use mt_lines::words::{Words, number};
 use mt_protocol::argument::Argument;
-use mt_setattr::change::Change;
+use mt_setattr::change::{Change, SetWords};
 use mt_skel::fault::Fault;
 
 /// The fault of two words that is refused first.
@@ -71,6 +71,13 @@ fn count_of(word: &[u8], most: u64) -> Option<u64>
     }
 }
 
+/// The attributes of a new mount that a word says, where it is right as such.
+pub(crate) fn attributes_said(word: &[u8]) -> SetWords
+    ensures { result ≡ attributes_said word.now }
+{
+    attributes_of(word).unwrap_or(SetWords::new())
+}
+
 /// The change that words say, where they are right as the options of a `setattr` line.
 pub(crate) fn change_said(options: &Words<'_>) -> Change
     ensures { result ≡ change_said options.now }
@@ -90,6 +97,7 @@ pub fn word_fault(argument: Argument, word: &[u8]) -> Option<Fault>
         Argument::Label => label_fault(word),
         Argument::Path => path_fault(word),
         Argument::Less => bad_unless(word == b"less".as_slice()),
+        Argument::Attributes => bad_unless(attributes_of(word).is_some()),
         Argument::Setting => None,
     }
 }

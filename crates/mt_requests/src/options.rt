@@ -1,8 +1,8 @@
-//! The options of a `setattr` line.
+//! The options of a `setattr` line, and of a `mount` line.
 ghost use Rattle.std.specs.Prelude.{◌≡◌, Some, None};
 ghost use Rattle.std.specs.Option.{option_copied, option_map, option_map_or};
 ghost use Rattle.mt_requests.specs.Gathered.{nothing_gathered, gathered_with, options_of, set_with, cleared_with};
-ghost use Rattle.mt_requests.specs.Options.{nothing_set, nothing_cleared, no_change, set_words, clr_words, kind_of, change_of};
+ghost use Rattle.mt_requests.specs.Options.{nothing_set, nothing_cleared, no_change, set_words, attributes_of, clr_words, kind_of, change_of};
 
 use mt_lines::words::{Pieces, Words};
 use mt_peers::state::Kind;
@@ -94,23 +94,6 @@ fn options_of(words: Words<'_>) -> Option<Options<'_>>
     Some(options)
 }
 
-/// Nothing is set.
-fn nothing_set() -> SetWords
-    ensures { result ≡ nothing_set }
-{
-    SetWords {
-        ro: false,
-        nosuid: false,
-        nodev: false,
-        noexec: false,
-        nosymfollow: false,
-        nodiratime: false,
-        relatime: false,
-        noatime: false,
-        strictatime: false,
-    }
-}
-
 /// Nothing is cleared.
 fn nothing_cleared() -> ClrWords
     ensures { result ≡ nothing_cleared }
@@ -131,7 +114,7 @@ pub(crate) fn no_change() -> Change
     ensures { result ≡ no_change }
 {
     Change {
-        set: nothing_set(),
+        set: SetWords::new(),
         clr: nothing_cleared(),
         prop: None,
         recursive: false,
@@ -198,11 +181,18 @@ pub fn set_words(list: &[u8]) -> Option<SetWords>
     ensures { result ≡ set_words list.now }
 {
     let mut words = Pieces::new(b',', list);
-    let mut set = nothing_set();
+    let mut set = SetWords::new();
     'words: while let Some(word) = words.next() {
         set = set_with(set, word)?;
     }
     Some(set)
+}
+
+/// The attributes of a new mount that a word `set=W,..` says, or `None` where it is another word.
+pub fn attributes_of(word: &[u8]) -> Option<SetWords>
+    ensures { result ≡ attributes_of word.now }
+{
+    set_words(word.strip_prefix(b"set=")?)
 }
 
 /// The attributes that a list of words clears, words joined by commas, or `None` where one of them is none that can be
@@ -242,7 +232,7 @@ fn set_of(list: Option<&[u8]>) -> Option<SetWords>
 {
     match list {
         Some(list) => set_words(list),
-        None => Some(nothing_set()),
+        None => Some(SetWords::new()),
     }
 }
 

@@ -1,9 +1,11 @@
 //! Requests, as lines say them.
-ghost use Rattle.std.specs.Prelude.{IfOk, Ok};
+ghost use Rattle.std.specs.Prelude.{◌≡◌, None, IfOk, IsOkUnless, Ok};
 ghost use Rattle.mt_protocol.specs.Verbs.{verb_arguments};
-ghost use Rattle.mt_requests.specs.Requests.{ReadsAs, request_of, AreTexts, request_with, read_by, HasRightCount};
+ghost use Rattle.mt_requests.specs.Requests.{ReadsAs, request_of, label_fault, label_bytes, path_fault, path_names, AreTexts, mount_said, request_with, read_by, HasRightCount};
 
-use crate::arguments::{change_said, next_word, number_said, scope_said, words_fault};
+use crate::arguments::{
+    attributes_said, change_said, next_word, number_said, scope_said, words_fault,
+};
 use crate::label::label_of;
 use crate::path::path_of;
 use mt_book::command::Command;
@@ -37,6 +39,33 @@ pub enum Request {
     Stop,
 }
 
+/// A mount of a filesystem, with attributes where a word behind the path says them. Refused as `NoMemory` alone.
+fn mount_said(
+    alloc: Global,
+    space: u64,
+    fs: &[u8],
+    path: &[u8],
+    rest: Words<'_>,
+) -> Result<Command, Fault>
+    requires label { label_fault fs.now ≡ None }
+    requires path { path_fault path.now ≡ None }
+    ensures said { IfOk result (λ command. command ≡ mount_said space (label_bytes fs.now) (path_names path.now) rest.entry) }
+    ensures memory { IsOkUnless result Fault.NoMemory }
+{
+    let fs = label_of(alloc, fs)?;
+    let path = path_of(alloc, path)?;
+    let mut rest = rest;
+    match rest.next() {
+        Some(word) => Ok(Command::MountWith {
+            space,
+            fs,
+            path,
+            set: attributes_said(word),
+        }),
+        None => Ok(Command::Mount { space, fs, path }),
+    }
+}
+
 /// The request of a verb and the words behind it, where each can stand there. Refused as `NoMemory` alone.
 fn request_with(alloc: Global, verb: Verb, words: Words<'_>) -> Result<Request, Fault>
     requires texts { AreTexts (verb_arguments verb) words }
@@ -66,11 +95,7 @@ fn request_with(alloc: Global, verb: Verb, words: Words<'_>) -> Result<Request, 
             less: second == b"less".as_slice(),
         })),
         Verb::Dropns => Ok(Request::Run(Command::DropSpace { space })),
-        Verb::Mount => Ok(Request::Run(Command::Mount {
-            space,
-            fs: label_of(alloc, second)?,
-            path: path_of(alloc, third)?,
-        })),
+        Verb::Mount => Ok(Request::Run(mount_said(alloc, space, second, third, words)?)),
         Verb::Bind => Ok(Request::Run(Command::Bind {
             space,
             src: path_of(alloc, second)?,

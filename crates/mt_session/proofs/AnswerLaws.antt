@@ -14,7 +14,7 @@ use Rattle.mt_info.specs.Table.{table_of}
 use Rattle.mt_events.specs.Posts.{PostView}
 use Rattle.mt_events.specs.Texts.{count_text, table_text, opening_text, posts_text, followed_text}
 use Rattle.mt_book.specs.declared.command.Command.{Command}
-use Rattle.mt_book.specs.declared.command.Command.TheVariants.{MakeFs, MakeDir, NewSpace, CopySpace, DropSpace, Mount, Bind, Move, Pivot, Unmount, Detach, SetAttr}
+use Rattle.mt_book.specs.declared.command.Command.TheVariants.{MakeFs, MakeDir, NewSpace, CopySpace, DropSpace, Mount, MountWith, Bind, Move, Pivot, Unmount, Detach, SetAttr}
 use Rattle.mt_book.specs.declared.command.Reply.TheVariants.{Done, Number}
 use Rattle.mt_book.specs.Step.{with_skel, with_made_number, with_done, step, after}
 use Rattle.mt_book.specs.Book.{found_at}
@@ -69,6 +69,7 @@ command_answer w (NewSpace fs) = made_number _
 command_answer w (CopySpace n less) = made_number _
 command_answer w (DropSpace n) = done _
 command_answer w (Mount n fs path) = made_number _
+command_answer w (MountWith n fs path set) = made_number _
 command_answer w (Bind n src dst true) = made_number _
 command_answer w (Bind n src dst false) = made_number _
 command_answer w (Move n src dst) = done _

@@ -16,12 +16,12 @@ use Rattle.mt_peers.specs.Making.{made}
 use Rattle.mt_propagate.specs.World.{WorldView}
 use Rattle.mt_propagate.specs.Named.{place_or_nowhere, is_mount_root}
 use Rattle.mt_setattr.specs.declared.change.Change.{Change}
+use Rattle.mt_setattr.specs.Words.{sets_two_times}
 
 -- two access times are set, or one for which clr makes no room (mount_setattr(2), MOUNT_ATTR__ATIME and EINVAL; that this holds for
 -- relatime too is this project's rule)
 abbrev pub clashes : Change → Bool
-clashes c = (c.set.relatime && c.set.noatime || c.set.relatime && c.set.strictatime || c.set.noatime && c.set.strictatime)
-    || ((c.set.relatime || c.set.noatime || c.set.strictatime) && not c.clr.atime)
+clashes c = sets_two_times c.set || ((c.set.relatime || c.set.noatime || c.set.strictatime) && not c.clr.atime)
 
 -- the access time that is set, or relatime if it was only taken away (mount_setattr(2), MOUNT_ATTR__ATIME; the second half: this
 -- project's rule)

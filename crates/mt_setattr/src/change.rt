@@ -1,10 +1,13 @@
-//! What is to be changed.
+//! What is to be changed, or what a new mount is to have.
+ghost use Rattle.std.specs.Prelude.{◌≡◌};
+ghost use Rattle.mt_setattr.specs.Words.{nothing_set, sets_two_times, new_with};
 
+use mt_mounts::mount::{Atime, Attrs};
 use mt_peers::state::Kind;
 
 /// What is to be added to the attributes: `attr_set` of mount_setattr(2).
 ///
-/// At most one of the three access times, and only if [`ClrWords::atime`] makes room for it.
+/// At most one of the three access times; where a mount is changed, only if [`ClrWords::atime`] makes room for it.
 #[derive(Clone, Copy, PartialEq, Eq, Debug)]
 pub struct SetWords {
     /// Nothing can be written.
@@ -25,6 +28,62 @@ pub struct SetWords {
     pub noatime: bool,
     /// Times of access are always updated.
     pub strictatime: bool,
+}
+
+impl SetWords {
+    /// Nothing is set.
+    pub fn new() -> SetWords
+        ensures { result ≡ nothing_set }
+    {
+        SetWords {
+            ro: false,
+            nosuid: false,
+            nodev: false,
+            noexec: false,
+            nosymfollow: false,
+            nodiratime: false,
+            relatime: false,
+            noatime: false,
+            strictatime: false,
+        }
+    }
+
+    /// Whether two access times are set.
+    pub fn sets_two_times(&self) -> bool
+        ensures { result ≡ sets_two_times self.now }
+    {
+        self.relatime && self.noatime
+            || self.relatime && self.strictatime
+            || self.noatime && self.strictatime
+    }
+
+    /// The access times of a new mount with these words: relative ones, unless other ones are set.
+    fn new_atime(&self) -> Atime
+        ensures { result ≡ (new_with self.now).atime }
+    {
+        if self.noatime {
+            Atime::Noatime
+        } else if self.strictatime {
+            Atime::Strictatime
+        } else {
+            Atime::Relatime
+        }
+    }
+
+    /// The attributes of a new mount with these words.
+    pub fn attrs(&self) -> Attrs
+        ensures { result ≡ new_with self.now }
+    {
+        Attrs {
+            ro: self.ro,
+            nosuid: self.nosuid,
+            nodev: self.nodev,
+            noexec: self.noexec,
+            nosymfollow: self.nosymfollow,
+            nodiratime: self.nodiratime,
+            atime: self.new_atime(),
+        }
+    }
 }
 
 /// What is to be taken away from the attributes first: `attr_clr` of mount_setattr(2).

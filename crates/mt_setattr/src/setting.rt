@@ -23,10 +23,7 @@ fn clashes(change: &Change) -> bool
 {
     let set = &change.set;
     let any = set.relatime || set.noatime || set.strictatime;
-    let two = set.relatime && set.noatime
-        || set.relatime && set.strictatime
-        || set.noatime && set.strictatime;
-    two || any && !change.clr.atime
+    set.sets_two_times() || any && !change.clr.atime
 }
 
 /// The access times of a mount after a change.

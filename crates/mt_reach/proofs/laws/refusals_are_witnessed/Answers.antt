@@ -1,3 +1,4 @@
+use Rattle.mt_reach.proofs.PlaceLaws.{off_root_witnessed, root_place_witnessed, outside_witnessed}
 use Rattle.mt_reach.proofs.WitnessLaws.{busy_witnessed, shared_witnessed, unbindable_witnessed, into_witnessed}
 use Rattle.mt_reach.proofs.laws.refusals_are_witnessed.Goals as goal
 
@@ -12,3 +13,12 @@ returns-clause-unbindable c = unbindable_witnessed
 
 pub returns-clause-into : goal.returns-clause-into
 returns-clause-into c = into_witnessed
+
+pub returns-clause-off : goal.returns-clause-off
+returns-clause-off c w p s h l = off_root_witnessed w s h p l
+
+pub returns-clause-place : goal.returns-clause-place
+returns-clause-place c w p s h l = root_place_witnessed w s h p l
+
+pub returns-clause-outside : goal.returns-clause-outside
+returns-clause-outside c = outside_witnessed
