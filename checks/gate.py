@@ -49,7 +49,9 @@ PROGRAM_CHECKS = (
     ("pages", "checks/pages.py", PROGRAM, CLIENT),
     ("checks of the program", "checks/program.py", PROGRAM),
     ("checks of the server", "checks/server.py", PROGRAM, CLIENT),
+    ("pages in a browser", "checks/browser.py", PROGRAM, CLIENT),
     ("the running kernel", "checks/kernel.py", PROGRAM),
+    ("where mounts come", "checks/reach.py", PROGRAM, CLIENT),
 )
 
 

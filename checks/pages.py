@@ -107,8 +107,9 @@ def check_help(helps):
         check_same(f"the options of {program}.1", options(text), found)
         entries = [word for word, _ in ENTRY.findall(section("mountd-lines.7", "LINES"))]
         check_same(f"the lines of mountd-lines.7, by the help of {program}", usages(text), entries)
-    found = [word.replace("\\-", "-") for word in re.findall(r"(?m)^\.It Cm (\S+)", page("mountctl.1"))]
-    wanted = [*words_in_place(helps["mountctl"]), *words_in_place(helps["mountctl"], "SOCKET WORD..")]
+    # Some stand in the place of a line, and of a socket too.
+    found = {word.replace("\\-", "-") for word in re.findall(r"(?m)^\.It Cm (\S+)", page("mountctl.1"))}
+    wanted = {*words_in_place(helps["mountctl"]), *words_in_place(helps["mountctl"], "SOCKET WORD..")}
     check_same("the words of mountctl.1", wanted, found)
 
 
@@ -187,10 +188,10 @@ PUT_TOGETHER = {
     "mountctl": [
         "connection fault: SOCKET: REASON",
         "line N: LINE: no NAME",
-        "line N: BadLine: REASON",
-        "line N: NoEntry: DST, PATH",
-        "BadLine: REASON",
-        "NoEntry: DST, PATH",
+        "no NAME",
+        "line N: a page has a watcher of its own",
+        "line N: NAME: REASON",
+        "NAME: REASON",
         "line N is no row of a mountinfo",
         "FILE: line N is no row of a mountinfo",
         "FILE: REASON",
@@ -198,6 +199,17 @@ PUT_TOGETHER = {
         "SOCKET: changes were lost",
         "SOCKET: others made changes",
         "table N: mount ID is left out: REASON",
+        "NAME: line N has a path or a device that cannot be read",
+        "several lines are of mount ID",
+        "NS: none of the tables, nor one of several of this name",
+        "PATH: no path that begins with a slash, or one with a backslash that begins no escape",
+        "the table has no root mount, so no path leads anywhere",
+        "TABLE: ID POINT is left out: REASON",
+        "TABLE: ID POINT is private here: REASON",
+        "TABLE: N more, of which each is left out: REASON",
+        "TABLE: N more, of which each is private here: REASON",
+        "line N: LINE: REASON",
+        "line N: a quote is not closed",
         "WORD: neither a refusal nor an errno",
         "WORD: neither a refusal nor an errno; the nearest is NAME",
     ],
@@ -209,14 +221,17 @@ RUNS = {
     "mountctl": [["--help"], ["import"], ["--nothing"], ["/", "show", "1"]],
 }
 
+# The sources whose words stand behind such a message, as its REASON.
+REASONS = {"missed.rt"}
+
 # What stands before a message in the source of a program: a call that says it, or the function that names it.
-SAID = re.compile(r'(?:fail\(rt, |fail_at\(rt, |refuse\(rt, |Some\(|=> |&str = )"([a-z][^"{]* [^"{]*)"')
+SAID = re.compile(r'(?:fail\(rt, |fail_at\(rt, |refuse\(rt, |Some\(|=>\s+(?:\{\s+)?|&str = )"([a-z][^"{]* [^"{]*)"')
 
 
 def messages_in(program):
     """The messages in the source of a program, and in that of what both programs say of their arguments."""
     folders = [os.path.join("crates", crate, "src") for crate in (program, "mt_arguments")]
-    texts = [shown(read(folder, name)) for folder in folders for name in sorted(os.listdir(os.path.join(TOP, folder)))]
+    texts = [shown(read(folder, name)) for folder in folders for name in sorted({*os.listdir(os.path.join(TOP, folder))} - REASONS)]
     return {f"{program}: {message}" for text in texts for message in SAID.findall(text)}
 
 
@@ -287,7 +302,7 @@ def offered(*words):
 def check_offers(helps):
     """The completion offers the options and words of mountctl --help, and after each word what may stand there."""
     check_same("the options that the completion offers", options(helps["mountctl"]), offered("-"))
-    check_same("the words that the completion offers alone", words_in_place(helps["mountctl"], "SOCKET WORD.."), [*offered("imp"), *offered("exp")])
+    check_same("the words that the completion offers alone", words_in_place(helps["mountctl"], "SOCKET WORD.."), [*offered("wha"), *offered("imp"), *offered("exp"), *offered("rea"), *offered("ori"), *offered("hol")])
     check_same("what the completion offers to be explained", [*refusals.NAMES, *errnos_of_sources()], offered("explain", ""))
     there = usages(helps["mountctl"])
     words = {*there, *words_in_place(helps["mountctl"])}
@@ -297,7 +312,7 @@ def check_offers(helps):
     check("the words that the completion offers without a socket", words <= {*offered("")}, " ".join(offered("")))
     del os.environ["MOUNTD_SOCKET"]
     for front in [], ["-e"], ["--wait", "5"], ["--wait=5", "-q"]:
-        check_same(f"what completes tree behind {front}", ["--ascii", "--json", "all"], offered(*front, "tree", ""))
+        check_same(f"what completes tree behind {front}", ["--ascii", "--json", "--name", "all"], offered(*front, "tree", ""))
     for word, usage in {**usages(helps["mountd"]), **words_in_place(helps["mountctl"])}.items():
         wanted = set(re.findall(r"(?<![^\s\[|])(?:--)?[a-z]+=?", usage.removeprefix(word))) - {word}
         found = {offer for count in range(4) for offer in offered("socket", word, *["1"] * count, "")}

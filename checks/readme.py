@@ -14,6 +14,9 @@ With --built the program that is built already, crates/NAME/out/NAME, takes the 
 `rt try --` in crates/NAME: one would prove everything to build it, the other build it once more. This is for
 .ci/run, where `rt ci` has just proved and built it from nothing.
 
+A block after `<!-- asked -->`, in README.md or docs/TOUR.md, is what a terminal shows: commands after `$ `, which need no server, and
+what each prints. With --built it is run.
+
 The block after `<!-- what-if -->` is what a terminal shows: commands after `$ `, and what each prints. The first one
 starts the server and the last one stops it. With --built it is run too.
 """
@@ -24,12 +27,13 @@ import sys
 import tempfile
 
 from documents.example import EXAMPLE
-from documents.steps import MOST_SECONDS, STEP, wait_for_socket
+from documents.steps import STEP
 from harness.runs import TOP, check, difference, failures, read, shown
 from sessions import cases
 
 BLOCK = re.compile(rb"(?m)^(?:<!-- (.*) -->\n)?```(.*)\n((?:(?!```).*\n)*?)```$")
 BUILDING_RUN = re.compile(rb"cd crates/(\w+) && rt (?:run|try) -- ")
+ASKED = re.compile(rb"(?m)^<!-- asked -->\n```.*\n((?:(?!```).*\n)*?)```$")
 QUESTION = re.compile(rb"(?m)^<!-- what-if -->\n```.*\n((?:(?!```).*\n)*?)```$")
 
 
@@ -56,26 +60,37 @@ def check_commands(is_built):
     check("README.md has a command that is run", ran > 0)
 
 
-def check_printed(command, wanted, found):
-    name = f"README.md's command {shown(command)}"
-    check(f"what {name} prints", found == wanted, difference(wanted, found, "README.md"))
+def check_printed(command, wanted, found, page="README.md"):
+    name = f"{page}'s command {shown(command)}"
+    check(f"what {name} prints", found == wanted, difference(wanted, found, page))
+
+
+def with_programs():
+    """The environment, in which the programs are found that are built."""
+    folders = [os.path.join(TOP, "crates", name, "out") for name in ("mountd", "mountctl")]
+    return dict(os.environ, PATH=os.pathsep.join([*folders, os.environ["PATH"]]))
+
+
+def check_asked():
+    """What the pages show of questions that need no server is what the client prints."""
+    for page in ("README.md", "docs/TOUR.md"):
+        for text in ASKED.findall(read(*page.split("/"))):
+            for command, wanted in STEP.findall(text):
+                done = subprocess.run(["sh", "-c", command], cwd=TOP, env=with_programs(), stdout=subprocess.PIPE)
+                check_printed(command, wanted, done.stdout, page)
 
 
 def check_question():
     """What README.md's question shows is what the programs print."""
     [text] = QUESTION.findall(read("README.md"))
-    folders = [os.path.join(TOP, "crates", name, "out") for name in ("mountd", "mountctl")]
-    environment = dict(os.environ, PATH=os.pathsep.join([*folders, os.environ["PATH"]]))
-    (start, _), *asked = STEP.findall(text)
+    environment = dict(os.environ, PATH=os.pathsep.join([os.path.join(TOP, "crates", "mountctl", "out"), os.environ["PATH"]]))
+    asked = STEP.findall(text)
     with tempfile.TemporaryDirectory() as folder:
         os.symlink(os.path.join(TOP, "docs"), os.path.join(folder, "docs"))
-        settings = {"cwd": folder, "env": environment, "stdout": subprocess.PIPE}
-        with subprocess.Popen(["sh", "-ec", b"exec " + start.rstrip(b"& ")], **settings) as server:
-            wait_for_socket(folder)
-            for command, wanted in asked:
-                check_printed(command, wanted, subprocess.run(["sh", "-ec", command], **settings).stdout)
-            server.wait(MOST_SECONDS)
-            check("README.md's server of the question ends well", server.returncode == 0, f"status {server.returncode}")
+        for command, wanted in asked:
+            settings = {"cwd": folder, "env": environment, "stdin": subprocess.DEVNULL, "stdout": subprocess.PIPE}
+            check_printed(command, wanted, subprocess.run(["sh", "-c", command], check=False, **settings).stdout)
+    check("README.md has a question", len(asked) > 0)
 
 
 def main():
@@ -84,6 +99,7 @@ def main():
     check_commands(sys.argv[1:] == ["--built"])
     if sys.argv[1:] == ["--built"]:
         check_question()
+        check_asked()
     if failures:
         raise SystemExit(f"checks of README.md's commands failed: {len(failures)}")
     print("README.md's commands print what they should")

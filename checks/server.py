@@ -16,6 +16,7 @@ import time
 
 from clients.answers import check_answers
 from clients.crowds import check_crowds
+from clients.foretold import check_foretold
 from clients.hosts import check_hosts
 from clients.imports import check_import
 from clients.limits import check_limits
@@ -32,9 +33,11 @@ from clients.mountctl import (
 )
 from clients.objects import check_objects
 from clients.pictures import check_pictures, update_pictures
+from clients.played import check_played
 from clients.python import check_python
 from clients.questions import check_questions
 from clients.reasons import check_reasons
+from clients.refusals import check_refusals
 from clients.starts import check_starts
 from clients.terminals import check_terminals
 from clients.worlds import check_worlds
@@ -89,6 +92,7 @@ CLIENT_PARTS = {
     "writes": check_writes,
     "reading": check_reading,
     "reasons": check_reasons,
+    "refusals": check_refusals,
     "starts": check_starts,
     "terminals": check_terminals,
     "retold": check_retold,
@@ -101,6 +105,8 @@ CLIENT_PARTS = {
     "worlds": check_worlds,
     "hosts": check_hosts,
     "questions": check_questions,
+    "played": check_played,
+    "foretold": check_foretold,
 }
 
 

@@ -184,38 +184,80 @@ RINGS = b"""1 1 0:1 / / rw,relatime shared:1 - rootfs none rw
 """
 GRAPH = b"""digraph mounts {
 node [shape=box, fontsize=10, height=0];
+edge [fontsize=10];
 subgraph "cluster_1" {
 label="namespace 1";
 "1.1" [label="1 /\\nrootfs\\nrw,relatime\\nshared:1", penwidth=2, color=blue3];
-"1.2" [label="2 /m\\next4\\nrw,relatime\\nshared:9,master:1", penwidth=2, color=blue3];
+"1.2" [label="2 /m\\next4\\nrw,relatime\\nshared:9,master:1", penwidth=2, color=darkorange2];
 "1.3" [label="3 /m/\\\\042\\\\046\\\\377\\\\001\\\\134\\next4[/\\\\042a/b]\\nro,relatime\\nshared:1", penwidth=2, color=blue3];
 }
 subgraph "cluster_2" {
 label="namespace 2";
 "2.4" [label="4 /\\nrootfs\\nrw,relatime\\nshared:1", penwidth=2, color=blue3];
-"2.5" [label="5 /m\\next4\\nrw,relatime\\nshared:9,master:7,propagate_from:1", penwidth=2, color=blue3];
+"2.5" [label="5 /m\\next4\\nrw,relatime\\nshared:9,master:7,propagate_from:1", penwidth=2, color=darkorange2];
 }
 "1.1" -> "1.2" [arrowhead=none, color=black];
 "1.2" -> "1.3" [arrowhead=none, color=black];
 "2.4" -> "2.5" [arrowhead=none, color=black];
 "1.1" -> "1.3" [dir=none, constraint=false, style=bold, color=blue3];
-"1.2" -> "2.5" [dir=none, constraint=false, style=bold, color=blue3];
+"1.2" -> "2.5" [dir=none, constraint=false, style=bold, color=darkorange2];
 "1.3" -> "2.4" [dir=none, constraint=false, style=bold, color=blue3];
 "2.4" -> "1.1" [dir=none, constraint=false, style=bold, color=blue3];
 "1.1" -> "1.2" [style=dashed, color=blue3];
-"group 7" -> "2.5" [style=dashed, color=goldenrod3];
+"group 7" -> "2.5" [style=dashed, color=green4];
+"legend" [shape=plain, label=<<table border="0" cellborder="0">
+<tr><td>peer group</td><td>mounts</td></tr>
+<tr><td border="2" color="blue3">1</td><td>3</td></tr>
+<tr><td border="2" color="green4">7</td><td>0</td></tr>
+<tr><td border="2" color="darkorange2">9</td><td>2</td></tr>
+</table>>];
 }
 """
 GRAPH_OF_ONE = b"""digraph mounts {
 node [shape=box, fontsize=10, height=0];
+edge [fontsize=10];
 subgraph "cluster_1" {
 label="namespace 1";
 "1.3" [label="3 /\\nrootfs\\nrw,relatime\\nmaster:1"];
 }
 "group 1" -> "1.3" [style=dashed, color=blue3];
+"legend" [shape=plain, label=<<table border="0" cellborder="0">
+<tr><td>peer group</td><td>mounts</td></tr>
+<tr><td border="2" color="blue3">1</td><td>0</td></tr>
+</table>>];
+}
+"""
+# One of no group, whose namespace has a name.
+ALONE = b"3 3 0:1 / / rw,relatime - rootfs none rw\n"
+GRAPH_OF_NAMED = rb"""digraph mounts {
+node [shape=box, fontsize=10, height=0];
+edge [fontsize=10];
+subgraph "cluster_1" {
+label="namespace 1 (a\\042\\040b\\303\\244)";
+"1.3" [label="3 /\nrootfs\nrw,relatime\nprivate"];
+}
 }
 """
 SPACES = b"namespace 1: 2 mounts\nnamespace 2: 1 mount\nnamespace 3: 0 mounts\n"
+NAMED_SPACES = b"namespace 1 (a\\040\\x1bb): 2 mounts\nnamespace 2: 1 mount\nnamespace 3 (x=y): 0 mounts\n"
+SPACES_AS_JSON = b"""{"mounts":2,"namespace":1}
+{"mounts":1,"name":"w eb","namespace":2}
+"""
+NAMED_TREES = TREES.replace(b"namespace 1\n", b"namespace 1 (a\\040\\x1bb)\n").replace(b"namespace 2\n", b"namespace 2 (w)\n")
+# Where a path leads, and the parts of STACKS to which it does.
+PLACED = b"ok %d /\n"
+SHOWN = b"ok 7 1\n" + STACKS
+PART_OF_STACKS = b"""namespace 1
+ID TARGET       SOURCE FSTYPE OPTIONS     PROPAGATION
+2  /mnt         d      ext4   rw,relatime shared:2,master:1
+3  `-/mnt/a     d      ext4   ro,relatime private
+5    |-/mnt/a   d      ext4   ro,relatime private
+9    `-/mnt/a/n none   tmpfs  rw,relatime private
+"""
+PART_OF_TOP = b"""namespace 1
+ID TARGET SOURCE FSTYPE OPTIONS     PROPAGATION
+5  /mnt/a d      ext4   ro,relatime private
+"""
 
 
 def opening(*tables):
@@ -241,6 +283,20 @@ PICTURES = (
     Exchange("tree all --ascii", ALL, opening(TWO, ONE), TREES, 0),
     Exchange("dot all", ALL, opening(*RINGS), GRAPH, 0),
     Exchange("dot 1", b"watch 1\n", opening(ONE), GRAPH_OF_ONE, 0),
+    Exchange("dot --name '1=a\" bä' 1", b"watch 1\n", opening(ALONE), GRAPH_OF_NAMED, 0),
+    Exchange("tree --name 2=w --ascii --name '1=a \x1bb'", ALL, opening(TWO, ONE), NAMED_TREES, 0),
+    Exchange("tree 1 /mnt --ascii", b"find 1 /mnt\nshow 1\n", PLACED % 2 + SHOWN, PART_OF_STACKS, 0),
+    Exchange("tree 1 --ascii /mnt/a", b"find 1 /mnt/a\nshow 1\n", PLACED % 5 + SHOWN, PART_OF_TOP, 0),
+    Exchange("tree 1 /none", b"find 1 /none\n", b"no NoEntry\n", b"no NoEntry\n", 1),
+    Exchange("dot 1 /none", b"find 1 /none\n", b"no NoNamespace\n", b"no NoNamespace\n", 1),
+    Exchange("tree 1 /none --json", b"find 1 /none\n", b"no NoEntry\n", b'{"refusal":"NoEntry"}\n', 1),
+    # A mount that has gone is looked for again.
+    Exchange("tree 1 /mnt --ascii", b"find 1 /mnt\nshow 1\n" * 2, PLACED % 99 + SHOWN + PLACED % 2 + SHOWN, PART_OF_STACKS, 0),
+    Exchange("tree 1 /mnt", b"find 1 /mnt\n", b"ok\n", b"", 3),
+    Exchange("tree 1 /mnt", b"find 1 /mnt\nshow 1\n", PLACED % 2 + b"ok 1 1\nnonsense\n", b"", 3),
+    Exchange("spaces --name 3=x=y --name '1=a \x1bb'", ALL, opening(TWO, ONE, b""), NAMED_SPACES, 0),
+    Exchange("spaces --name '2=w eb' --json", ALL, opening(TWO, ONE), SPACES_AS_JSON, 0),
+    Exchange("spaces --json", ALL, b"no TooManyWatchers\n", b'{"refusal":"TooManyWatchers"}\n', 1),
     Exchange("spaces", ALL, opening(TWO, ONE, b""), SPACES, 0),
     Exchange("spaces", ALL, opening(), b"", 0),
     Exchange("spaces", ALL, b"no TooManyWatchers\n", b"no TooManyWatchers\n", 1),
@@ -308,6 +364,10 @@ CHANGES = (
 STOPPED = b"no Stopped\n"
 FOLLOWING = b"watch 2\nfollow 1048576\n"
 MONITORS = tuple(Exchange("monitor 2", FOLLOWING, BEFORE + post + STOPPED, told + STOPPED, 1) for post, told in CHANGES)
+NAMED_MONITORS = (
+    Exchange("monitor 2 --name 2=w", FOLLOWING, BEFORE + post + STOPPED, told.replace(b"namespace 2\n", b"namespace 2 (w)\n") + STOPPED, 1)
+    for post, told in CHANGES
+)
 
 
 def check_ended(name, client, path, found, printed, status, said=b""):
@@ -339,7 +399,7 @@ def check_turned_away(mountctl, door, answer, printed, status):
 def check_answers(_program, mountctl):
     """What the other program makes of each of these answers."""
     with Door() as door:
-        for exchange in (*REQUESTS, *MIRRORS, *PICTURES, *MONITORS):
+        for exchange in (*REQUESTS, *MIRRORS, *PICTURES, *MONITORS, *NAMED_MONITORS):
             check_exchange(mountctl, door, exchange)
         for answer, printed, status in TURNED_AWAY:
             check_turned_away(mountctl, door, answer, printed, status)

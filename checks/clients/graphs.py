@@ -23,15 +23,25 @@ class Graph(NamedTuple):
     parents: list  # from where to where
     peers: list  # from where to where, in which colour
     slaves: list  # likewise
+    labelled: list  # the groups whose numbers edges have as labels
+    legend: dict  # of each peer group, its colour and how many members it has
 
 
-# The colours of peer groups, by their numbers modulo eight.
-COLOURS = "red3", "blue3", "green4", "darkorange2", "purple3", "turquoise4", "deeppink2", "goldenrod3"
+# The colours of the first peer groups, by rising number, and that of all others.
+COLOURS = (
+    *("blue3", "green4", "darkorange2", "purple3", "turquoise4", "deeppink2", "goldenrod3", "red3"),
+    *("dodgerblue2", "saddlebrown", "springgreen3", "magenta3", "olivedrab", "tomato", "navy", "maroon"),
+    *("cadetblue4", "orchid4", "chocolate3", "darkslategray", "mediumpurple1", "palevioletred3", "khaki4", "skyblue3"),
+)
+NO_COLOUR = "gray50"
+
+# A line of the legend.
+LEGEND = re.compile(r'<tr><td border="2" color="(\w+)">(\d+)</td><td>(\d+)</td></tr>')
 
 
-def colour(group):
-    """The colour of the group of this number."""
-    return COLOURS[group % len(COLOURS)]
+def colours_of(groups):
+    """The colours of these groups."""
+    return {group: COLOURS[at] if at < len(COLOURS) else NO_COLOUR for at, group in enumerate(sorted(groups))}
 
 
 def visible(cell):
@@ -62,7 +72,13 @@ def wanted_graph(tables):
     groups = collections.defaultdict(list)
     for name, mount in mounts.items():
         groups[dict(mount.numbered()).get(b"shared")].append(name)
-    graph = Graph({}, {}, clusters, [], [], [])
+    groups.pop(None, None)
+    masters = [dict(mount.numbered())[b"master"] for mount in mounts.values() if b"master" in dict(mount.numbered())]
+    colours = colours_of({*groups, *masters})
+    legend = {group: (own, len(groups.get(group, []))) for group, own in colours.items()}
+    rings = [group for group, names in groups.items() for _ in joined(names)]
+    labelled = [group for group in (*masters, *rings) if colours[group] == NO_COLOUR]
+    graph = Graph({}, {}, clusters, [], [], [], labelled, legend)
     for name, mount in mounts.items():
         number, target, _, kind, options, propagation = cells_of(mount, b"")
         graph.labels[name] = "\n".join(map(visible, (number + b" " + target, kind + root_shown(mount), options, propagation)))
@@ -72,11 +88,10 @@ def wanted_graph(tables):
         master = dict(mount.numbered()).get(b"master")
         if master:
             first = next(iter(groups.get(master, [])), f"group {master}")
-            graph.slaves.append((first, name, colour(master)))
-    groups.pop(None, None)
+            graph.slaves.append((first, name, colours[master]))
     for group, names in groups.items():
-        graph.colours.update((name, colour(group)) for name in names)
-        graph.peers.extend((*pair, colour(group)) for pair in joined(names))
+        graph.colours.update((name, colours[group]) for name in names)
+        graph.peers.extend((*pair, colours[group]) for pair in joined(names))
     return graph
 
 
@@ -89,16 +104,19 @@ def drawn_graph(text):
     """The graph that dot has read."""
     read = json.loads(text)
     names = {thing["_gvid"]: thing["name"] for thing in read.get("objects", [])}
-    graph = Graph({}, {}, {}, [], [], [])
+    graph = Graph({}, {}, {}, [], [], [], [], {})
     for thing in read.get("objects", []):
         if thing["name"].startswith("cluster_"):
             graph.clusters[thing["label"]] = [names[at] for at in thing.get("nodes", [])]
+        elif thing["name"] == "legend":
+            graph.legend.update((int(group), (own, int(count))) for own, group, count in LEGEND.findall(thing["label"]))
         elif not thing["name"].startswith("group "):
             graph.labels[thing["name"]] = unescaped(thing["label"])
             if "color" in thing:
                 graph.colours[thing["name"]] = thing["color"]
     for edge in read.get("edges", []):
         pair = names[edge["tail"]], names[edge["head"]]
+        graph.labelled.extend([int(edge["label"])] if edge.get("label") else [])
         if edge.get("style") == "bold":
             graph.peers.append((*pair, edge["color"]))
         elif edge.get("style") == "dashed":
@@ -108,10 +126,10 @@ def drawn_graph(text):
     return graph
 
 
-def check_graph(name, mountctl, path, tables):
-    """The graph of these tables, each a list of mounts, is read by dot, and says what they say."""
-    status, text, complaint = run(mountctl, b"", path, "dot")
-    check(f"{name}: mountctl dot: its end", (status, complaint) == (0, b""), f"{status}, {shown(complaint)}")
+def check_graph(name, mountctl, path, tables, *words):
+    """The graph of these tables, each a list of mounts, which these words ask for, is read by dot, and says what they say."""
+    status, text, complaint = run(mountctl, b"", path, "dot", *words)
+    check(f"{name}: mountctl dot {words}: its end", (status, complaint) == (0, b""), f"{status}, {shown(complaint)}")
     if not shutil.which("dot"):
         return
     with tempfile.TemporaryDirectory() as folder:

@@ -34,6 +34,8 @@ DRAWINGS = (
     ("tree --json", WIDE, "show 1 --json", WIDE, 1.5),
     ("dot", GROUPS, "dot", WIDE, 3),
     ("dot", SLAVES, "dot", WIDE, 3),
+    ("dot 1 /", STACK, "dot", WIDE, 3),
+    ("tree 1 / --json", WIDE, "show 1 --json", WIDE, 3),
 )
 
 
@@ -43,13 +45,19 @@ def spent():
     return used.ru_utime + used.ru_stime
 
 
+def answer_to(words, rows):
+    """What a server answers that shows these rows: to a watcher, or to one who asks where a path ends, and then for a table."""
+    if "/" in words:
+        return b"\n".join([b"ok 1 /", b"ok %d 1" % len(rows), *rows, b""])
+    return b"\n".join([b"ok %d" % (len(rows) + 1), b"space 1 0 %d" % len(rows), *rows, b""])
+
+
 def time_of(mountctl, words, rows):
     """The processor time of one run."""
-    opening = b"\n".join([b"ok %d" % (len(rows) + 1), b"space 1 0 %d" % len(rows), *rows, b""])
     with Door() as door, concurrent.futures.ThreadPoolExecutor(1) as pool:
         start = spent()
         running = pool.submit(run, mountctl, b"", door.path, *words.split())
-        door.answers(opening)
+        door.answers(answer_to(words, rows))
         status, text, complaint = running.result()
         check(f"{words} of {len(rows)} rows", (status, complaint) == (0, b"") and len(text) > len(rows), repr((status, complaint)))
         return spent() - start

@@ -104,19 +104,22 @@ def check_client(program, mountctl):
 
 # Words of a mirror, of a monitor and of drawings that are none, and what is said of them.
 NO_MIRRORS = "mirror", "mirror 1", "mirror x 1", "mirror 01 1", "mirror 1 1 1", "mirror 1 -1"
-NO_MONITORS = "monitor", "monitor --json", "monitor 1 --ascii", "monitor 1 --time --time", "monitor x", "monitor 01", "monitor 1 2", "monitor all all", "monitor -1"
-NO_TREES = "tree x", "tree 01", "tree 1 2", "tree --ascii --ascii", "tree 1 --ascii 2", "tree --plain", "tree 1 -a", "tree --json --ascii", "tree --time"
+NO_MONITORS = "monitor", "monitor 1 /m", "monitor --json", "monitor 1 --ascii", "monitor 1 --time --time", "monitor x", "monitor 01", "monitor 1 2", "monitor all all", "monitor -1"
+NO_TREES = "tree x", "tree 01", "tree 1 2", "tree --ascii --ascii", "tree 1 --ascii 2", "tree --plain", "tree 1 -a", "tree --json --ascii", "tree --time", "tree all /m", "tree /m", "tree 1 m", "tree 1 /m /m"
 NO_TABLES = "show --json", "show all --json", "show --json 1 --json", "show 1 2 --json"
 NO_PLACES = "find --json", "find 1 --json", "find x / --json", "find 1 / / --json"
-NO_GRAPHS = "dot x", "dot 1 2", "dot --ascii"
+NO_GRAPHS = "dot x", "dot 1 2", "dot --ascii", "dot --json", "dot all /m", "dot /m", "dot 1 /m /m"
+NO_LISTS = "spaces 1", "spaces all", "spaces --ascii", "spaces --json --json"
+NO_NAMES = "tree --name", "tree --name 1", "tree 1 --name 1=", "dot --name =a", "dot --name 01=a", "spaces --name x=a", "monitor all --name --json", "tree --name 1=a --name 1=b"
 NO_TASKS = (
     (NO_MONITORS, b"mountctl: monitor takes a namespace, or all, and --json and --time\n"),
     (NO_MIRRORS, b"mountctl: mirror takes a namespace and a count\n"),
-    (NO_TREES, b"mountctl: tree takes a namespace, all or none, and --ascii or --json\n"),
+    (NO_TREES, b"mountctl: tree takes a namespace and a path, all or none, --ascii or --json\n"),
     (NO_TABLES, b"mountctl: show takes a namespace, and --json\n"),
     (NO_PLACES, b"mountctl: find takes a namespace and a path, and --json\n"),
-    (NO_GRAPHS, b"mountctl: dot takes a namespace, all or none\n"),
-    (["spaces 1", "spaces all"], b"mountctl: spaces takes no words\n"),
+    (NO_GRAPHS, b"mountctl: dot takes a namespace and a path, all or none\n"),
+    (NO_LISTS, b"mountctl: spaces takes --json, or no words\n"),
+    (NO_NAMES, b"mountctl: a name is given as --name 2=web, once for each namespace\n"),
 )
 
 # Lines of the server that a user might take for the client's own, and what answers each, of two namespaces.
@@ -260,7 +263,7 @@ def check_lines(program, mountctl):
     kept, lines = words_of(mountctl, b"In the place of WORD..:"), words_of(program, b"Lines of a session:")
     check("the words of both", kept & lines == {b"show", b"find"}, repr(kept & lines))
     kept -= lines
-    check("the words of the client", kept == {b"-", b"monitor", b"mirror", b"tree", b"dot", b"spaces", b"what-if"}, repr(kept))
+    check("the words of the client", kept == {b"-", b"monitor", b"mirror", b"tree", b"dot", b"spaces", b"what-if", b"reach", b"origin", b"holders", b"page"}, repr(kept))
     check("the words of the server", lines == set(commands.LINES), repr(sorted(lines)))
     with Server(program) as server, server.free() as client:
         for line in START:
@@ -331,9 +334,12 @@ def check_statuses(program, mountctl):
 
 
 class Asked(Words):
-    """A run of the other program, which says after a part of what it prints that memory is missing."""
+    """A run of the other program, which says after a part of what it prints that memory is missing. It may also do without: the
+    tables of indexmap ask for less then."""
 
     def allows(self, status, text, complaint):
+        if (status, text, complaint) == self.plain:
+            return True
         said = complaint.removesuffix(OUT_OF_MEMORY[2])
         return (status, b"", complaint[len(said) :]) == OUT_OF_MEMORY and self.plain[1].startswith(text) and self.plain[2].startswith(said)
 

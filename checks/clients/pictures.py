@@ -22,6 +22,9 @@ from sessions import cases
 # Worlds of more mounts are left out.
 MOST_MOUNTS = 200
 
+# How many paths of a namespace are drawn.
+MOST_PATHS = 5
+
 # How many characters wide a column is at most: what is wider pushes the cells after it to the right.
 MOST_WIDTH = 60
 
@@ -124,9 +127,47 @@ def check_trees(name, mountctl, path, tables):
         check_drawn(name, mountctl, path, f"tree {space} --ascii", drawn({space: mounts}, PLAIN))
 
 
+def is_at_or_below(point, path):
+    """Whether a mount point is a path, or below it."""
+    return path == b"/" or point == path or point.startswith(path + b"/")
+
+
+def part_of(mounts, top, path):
+    """The mount of this number, on which a path ends, and those below it whose mount points are the path or below it."""
+    below, waiting = {top}, [top]
+    while waiting:
+        parent = waiting.pop()
+        children = {mount.id for mount in mounts if mount.parent == parent} - below
+        below |= children
+        waiting += children
+    return [mount for mount in mounts if mount.id == top or mount.id in below and is_at_or_below(mount.point, path)]
+
+
+def paths_of(mounts):
+    """Some mount points, and the folders around them, of a case."""
+    points = {mount.point for mount in mounts}
+    paths = points | {point.rpartition(b"/")[0] or b"/" for point in points}
+    return [path for path in sorted(paths) if b"\\" not in path and path.isascii()][:MOST_PATHS]
+
+
+def check_parts(name, mountctl, path, client, tables):
+    """The parts of namespaces to which paths lead, of which one is drawn as a graph too. How many are not all of a namespace."""
+    smaller = 0
+    for space, mounts in tables.items():
+        for place in paths_of(mounts):
+            told, *words = client.ask(b"find %d %b" % (space, place))[0].split()
+            if told == b"ok":
+                part = {space: part_of(mounts, int(words[0]), place)}
+                check_drawn(name, mountctl, path, f"tree {space} {place.decode()}", drawn(part))
+                if smaller == 0 and len(part[space]) < len(mounts):
+                    check_graph(name, mountctl, path, part, str(space), place.decode())
+                smaller += len(part[space]) < len(mounts)
+    return smaller
+
+
 def check_cases(program, mountctl):
     """The world that each case leaves is drawn as it is shown."""
-    worlds, mounts = 0, 0
+    worlds, mounts, parts = 0, 0, 0
     for name in cases.names():
         case = cases.load(name)
         lines, spaces = world_of(case)
@@ -138,9 +179,30 @@ def check_cases(program, mountctl):
             if count <= MOST_MOUNTS:
                 check_trees(f"case {name}", mountctl, server.path, tables)
                 check_graph(f"case {name}", mountctl, server.path, tables)
+                parts += check_parts(f"case {name}", mountctl, server.path, client, tables)
                 worlds, mounts = worlds + 1, mounts + count
-    check("mounts of cases are drawn", mounts > 0)
-    print(f"{mounts} mounts of {worlds} cases drawn", flush=True)
+    check("mounts of cases are drawn", mounts > 0 and parts > 0)
+    print(f"{mounts} mounts of {worlds} cases and {parts} parts of their namespaces drawn", flush=True)
+
+
+# Thirty mounts, each of a group of its own, of which each has a peer in the other namespace.
+GROUPS = [
+    b"mkfs a tmpfs none",
+    *[b"mkdir a /%d" % at for at in range(30)],
+    b"newns a",
+    *[line for at in range(30) for line in (b"mount 1 a /%d" % at, b"setattr 1 /%d prop=shared" % at)],
+    b"copyns 1",
+]
+
+
+def check_colours(program, mountctl):
+    """More groups than there are colours."""
+    with Server(program) as server, server.client() as client:
+        for line in GROUPS:
+            client.ask(line)
+        tables = tables_of(client, 2)
+        check("thirty groups", [len(mounts) for mounts in tables.values()] == [31, 31], repr(tables))
+        check_graph("thirty groups", mountctl, server.path, tables)
 
 
 # A world of some 4,000 mounts: a stack of 62 on each of 64 directories.
@@ -225,6 +287,7 @@ def check_pictures(program, mountctl):
     check("dot is there, as CI needs it", is_there("dot", "graphviz") or "CI" not in os.environ)
     check_cases(program, mountctl)
     check_large(program, mountctl)
+    check_colours(program, mountctl)
     check_growth(mountctl)
     check_refusals(program, mountctl)
     if shutil.which("dot"):

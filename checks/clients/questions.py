@@ -28,6 +28,13 @@ DEVICES = [b"0:1", b"0:2", b"0:3"]
 
 TABLE = [b"1 1 0:1 / / rw,relatime shared:1 - tmpfs none rw", b"2 1 0:2 / /a rw,relatime - tmpfs none rw", b"3 9 0:2 / /b rw - tmpfs none rw"]
 
+# What is said of a bind in it to /none.
+NOT_THERE = b"""mountctl: line 1: bind 1 /a /none: no NoEntry
+mountctl: line 1: NoEntry: DST, /none is not there: / is directory / of mount 2 at /, and has no none
+    2 / none shared:1
+  to change that: mkdir FS /none, where FS is the filesystem 0:1
+"""
+
 NO_QUESTIONS = "", "-- show 1", "FILE", "FILE --", "--pid -- show 1", "--pid x -- show 1", "-x -- show 1", "FILE -- quit", "FILE -- stop -- show 1", "FILE -- watch 1"
 NO_QUESTION_SAID = b"mountctl: what-if takes files, and lines behind --\n"
 
@@ -135,7 +142,7 @@ def check_by_hand(program, mountctl):
         check("a line in front that is refused", good, shown(complaint))
         for lines, said in (
             ([["shwo", "1"], *mounted], b"mountctl: line 1: shwo 1: no BadLine\nmountctl: line 1: BadLine: shwo: no line begins so; the nearest is show\n"),
-            ([["bind", "1", "/a", "/none"], *mounted], b"mountctl: line 1: bind 1 /a /none: no NoEntry\nmountctl: line 1: NoEntry: DST, /none\n"),
+            ([["bind", "1", "/a", "/none"], *mounted], NOT_THERE),
             ([["show", "x"]], b"mountctl: BadLine: x: NS is a number, digits without a leading zero, below 18446744073709551616\n"),
         ):
             status, text, complaint = asked(program, mountctl, names, *lines)

@@ -1,7 +1,7 @@
 """What the other program says of a line that is refused, beside its refusal: a module, a part of server.py.
 
-What is wrong with a bad line, and which of two paths is refused, stands on standard error; the answers are those of the
-server. Of random lines it is asked that something is said exactly where the answer is `no BadLine`.
+What is wrong with a bad line stands on standard error; the answers are those of the server. Of random lines it is asked that
+something is said exactly where the answer is `no BadLine`, and of others only behind their refusals.
 """
 import random
 import re
@@ -15,7 +15,9 @@ from harness.servers import START, Server
 LINES = 4_000
 
 # What is said of a line of a script after its refusal: its number, and the name of the refusal.
-SAID = re.compile(rb"mountctl: line (\d+): (BadLine|NoEntry|NotMountRoot|RootPlace): ")
+SAID = re.compile(rb"mountctl: line (\d+): ([A-Z][A-Za-z]+): (?!no [A-Za-z]+$)")
+# What stands below that: the mounts in the way, and what would help.
+BELOW = b"    ", b"  to change that: "
 
 USAGE = b"too few words, or too many: "
 NUMBER = b": NS is a number, digits without a leading zero, below 18446744073709551616"
@@ -63,23 +65,6 @@ BAD = (
     (b"setattr 1 / rec set=ro rec", TWICE),
 )
 
-# Lines with two paths after START and a mount at /m, the refusal of each, and the path that it is of.
-TWO_PATHS = (
-    (b"bind 1 /none /m", b"NoEntry", b"SRC, /none"),
-    (b"rbind 1 /m /none", b"NoEntry", b"DST, /none"),
-    (b"bind 1 /none /other", b"NoEntry", b"SRC, /none"),
-    (b"bind 1 / /", b"RootPlace", b"DST, /"),
-    (b"move 1 /n /m", b"NotMountRoot", b"SRC, /n"),
-    (b"move 1 / /m", b"RootPlace", b"SRC, /"),
-    (b"move 1 /m /", b"RootPlace", b"DST, /"),
-    (b"move 1 /m /no\x7fne", b"NoEntry", b"DST, /no\\x7fne"),
-    (b"pivot 1 /none /", b"NoEntry", b"NEW, /none"),
-    (b"pivot 1 /m /none", b"NoEntry", b"OLD, /none"),
-    (b"pivot 1 /n /n", b"NotMountRoot", b"NEW, /n"),
-    (b"pivot 1 / /n", b"RootPlace", b"NEW, /"),
-    (b"pivot 1 /m /", b"RootPlace", b"OLD, /"),
-)
-
 # Words of random lines: those that begin one, but for what waits or ends, and others.
 BEGINNINGS = [word for word in commands.LINES if word not in (b"follow", *commands.ENDING)]
 WORDS = (
@@ -92,21 +77,21 @@ def without_reasons(complaint):
     """A complaint without what is said of its lines after their refusals, and that: the lines' numbers and refusals."""
     lines = complaint.splitlines(keepends=True)
     said = [(int(found[1]), found[2]) for found in map(SAID.match, lines) if found]
-    return b"".join(line for line in lines if not SAID.match(line)), said
+    return b"".join(line for line in lines if not SAID.match(line) and not line.startswith(BELOW)), said
 
 
-def check_of_script(server, mountctl, line, refusal, said):
+def check_of_script(server, mountctl, line, said):
     """What is said of a line that stands in a script."""
     found = run(mountctl, b"# none\n" + line + b"\n", server.path, "-")
     shown_line = run(mountctl, line + b"\n", server.path, "-")[2].split(b"\n")[0].split(b": ", 2)[2]
-    wanted = b"mountctl: line 2: %b\nmountctl: line 2: %b: %b\n" % (shown_line, refusal, said)
-    check(f"what is said of {line!r} in a script", found == (1, b"no %b\n" % refusal, wanted), repr(found))
+    wanted = b"mountctl: line 2: %b\nmountctl: line 2: BadLine: %b\n" % (shown_line, said)
+    check(f"what is said of {line!r} in a script", found == (1, b"no BadLine\n", wanted), repr(found))
 
 
 def check_by_hand(server, mountctl):
     """Each of these lines, in a script and as words; those of words that no argument can have are in scripts alone."""
-    for line, refusal, said in (*((line, b"BadLine", said) for line, said in BAD), *TWO_PATHS):
-        check_of_script(server, mountctl, line, refusal, said)
+    for line, said in BAD:
+        check_of_script(server, mountctl, line, said)
         words = line.split(b" ")
         # Backslashes of words are escaped, no word may have a zero byte, and all have to be UTF-8.
         if b"\\" in line or b"\0" in line or b"\xff" in line:
@@ -114,7 +99,7 @@ def check_by_hand(server, mountctl):
         found = subprocess.run([mountctl, server.path, *words], input=b"", capture_output=True, timeout=MOST_SECONDS)
         found = found.returncode, found.stdout, found.stderr
         # An empty word in front is no socket, and the program takes it for a word.
-        check(f"what is said of the words {line!r}", found == (1, b"no %b\n" % refusal, b"mountctl: %b: %b\n" % (refusal, said)), repr(found))
+        check(f"what is said of the words {line!r}", found == (1, b"no BadLine\n", b"mountctl: BadLine: %b\n" % said), repr(found))
 
 
 def random_line(author):
@@ -124,7 +109,7 @@ def random_line(author):
 
 
 def check_random(server, mountctl):
-    """Something is said of exactly the lines that are refused as bad, and of no other but those with two paths."""
+    """Something is said of exactly the lines that are refused as bad, and of others only what they are refused for."""
     author = random.Random(7)
     lines = [line for line in (random_line(author) for _ in range(LINES)) if not line.startswith((b"#", b"watch")) and line]
     found = run(mountctl, b"".join(line + b"\n" for line in lines), server.path, "-")

@@ -54,7 +54,7 @@ def check_slips(mountctl, server):
 
 def check_environment(program, mountctl):
     """The environment names the socket where no argument does: one that begins a line, or stands in its place, is none."""
-    for words in ["tree"], ["show", "1"], ["-"], ["-e", "-"], ["tree", "--ascii"], ["dot"], ["what-if", "x", "--", "show", "1"]:
+    for words in ["tree"], ["show", "1"], ["-"], ["-e", "-"], ["tree", "--ascii"], ["dot"]:
         for socket in None, "":
             found = asked(mountctl, socket, *words)
             check(f"{words} without a socket", found == NO_SOCKET, repr(found))

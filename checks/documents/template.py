@@ -41,12 +41,12 @@ def constant_of(template):
 def check_template():
     """The template has the hashes of its own, one place for the data, and nothing from outside; the client has it as it is."""
     template = shown(read(*TEMPLATE))
-    check("the hashes in the template's policy", template == sealed(template), "PYTHONPATH=checks python3 -m documents.template writes them")
+    check("the hashes in the template's policy", template == sealed(template), "checks/browser.py --seal writes them")
     check("one place for the data", template.count(PLACE) == 1 and '"##' not in template)
     check(f"the template has at most {MOST} bytes", len(template.encode()) <= MOST, str(len(template.encode())))
     check("the template asks for nothing from outside", re.findall(r"https?://[^\"]+", template) == ["http://www.w3.org/2000/svg"])
     check("the template makes no elements of texts", re.search(r"innerHTML|eval\(|document\.write|import\(", template) is None)
-    check("the template of mountctl", shown(read(*CONSTANT)) == constant_of(template), "PYTHONPATH=checks python3 -m documents.template writes it")
+    check("the template of mountctl", shown(read(*CONSTANT)) == constant_of(template), "checks/browser.py --seal writes it")
 
 
 def seal():
@@ -54,7 +54,3 @@ def seal():
     template = sealed(shown(read(*TEMPLATE)))
     write(template.encode(), *TEMPLATE)
     write(constant_of(template).encode(), *CONSTANT)
-
-
-if __name__ == "__main__":
-    seal()

@@ -8,25 +8,45 @@ Unbindable SharedParent IntoItself UnbindableInside Busy BadAttr TooMany NoWatch
 # The errors of Linux that are explained.
 _mountctl_errnos="EPERM ENOENT ENXIO ENOMEM EACCES ENOTBLK EBUSY EEXIST ENODEV ENOTDIR EINVAL ENOSPC EROFS ENAMETOOLONG ELOOP"
 
+# The options that may follow the words of a drawing, a list or a monitor, and the word for all namespaces. Behind `--name` comes
+# a name, for which nothing is offered.
+_mountctl_options()
+{
+    local word before= given= places=0
+    for word in "${@:2}"; do
+        if [[ $before == --name ]]; then
+            word=
+        elif [[ $word == -* ]]; then
+            given+=" $word"
+        else
+            ((places++))
+        fi
+        before=$word
+    done
+    [[ $before == --name ]] && return
+    case $1 in
+        tree) [[ $given == *--ascii* || $given == *--json* ]] || printf '%s\n' --ascii --json ;;
+        spaces) [[ $given == *--json* ]] || echo --json ;;
+        monitor)
+            [[ $given == *--json* ]] || echo --json
+            [[ $given == *--time* ]] || echo --time
+            ;;
+    esac
+    [[ $1 == spaces || $places != 0 ]] || echo all
+    echo --name
+}
+
 # The words that may follow those of a line, where it takes more than names, numbers and paths.
 _mountctl_words()
 {
     local count=$#
     case $1:$count in
-        :0) echo mkfs mkdir newns copyns dropns mount bind rbind move pivot umount detach setattr show find watch take follow close quit stop - monitor mirror tree dot spaces what-if ;;
+        :0) echo mkfs mkdir newns copyns dropns mount bind rbind move pivot umount detach setattr show find watch take follow close quit stop - monitor mirror tree dot spaces what-if reach origin holders page ;;
         copyns:2) echo less ;;
         mount:4) echo set={ro,nosuid,nodev,noexec,nosymfollow,nodiratime,relatime,noatime,strictatime} ;;
-        watch:1 | dot:1) echo all ;;
-        show:2 | find:3) echo --json ;;
-        tree:[12])
-            [[ " $* " == *" --"* ]] || printf '%s\n' --ascii --json
-            [[ " $* " == *" --"* || $count == 1 ]] && echo all
-            ;;
-        monitor:[1-3])
-            [[ " $* " == *" --json "* ]] || echo --json
-            [[ " $* " == *" --time "* ]] || echo --time
-            [[ " ${*:2}" == *" "[^-]* ]] || echo all
-            ;;
+        watch:1) echo all ;;
+        show:2 | find:3 | reach:3 | origin:3 | holders:[23]) echo --json ;;
+        tree:[1-9] | dot:[1-9] | spaces:[1-9] | monitor:[1-9]) _mountctl_options "$@" ;;
         setattr:[3-9])
             # Each option may be there once.
             [[ " ${*:4} " == *" rec "* ]] || echo rec
@@ -93,13 +113,25 @@ _mountctl()
     if ((${#words[@]} == 0)); then
         mapfile -t COMPREPLY < <(
             _mountctl_sockets "$current"
-            compgen -W "-e -h --help -q -V --version --wait import explain ${MOUNTD_SOCKET:+$(_mountctl_words)}" -- "$current"
+            compgen -W "-e -h --help -q -V --version --wait what-if import explain reach origin holders page ${MOUNTD_SOCKET:+$(_mountctl_words)}" -- "$current"
         )
         compopt -o filenames 2> /dev/null
         return
     fi
     if [[ ${words[0]} == explain ]]; then
         mapfile -t COMPREPLY < <(((${#words[@]} == 1)) && compgen -W "$_mountctl_refusals $_mountctl_errnos" -- "$current")
+        return
+    fi
+    # Tables are asked where files come first, and a namespace of a server else.
+    if [[ ${words[0]} == @(reach|origin|holders) && " ${words[*]} " != *" -- "* ]]; then
+        [[ $current == -* ]] && mapfile -t COMPREPLY < <(compgen -W "-- --pid --all" -- "$current")
+        compopt -o default 2> /dev/null
+        return
+    fi
+    if [[ ${words[0]} == what-if && " ${words[*]} " != *" -- "* ]]; then
+        # Tables stand here: files, which readline completes itself.
+        [[ $current == -* ]] && mapfile -t COMPREPLY < <(compgen -W "-- --all --each --fail-if-elsewhere --json --pid" -- "$current")
+        compopt -o default 2> /dev/null
         return
     fi
     # A word that begins a line is no socket: that is the one of the environment.

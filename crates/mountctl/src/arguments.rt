@@ -18,23 +18,44 @@ const TASKS: &str = "
 
 In the place of WORD..:
   -                        sends the lines of standard input, one after another, but for comments
-  monitor NS|all [--json] [--time]
+  monitor NS|all [--json] [--time] [--name NS=NAME]..
                            tells each change as it comes, in words or as JSON, and when it came
   mirror NS K              follows K posts of a namespace, and shows the table that they lead to
-  tree [NS|all] [--ascii|--json]
-                           draws the mounts of a namespace, or of all, each below its parent
+  tree [NS [PATH]|all] [--ascii|--json] [--name NS=NAME]..
+                           draws the mounts of a namespace, of a part of it, or of all, each below its parent
   show NS --json           prints the mounts of a namespace as JSON
   find NS PATH --json      prints the mount on which a path ends as JSON
-  dot [NS|all]             draws mounts and peer groups as a graph for Graphviz
-  spaces                   lists the namespaces, each with the number of its mounts
+  dot [NS [PATH]|all] [--name NS=NAME]..
+                           draws the same and peer groups as a graph for Graphviz
+  spaces [--json] [--name NS=NAME]..
+                           lists the namespaces, each with its name and the number of its mounts
   what-if FILE.. -- LINE..
                            makes the namespaces of an import in a new server, and tells what a line changes there;
                            further lines may stand in front of it, each behind --
+  reach NS PATH [--json]   says to which mounts a mount made there comes, by which group, and why not to others
+  origin NS PATH [--json]  says where the mount there comes from, and what takes it away
+  holders SOURCE|MAJ:MIN|NS PATH [--json]
+                           names the mounts that still show a filesystem, or the directory there
+  page [TITLE]             plays the lines of standard input, and prints what they do as a page for a browser;
+                           without SOCKET, also where MOUNTD_SOCKET is set, in a new server of its own
 
 In the place of SOCKET WORD..:
+  what-if [OPTION].. TABLE.. -- LINE [-- LINE]..
+                           tells what lines would change in the namespaces of tables, with no server: each TABLE is a file, or
+                           with --pid a process; --all stands for each mount namespace of this machine. A LINE is one of
+                           mount, umount, unshare, nsenter, pivot_root or of a session; - stands for those of standard input.
+                           --each tells what each line changes, --json prints objects, and with --fail-if-elsewhere the
+                           status is 4 where a namespace changes that no line names
   import                   reads the lines of a mountinfo, and prints a script that makes its namespace
   import FILE..            reads those of several processes, and prints a script that makes all their namespaces
   import --pid PID..       reads those of these processes
+  reach TABLE.. -- NS PATH [--json]
+                           the same of tables: files with the lines of a mountinfo, --pid PID.., or --all for each
+                           mount namespace of this machine; NS is a file's name, a process or the number of a table
+  origin TABLE.. -- NS PATH [--json]
+                           where the mount there comes from
+  holders TABLE.. -- SOURCE|MAJ:MIN|NS PATH [--json]
+                           what still shows it
   explain REFUSAL|ERRNO    says what the refusal of this name is, and what Linux says in its place;
                            of an error of Linux, by its name or number, which refusals stand behind it
 

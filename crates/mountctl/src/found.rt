@@ -19,11 +19,11 @@ use std::alloc::Global;
 use std::io::Eprint;
 
 /// How often a path is looked for whose mount somebody else takes away before its row is read.
-const MOST_TRIES: u32 = 1_000;
+pub(crate) const MOST_TRIES: u32 = 1_000;
 
 /// What comes of a look for a path.
 #[derive(Clone, Copy)]
-enum Look {
+pub(crate) enum Look {
     /// It was printed.
     Found,
     /// The refusal was printed.
@@ -33,7 +33,7 @@ enum Look {
 }
 
 /// What is no line of an answer is a connection fault, but for want of memory.
-fn fault_of_line(fault: Refusal) -> Fault {
+pub(crate) fn fault_of_line(fault: Refusal) -> Fault {
     match fault {
         Refusal::NoMemory => Fault::NoMemory,
         _ => Fault::Connection,
@@ -41,7 +41,7 @@ fn fault_of_line(fault: Refusal) -> Fault {
 }
 
 /// The mount on which a path ends and the directory, as an answer says them.
-fn place_in(answer: &[u8]) -> Option<(&[u8], &[u8])> {
+pub(crate) fn place_in(answer: &[u8]) -> Option<(&[u8], &[u8])> {
     let mut words = words(answer.strip_prefix(b"ok ")?.strip_suffix(b"\n")?);
     let (Some(id), Some(directory), None) = (words.next(), words.next(), words.next()) else {
         return None;

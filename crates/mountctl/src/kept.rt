@@ -27,6 +27,11 @@ impl Kept {
     pub(crate) fn text(&self) -> &[u8] {
         self.text.as_slice()
     }
+
+    /// The text itself.
+    pub(crate) fn into_text(self) -> Vec<u8> {
+        self.text
+    }
 }
 
 impl Output for Kept {

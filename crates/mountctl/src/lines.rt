@@ -3,12 +3,13 @@ ghost use Rattle.std.specs.Prelude.{◌≡◌, None, OnOk};
 ghost use Rattle.mt_lines.specs.Reading.{fault_of};
 
 use crate::fault::Fault;
-use crate::messages::{tell_path, tell_reason, tell_refused};
-use crate::places::{Refused, refused_path};
+use crate::messages::{tell_reason, tell_refused};
+use crate::refusals::{refusal_in, tell_reason_of};
 use mt_client::ask::ask_line;
 use mt_lines::line::LineReader;
 use mt_lines::stream::{Input, Output};
 use mt_reasons::line::reason_of;
+use mt_skel::fault::Fault as Refusal;
 use std::alloc::Global;
 use std::io::Eprint;
 
@@ -25,26 +26,23 @@ pub(crate) fn tell_bad<E: Eprint>(
     Ok(())
 }
 
-/// Says of which of two paths of a line a refusal is, if it is of one.
-fn tell_refused_path<E: Eprint, R: Input + Drop, W: Output>(
+/// Says why a line is refused, where that is known.
+fn tell_why<E: Eprint, R: Input + Drop, W: Output>(
     rt: &E,
     alloc: Global,
     number: Option<u64>,
     line: &[u8],
-    refused: Option<Refused>,
+    refusal: Option<Refusal>,
     lines: &mut LineReader<R>,
     writer: &mut W,
 ) -> Result<(), Fault>
     requires fresh { fault_of lines.old ≡ None }
     ensures fresh { OnOk result (fault_of lines.new ≡ None) }
 {
-    let Some(refused) = refused else {
-        return Ok(());
-    };
-    if let Some(named) = refused_path(alloc, line, refused, lines, writer)? {
-        tell_path(rt, number, refused, named);
+    match refusal {
+        Some(refusal) => tell_reason_of(rt, alloc, number, line, refusal, lines, writer),
+        None => Ok(()),
     }
-    Ok(())
 }
 
 /// Says of a line of a script that it was refused, by its number, and what else is known of that. The reader lends the refusal.
@@ -63,12 +61,12 @@ pub(crate) fn tell_refused_line<E: Eprint, R: Input + Drop, W: Output>(
     if lines.line() == b"no BadLine".as_slice() {
         tell_bad(rt, alloc, Some(number), line)?;
     }
-    let refused = Refused::in_answer(lines.line());
-    tell_refused_path(rt, alloc, Some(number), line, refused, lines, writer)
+    let refusal = refusal_in(lines.line());
+    tell_why(rt, alloc, Some(number), line, refusal, lines, writer)
 }
 
-/// Sends a line and prints its answer: whether it is `ok`. Why the line is bad is said before it is sent, and of which path a
-/// refusal is behind that.
+/// Sends a line and prints its answer: whether it is `ok`. Why the line is bad is said before it is sent, and behind a refusal what
+/// is in the way, unless the connection has ended by then.
 pub(crate) fn run_line<E: Eprint, R: Input + Drop, W: Output, O: Output>(
     rt: &E,
     alloc: Global,
@@ -83,7 +81,9 @@ pub(crate) fn run_line<E: Eprint, R: Input + Drop, W: Output, O: Output>(
     if ask_line(alloc, lines, writer, line, out)? {
         return Ok(true);
     }
-    let refused = Refused::in_answer(lines.line());
-    tell_refused_path(rt, alloc, None, line, refused, lines, writer)?;
-    Ok(false)
+    let refusal = refusal_in(lines.line());
+    match tell_why(rt, alloc, None, line, refusal, lines, writer) {
+        Ok(()) | Err(Fault::Connection) => Ok(false),
+        Err(fault) => Err(fault),
+    }
 }

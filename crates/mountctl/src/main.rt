@@ -5,20 +5,32 @@ ghost use Rattle.std.specs.Prelude.{◌≡◌, None};
 ghost use Rattle.mt_lines.specs.Reading.{fault_of};
 
 mod arguments;
+mod asked;
 mod connection;
 mod explain;
 mod fault;
+mod foretold;
 mod found;
 mod import;
 mod kept;
 mod lines;
 mod marked;
 mod messages;
+mod missed;
+mod missing;
+mod namespaces;
+mod naming;
 mod newness;
 mod options;
-mod places;
+mod page;
+mod page_task;
+mod part;
+mod played;
+mod processes;
 mod provide;
+mod questions;
 mod quiet;
+mod refusals;
 mod screen;
 mod script;
 mod sources;
@@ -28,20 +40,26 @@ mod task;
 mod what_if;
 
 use crate::arguments::{Lack, Manner, manner_of, parser, socket_of, usage, words_of};
+use crate::asked::{answer_question, asked_by};
 use crate::connection::{connected, status_of};
 use crate::explain::explain;
 use crate::fault::Fault;
+use crate::foretold::run_foretold;
 use crate::found::find_place;
 use crate::import::{ImportFault, ROW_LIMIT, import};
 use crate::lines::run_line;
 use crate::marked::Marked;
 use crate::messages::NAME;
+use crate::naming::named_words;
+use crate::page_task::run_page;
+use crate::part::{Part, draw_part};
+use crate::questions::{Question, form_of_words, run_question};
 use crate::quiet::Quiet;
 use crate::screen::standard_output;
 use crate::script::{SCRIPT_LIMIT, run_script};
 use crate::spaces::list_spaces;
 use crate::tables::import_files;
-use crate::task::{Task, found_words, task_of};
+use crate::task::{Task, WordFault, found_words, part_words, task_of};
 use crate::what_if::{line_of, run_what_if};
 use clap::{ArgMatches, Error};
 use mt_arguments::program::{Program, read_arguments};
@@ -51,6 +69,7 @@ use mt_client::picture::draw;
 use mt_client::telling::tell;
 use mt_lines::line::LineReader;
 use mt_lines::stream::{Input, Output, Reading, Writing};
+use mt_render::named::SpaceName;
 use std::alloc::AllocError;
 use std::io;
 use std::os::unix::net::UnixStream;
@@ -62,8 +81,18 @@ pub(crate) const PROGRAM: Program = Program {
     failed: 3,
 };
 
+/// The word that asks for a page.
+const PAGE: &str = "page";
+
 /// The longest line of an answer, in bytes before its line end.
 pub(crate) const LINE_LIMIT: u32 = 134_217_728;
+
+/// What a task is asked with: words, and names of namespaces.
+#[derive(Clone, Copy)]
+struct TaskWords<'w, 'a> {
+    words: &'w [&'w str],
+    names: &'w [SpaceName<'a>],
+}
 
 /// Sends a line of these words, or a script, and prints the answers to an output: whether each was `ok`.
 fn run_lines<R: Input + Drop, W: Output, O: Output>(
@@ -90,7 +119,7 @@ fn run_lines<R: Input + Drop, W: Output, O: Output>(
 fn run_on<R: Input + Drop, W: Output, O: Output>(
     rt: &HostRuntime,
     task: Task,
-    words: &[&str],
+    asked: TaskWords<'_, '_>,
     strict: bool,
     lines: &mut LineReader<R>,
     writer: &mut W,
@@ -99,14 +128,29 @@ fn run_on<R: Input + Drop, W: Output, O: Output>(
     requires fresh { fault_of lines.old ≡ None }
 {
     let alloc = rt.alloc();
+    let TaskWords { words, names } = asked;
     match task {
         Task::Ask | Task::Script => run_lines(rt, task, words, strict, lines, writer, out),
         Task::Mirror { space, count } => Ok(mirror(alloc, lines, writer, space, count, out)?),
-        Task::Draw { scope, drawing } => Ok(draw(alloc, lines, writer, scope, drawing, out)?),
+        Task::Draw { scope, drawing } => {
+            Ok(draw(alloc, lines, writer, scope, drawing, names, out)?)
+        }
+        Task::DrawPart { drawing } => match part_words(words) {
+            Some((space, path)) => {
+                let part = Part {
+                    drawing,
+                    space,
+                    path,
+                    names,
+                };
+                draw_part(rt, alloc, part, lines, writer, out)
+            }
+            None => Ok(false),
+        },
         Task::Tell { scope, marks } => {
             let named = NamedTelling {
                 telling: marks.telling,
-                names: &[],
+                names,
             };
             tell(alloc, lines, writer, scope, &named, out)?;
             Ok(false)
@@ -115,8 +159,15 @@ fn run_on<R: Input + Drop, W: Output, O: Output>(
             Some((space, path)) => find_place(rt, alloc, space, path, lines, writer, out),
             None => Ok(false),
         },
-        Task::List => list_spaces(alloc, lines, writer, out),
-        Task::WhatIf => Ok(false),
+        Task::List { telling } => list_spaces(alloc, telling, names, lines, writer, out),
+        Task::WhatIf | Task::Page => Ok(false),
+        Task::Question(question) => match asked_by(question, words) {
+            Some(asked) => {
+                let (form, _) = form_of_words(words);
+                answer_question(alloc, form, question, asked, lines, writer, out)
+            }
+            None => Ok(false),
+        },
     }
 }
 
@@ -125,7 +176,7 @@ fn run_task(
     rt: &HostRuntime,
     stream: &UnixStream,
     task: Task,
-    words: &[&str],
+    asked: TaskWords<'_, '_>,
     manner: Manner,
 ) -> Result<bool, Fault> {
     let alloc = rt.alloc();
@@ -134,31 +185,56 @@ fn run_task(
     let mut writer = Writing::new(stream);
     let strict = manner.strict;
     if manner.quiet && matches!(task, Task::Ask | Task::Script) {
-        return run_on(rt, task, words, strict, &mut lines, &mut writer, &mut Quiet);
+        return run_on(rt, task, asked, strict, &mut lines, &mut writer, &mut Quiet);
     }
     match task.marks() {
         Some(marks) => {
             let mut out = Marked::new(rt, alloc, marks, out);
-            match run_on(rt, task, words, strict, &mut lines, &mut writer, &mut out) {
+            match run_on(rt, task, asked, strict, &mut lines, &mut writer, &mut out) {
                 Ok(told) => Ok(told),
                 Err(fault) => Err(out.fault(fault)),
             }
         }
-        None => run_on(rt, task, words, strict, &mut lines, &mut writer, &mut out),
+        None => run_on(rt, task, asked, strict, &mut lines, &mut writer, &mut out),
     }
 }
 
 /// Connects to a socket and does what the words ask for.
-fn run_words(rt: &HostRuntime, socket: &str, words: &[&str], manner: Manner) -> ExitCode {
-    let task = match task_of(words) {
-        Ok(Task::WhatIf) => return run_what_if(rt, socket, words, manner.wait),
+fn run_asked(rt: &HostRuntime, socket: &str, asked: TaskWords<'_, '_>, manner: Manner) -> ExitCode {
+    let task = match task_of(asked.words) {
+        Ok(Task::WhatIf) => return run_what_if(rt, socket, asked.words, manner.wait),
+        Ok(Task::Page) => {
+            return run_page(
+                rt,
+                Some(socket),
+                asked.words.get(1..).unwrap_or(&[]),
+                manner.wait,
+            );
+        }
         Ok(task) => task,
         Err(fault) => return PROGRAM.refuse(rt, fault.message()),
     };
     match connected(rt, socket, manner.wait) {
-        Ok(stream) => status_of(rt, socket, run_task(rt, &stream, task, words, manner)),
+        Ok(stream) => status_of(rt, socket, run_task(rt, &stream, task, asked, manner)),
         Err(status) => status,
     }
+}
+
+/// The same with the words and the names among them apart.
+fn run_words(
+    rt: &HostRuntime,
+    socket: &str,
+    words: &[&str],
+    manner: Manner,
+) -> Result<ExitCode, AllocError> {
+    let Some(named) = named_words(rt.alloc(), words)? else {
+        return Ok(PROGRAM.refuse(rt, WordFault::Name.message()));
+    };
+    let asked = TaskWords {
+        words: named.words.as_slice(),
+        names: named.names.as_slice(),
+    };
+    Ok(run_asked(rt, socket, asked, manner))
 }
 
 /// Imports the mountinfo on standard input.
@@ -185,12 +261,15 @@ fn run_import(rt: &HostRuntime) -> ExitCode {
 fn run_matches(rt: &HostRuntime, matches: &ArgMatches<'_>) -> Result<ExitCode, AllocError> {
     let first = matches.get_str("SOCKET");
     let behind = matches.get_strs("WORD").unwrap_or(&[]);
+    if first == Some(PAGE) {
+        return Ok(run_page(rt, None, behind, 0));
+    }
     let words = words_of(rt, first, behind)?;
     if words.is_empty() {
         return Ok(PROGRAM.refuse(rt, Lack::Word.message()));
     }
     match socket_of(rt, first)? {
-        Ok(socket) => Ok(run_words(rt, socket.as_str(), words.as_slice(), manner_of(matches))),
+        Ok(socket) => run_words(rt, socket.as_str(), words.as_slice(), manner_of(matches)),
         Err(Lack::NoMemory) => Ok(PROGRAM.fail(rt, Lack::NoMemory.message())),
         Err(lack) => Ok(PROGRAM.refuse(rt, lack.message())),
     }
@@ -219,8 +298,22 @@ fn run(rt: &HostRuntime) -> io::Result<ExitCode> {
         [_, "import"] => run_import(rt),
         [_, "import", "-h" | "--help"] => run_or_explain(rt, &[NAME, "--help"]),
         [_, "import", words @ ..] => import_files(rt, words),
+        [_, "what-if", "-h" | "--help"] => run_or_explain(rt, &[NAME, "--help"]),
+        [_, "what-if", words @ ..] => run_foretold(rt, words),
         [_, "explain", "-h" | "--help"] => run_or_explain(rt, &[NAME, "--help"]),
         [_, "explain", words @ ..] => explain(rt, words),
+        [_, "reach" | "origin" | "holders", "-h" | "--help"] => {
+            run_or_explain(rt, &[NAME, "--help"])
+        }
+        [_, "reach", words @ ..] if words.contains(&"--") => {
+            run_question(rt, Question::Reach, words)
+        }
+        [_, "origin", words @ ..] if words.contains(&"--") => {
+            run_question(rt, Question::Origin, words)
+        }
+        [_, "holders", words @ ..] if words.contains(&"--") => {
+            run_question(rt, Question::Holders, words)
+        }
         words => run_or_explain(rt, words),
     };
     Ok(code)

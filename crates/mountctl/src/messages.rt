@@ -1,6 +1,6 @@
 //! What is told of a refused line on standard error.
 
-use crate::places::{NamedPath, Refused};
+use mt_lines::words::Pieces;
 use mt_reasons::reason::Reason;
 use mt_terminal::message::Shown;
 use std::io::Eprint;
@@ -33,21 +33,25 @@ pub(crate) fn tell_reason<E: Eprint>(rt: &E, number: Option<u64>, reason: Reason
     }
 }
 
-/// Says on standard error of which path a refusal is, with the number of the line where it is one of a script.
-pub(crate) fn tell_path<E: Eprint>(
-    rt: &E,
-    number: Option<u64>,
-    refused: Refused,
-    named: NamedPath<'_>,
-) {
-    let (why, name, path) = (refused.name(), Shown(named.name), Shown(named.path));
-    match number {
-        Some(number) => {
-            let _ = eprintln!(rt; "{NAME}: line {number}: {why}: {name}, {path}");
+/// Says on standard error the lines of a text, the first one behind the name of the program, and the number of the line where it is
+/// one of a script.
+pub(crate) fn tell_lines<E: Eprint>(rt: &E, number: Option<u64>, text: &[u8]) {
+    let mut first = true;
+    for line in Pieces::new(b'\n', text) {
+        let line = Shown(line);
+        match number {
+            _ if line.0.is_empty() => {}
+            Some(number) if first => {
+                let _ = eprintln!(rt; "{NAME}: line {number}: {line}");
+            }
+            None if first => {
+                let _ = eprintln!(rt; "{NAME}: {line}");
+            }
+            _ => {
+                let _ = eprintln!(rt; "{line}");
+            }
         }
-        None => {
-            let _ = eprintln!(rt; "{NAME}: {why}: {name}, {path}");
-        }
+        first = false;
     }
 }
 

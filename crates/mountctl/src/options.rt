@@ -11,51 +11,53 @@ pub(crate) struct Options {
     pub(crate) time: bool,
 }
 
-/// Options, and the one other word that stands among them, if there is one.
+/// Options, and the other words that stand among them: a namespace, and a path.
 #[derive(Clone, Copy)]
 pub(crate) struct Chosen<'a> {
     pub(crate) options: Options,
     pub(crate) word: Option<&'a str>,
+    pub(crate) path: Option<&'a str>,
 }
 
-/// What one word more leaves chosen. None where it is there twice, or is a second word that is no option.
+/// What one word more leaves chosen. None where it is there twice, or is a third word that is no option.
 fn chosen_with<'a>(chosen: Chosen<'a>, word: &'a str) -> Option<Chosen<'a>> {
-    let Chosen {
-        options,
-        word: other,
-    } = chosen;
+    let options = chosen.options;
     match word {
         "--ascii" if !options.ascii => Some(Chosen {
             options: Options {
                 ascii: true,
                 ..options
             },
-            word: other,
+            ..chosen
         }),
         "--json" if !options.json => Some(Chosen {
             options: Options {
                 json: true,
                 ..options
             },
-            word: other,
+            ..chosen
         }),
         "--time" if !options.time => Some(Chosen {
             options: Options {
                 time: true,
                 ..options
             },
-            word: other,
+            ..chosen
         }),
         "--ascii" | "--json" | "--time" => None,
-        word if other.is_none() => Some(Chosen {
-            options,
+        word if chosen.word.is_none() => Some(Chosen {
             word: Some(word),
+            ..chosen
+        }),
+        path if chosen.path.is_none() => Some(Chosen {
+            path: Some(path),
+            ..chosen
         }),
         _ => None,
     }
 }
 
-/// The options among words, each at most once, and the other word. None where there are two others.
+/// The options among words, each at most once, and the other words. None where there are three others.
 pub(crate) fn chosen_in<'a>(words: &[&'a str]) -> Option<Chosen<'a>> {
     let mut chosen = Chosen {
         options: Options {
@@ -64,6 +66,7 @@ pub(crate) fn chosen_in<'a>(words: &[&'a str]) -> Option<Chosen<'a>> {
             time: false,
         },
         word: None,
+        path: None,
     };
     for word in words {
         chosen = chosen_with(chosen, word)?;

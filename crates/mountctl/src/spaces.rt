@@ -7,11 +7,14 @@ use crate::kept::{Kept, ask_kept};
 use mt_client::relay::print_text;
 use mt_lines::line::LineReader;
 use mt_lines::stream::{Input, Output};
-use mt_lines::words::{Pieces, words};
+use mt_lines::words::{Pieces, number, words};
+use mt_render::named::{SpaceName, name_in};
+use mt_render::spaces::space_line;
+use mt_render::telling::Telling;
 use std::alloc::{AllocError, Global};
 
 /// The number of a namespace and that of its mounts, as the heading of its rows says them. None where a line is no heading.
-fn heading_in(line: &[u8]) -> Option<(&[u8], &[u8])> {
+fn heading_in(line: &[u8]) -> Option<(u64, u64)> {
     let mut words = words(line.strip_prefix(b"space ")?);
     let (Some(space), Some(_), Some(count), None) = (
         words.next(),
@@ -21,37 +24,32 @@ fn heading_in(line: &[u8]) -> Option<(&[u8], &[u8])> {
     ) else {
         return None;
     };
-    Some((space, count))
-}
-
-/// Appends the line of a namespace.
-fn push_space(text: &mut Vec<u8>, space: &[u8], count: &[u8]) -> Result<(), AllocError> {
-    text.extend_from_slice(b"namespace ")?;
-    text.extend_from_slice(space)?;
-    text.extend_from_slice(b": ")?;
-    text.extend_from_slice(count)?;
-    text.extend_from_slice(if count == b"1".as_slice() {
-        b" mount\n"
-    } else {
-        b" mounts\n"
-    })
+    Some((number(space)?, number(count)?))
 }
 
 /// The lines of the namespaces that a watcher found.
-fn listed(alloc: Global, found: &[u8]) -> Result<Vec<u8>, AllocError> {
+fn listed(
+    alloc: Global,
+    telling: Telling,
+    names: &[SpaceName<'_>],
+    found: &[u8],
+) -> Result<Vec<u8>, AllocError> {
     let mut text = Vec::new(alloc);
     for line in Pieces::new(b'\n', found) {
-        if let Some((space, count)) = heading_in(line) {
-            push_space(&mut text, space, count)?;
+        if let Some((space, mounts)) = heading_in(line) {
+            let line = space_line(alloc, telling, space, name_in(names, space), mounts)?;
+            text.extend_from_slice(&line)?;
         }
     }
     Ok(text)
 }
 
-/// Prints each namespace that a watcher of all finds, with the number of its mounts: false where it is refused, which is
-/// printed.
+/// Prints each namespace that a watcher of all finds, with its name among these and the number of its mounts: false where it
+/// is refused, which is printed.
 pub(crate) fn list_spaces<R: Input + Drop, W: Output, O: Output>(
     alloc: Global,
+    telling: Telling,
+    names: &[SpaceName<'_>],
     lines: &mut LineReader<R>,
     writer: &mut W,
     out: &mut O,
@@ -61,7 +59,7 @@ pub(crate) fn list_spaces<R: Input + Drop, W: Output, O: Output>(
     let mut kept = Kept::new(alloc);
     let told = ask_kept(alloc, lines, writer, b"watch all", &mut kept)?;
     if told {
-        print_text(out, listed(alloc, kept.text())?.as_slice())?;
+        print_text(out, listed(alloc, telling, names, kept.text())?.as_slice())?;
     } else {
         print_text(out, kept.text())?;
     }

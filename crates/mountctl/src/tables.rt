@@ -78,7 +78,7 @@ impl<T: Drop> From<AllocFailed<T>> for TableFault {
 }
 
 /// The rows that a file tells.
-fn read_table(rt: &HostRuntime, path: &str) -> Result<Vec<HostMount>, TableFault> {
+pub(crate) fn read_table(rt: &HostRuntime, path: &str) -> Result<Vec<HostMount>, TableFault> {
     let alloc = rt.alloc();
     let file = File::open(rt, path)?;
     let mut lines = LineReader::new(alloc, Reading::new(file), ROW_LIMIT)?;
@@ -109,7 +109,10 @@ fn tell_unread(rt: &HostRuntime, path: &str, fault: TableFault) -> ExitCode {
 
 /// The rows that each of these files tells, in their order. Says which file's are not read, and why, and answers the
 /// status.
-fn read_tables(rt: &HostRuntime, files: &[String]) -> Result<Vec<Vec<HostMount>>, ExitCode> {
+pub(crate) fn read_tables(
+    rt: &HostRuntime,
+    files: &[String],
+) -> Result<Vec<Vec<HostMount>>, ExitCode> {
     let mut tables = Vec::new(rt.alloc());
     for file in files {
         if let Err(fault) = push_table(rt, &mut tables, file.as_str()) {

@@ -1,7 +1,9 @@
 //! What the words behind the socket ask for.
 
+use crate::asked::asked_by;
 use crate::marked::Marks;
 use crate::options::{Chosen, Options, chosen_in};
+use crate::questions::Question;
 use mt_events::opening::Scope;
 use mt_lines::words::number;
 use mt_protocol::form::{Form, form_of};
@@ -10,7 +12,9 @@ use mt_render::drawing::Drawing;
 use mt_render::telling::Telling;
 
 /// The first words of what may stand in the place of a line.
-const TASK_WORDS: [&str; 7] = ["-", "monitor", "mirror", "tree", "dot", "spaces", "what-if"];
+const TASK_WORDS: [&str; 10] = [
+    "-", "monitor", "mirror", "tree", "dot", "spaces", "what-if", "reach", "origin", "holders",
+];
 
 /// Whether a word begins a line of a session, or what may stand in its place.
 pub(crate) fn begins_words(word: &str) -> bool {
@@ -28,14 +32,20 @@ pub(crate) enum Task {
     Mirror { space: u64, count: u64 },
     /// A drawing of the tables of these namespaces.
     Draw { scope: Scope, drawing: Drawing },
+    /// A drawing of the part of a namespace that a path leads to.
+    DrawPart { drawing: Drawing },
     /// The mount on which a path ends, as JSON.
     Find,
     /// Each change of these namespaces as it comes.
     Tell { scope: Scope, marks: Marks },
     /// The namespaces, with the number of their mounts.
-    List,
+    List { telling: Telling },
     /// What lines change in the namespaces of tables.
     WhatIf,
+    /// The page of the session on standard input.
+    Page,
+    /// The answer to a question about the tables of all namespaces.
+    Question(Question),
 }
 
 impl Task {
@@ -49,6 +59,12 @@ impl Task {
             Task::Draw {
                 drawing: Drawing::FlatJson | Drawing::NestedJson,
                 ..
+            }
+            | Task::DrawPart {
+                drawing: Drawing::NestedJson,
+            }
+            | Task::List {
+                telling: Telling::Json,
             }
             | Task::Find => Some(untimed),
             Task::Tell { marks, .. } if marks.time || marks.telling == Telling::Json => Some(marks),
@@ -74,14 +90,26 @@ pub(crate) enum WordFault {
     Graph,
     /// Behind `spaces`.
     Spaces,
+    /// Behind `--name`.
+    Name,
     /// Behind `import`, which stands in the place of a socket.
     Import,
-    /// Behind `what-if`.
+    /// Behind `what-if`, on a server.
     WhatIf,
+    /// Behind `what-if`, without a server.
+    Question,
     /// More tables than a server has namespaces.
     TooMany,
+    /// Behind `page`.
+    Page,
     /// Behind `explain`, which stands in the place of a socket.
     Explain,
+    /// Behind `reach`.
+    Reach,
+    /// Behind `origin`.
+    Origin,
+    /// Behind `holders`.
+    Holders,
 }
 
 impl WordFault {
@@ -92,12 +120,24 @@ impl WordFault {
             WordFault::Find => "find takes a namespace and a path, and --json",
             WordFault::Monitor => "monitor takes a namespace, or all, and --json and --time",
             WordFault::Mirror => "mirror takes a namespace and a count",
-            WordFault::Tree => "tree takes a namespace, all or none, and --ascii or --json",
-            WordFault::Graph => "dot takes a namespace, all or none",
-            WordFault::Spaces => "spaces takes no words",
+            WordFault::Tree => "tree takes a namespace and a path, all or none, --ascii or --json",
+            WordFault::Graph => "dot takes a namespace and a path, all or none",
+            WordFault::Spaces => "spaces takes --json, or no words",
+            WordFault::Name => "a name is given as --name 2=web, once for each namespace",
             WordFault::Import => "import takes files, or --pid and processes, or no words",
             WordFault::WhatIf => "what-if takes files, and lines behind --",
+            WordFault::Question => {
+                "what-if takes files, --pid and processes or --all, and lines behind --, or - for those of standard input"
+            }
             WordFault::TooMany => "more than 64 tables",
+            WordFault::Page => "page takes a title, or no words",
+            WordFault::Reach =>
+                "reach takes tables, and behind -- a namespace and a path; behind a socket those alone",
+            WordFault::Origin =>
+                "origin takes tables, and behind -- a namespace and a path; behind a socket those alone",
+            WordFault::Holders => {
+                "holders takes tables, and behind -- a source, a device, or a namespace and a path; behind a socket those alone"
+            }
             WordFault::Explain => "explain takes the name of a refusal, or an errno",
         }
     }
@@ -105,30 +145,78 @@ impl WordFault {
 
 /// The telling of these words, or None where they are no namespace nor `all`, or other options than `--json` and `--time`.
 fn monitor_of(words: &[&str]) -> Option<Task> {
-    let Chosen { options, word } = chosen_in(words)?;
-    if options.ascii {
+    let Chosen {
+        options,
+        word,
+        path,
+    } = chosen_in(words)?;
+    if options.ascii || path.is_some() {
         return None;
     }
     let scope = named_scope(word?)?;
-    let telling = if options.json {
-        Telling::Json
-    } else {
-        Telling::Words
-    };
     let marks = Marks {
-        telling,
+        telling: telling_of(options),
         time: options.time,
     };
     Some(Task::Tell { scope, marks })
 }
 
-/// The graph of these words, or None where they are no namespace, `all` or none.
-fn graph_of(words: &[&str]) -> Option<Task> {
-    let scope = scope_of(words)?;
-    Some(Task::Draw {
-        scope,
-        drawing: Drawing::Graph,
+/// How the options ask to be told.
+fn telling_of(options: Options) -> Telling {
+    if options.json {
+        Telling::Json
+    } else {
+        Telling::Words
+    }
+}
+
+/// The list of these words, or None where they are other than `--json`.
+fn list_of(words: &[&str]) -> Option<Task> {
+    let Chosen { options, word, .. } = chosen_in(words)?;
+    if options.ascii || options.time || word.is_some() {
+        return None;
+    }
+    Some(Task::List {
+        telling: telling_of(options),
     })
+}
+
+/// The drawing of a namespace and of a path in it, of all namespaces where there is neither, or None where there is no such
+/// scope.
+fn drawn(drawing: Drawing, word: Option<&str>, path: Option<&str>) -> Option<Task> {
+    let scope = match word {
+        Some(word) => named_scope(word)?,
+        None => Scope::All,
+    };
+    match (scope, path) {
+        (Scope::One(_), Some(path)) if path.as_bytes().starts_with(b"/") => {
+            Some(Task::DrawPart { drawing })
+        }
+        (_, Some(_)) => None,
+        (scope, None) => Some(Task::Draw { scope, drawing }),
+    }
+}
+
+/// The graph of these words, or None where they are no namespace, and a path in it, nor `all` or none.
+fn graph_of(words: &[&str]) -> Option<Task> {
+    let Chosen {
+        options,
+        word,
+        path,
+    } = chosen_in(words)?;
+    if options.ascii || options.json || options.time {
+        return None;
+    }
+    drawn(Drawing::Graph, word, path)
+}
+
+/// The namespace and the path behind the first word of such a drawing, or None where they are others.
+pub(crate) fn part_words<'a>(words: &[&'a str]) -> Option<(&'a str, &'a str)> {
+    let [_drawing, behind @ ..] = words else {
+        return None;
+    };
+    let chosen = chosen_in(behind)?;
+    Some((chosen.word?, chosen.path?))
 }
 
 /// The mirror of these words, or None where they are not two numbers. A count that is none is the server's to refuse.
@@ -149,18 +237,14 @@ fn named_scope(word: &str) -> Option<Scope> {
     }
 }
 
-/// The namespaces of these words: one, or all where there is no word or that of all. None where they are neither.
-fn scope_of(words: &[&str]) -> Option<Scope> {
-    match words {
-        [] => Some(Scope::All),
-        [word] => named_scope(word),
-        _ => None,
-    }
-}
-
-/// The tree of these words, or None where they are no namespace, `all` or none, or other options than `--ascii` or `--json`.
+/// The tree of these words, or None where they are no namespace, and a path in it, nor `all` or none, or other options than
+/// `--ascii` or `--json`.
 fn tree_of(words: &[&str]) -> Option<Task> {
-    let Chosen { options, word } = chosen_in(words)?;
+    let Chosen {
+        options,
+        word,
+        path,
+    } = chosen_in(words)?;
     let drawing = match options {
         Options {
             ascii: false,
@@ -179,11 +263,7 @@ fn tree_of(words: &[&str]) -> Option<Task> {
         } => Drawing::NestedJson,
         _ => return None,
     };
-    let scope = match word {
-        Some(word) => named_scope(word)?,
-        None => Scope::All,
-    };
-    Some(Task::Draw { scope, drawing })
+    drawn(drawing, word, path)
 }
 
 /// The words without `--json`, where it stands first or last among them. None where it does not.
@@ -258,6 +338,14 @@ fn is_what_if(words: &[&str]) -> bool {
     }
 }
 
+/// The question of words whose first is its name.
+fn question_of(question: Question, words: &[&str]) -> Result<Task, WordFault> {
+    match asked_by(question, words) {
+        Some(_) => Ok(Task::Question(question)),
+        None => Err(question.fault()),
+    }
+}
+
 /// The task of these words: the client's own where the first is one of its own, which no line begins with, and else the
 /// line that they are.
 pub(crate) fn task_of(words: &[&str]) -> Result<Task, WordFault> {
@@ -275,10 +363,13 @@ pub(crate) fn task_of(words: &[&str]) -> Result<Task, WordFault> {
         ["mirror", behind @ ..] => mirror_of(behind).ok_or(WordFault::Mirror),
         ["tree", behind @ ..] => tree_of(behind).ok_or(WordFault::Tree),
         ["dot", behind @ ..] => graph_of(behind).ok_or(WordFault::Graph),
-        ["spaces"] => Ok(Task::List),
-        ["spaces", ..] => Err(WordFault::Spaces),
+        ["spaces", behind @ ..] => list_of(behind).ok_or(WordFault::Spaces),
         ["what-if", behind @ ..] if is_what_if(behind) => Ok(Task::WhatIf),
         ["what-if", ..] => Err(WordFault::WhatIf),
+        ["page", ..] => Ok(Task::Page),
+        ["reach", ..] => question_of(Question::Reach, words),
+        ["origin", ..] => question_of(Question::Origin, words),
+        ["holders", ..] => question_of(Question::Holders, words),
         _ => Ok(Task::Ask),
     }
 }

@@ -24,11 +24,10 @@ pub record HasToldLines (named : NamedTelling) (count : ℕ) (old new : List Mir
   pub many : length told.lines ≡ count
 
 -- a line was read that says how many lines posts are, and then these posts, which were told
-pub record HasToldTaken (named : NamedTelling) (old : List MirrorView) (before after : Option (List Item)) (begun done : Option (List ℕ)) : Type 0 where
+pub record HasToldTaken (named : NamedTelling) (old new : List MirrorView) (before after : Option (List Item)) (begun done : Option (List ℕ)) : Type 0 where
   pub first : List ℕ
   pub middle : Option (List Item)
   pub count : ℕ
-  pub new : List MirrorView
   pub read : ComeFirst before (first ∷ []) middle
   pub counted : waiting_count first ≡ Some count
   pub told : HasToldLines named count old new middle after begun done
@@ -44,12 +43,13 @@ effects_text line = ended (watch_text All) ++ ended line ++ ended taking_text
 -- what a watcher of all namespaces finds was read, and an answer to a line that is `ok`, which was printed, and then what had changed since, which was told
 pub record HasEffects (named : NamedTelling) (line : List ℕ) (before after : Option (List Item)) (begun done : Option (List ℕ)) : Type 0 where
   pub found : List MirrorView
+  pub made : List MirrorView
   pub opened : Option (List Item)
   pub answered : Option (List Item)
   pub between : Option (List ℕ)
   pub watched : HasFound All before opened found
   pub answer : HasPassed (λ lines. IsAnswer (form_of line) lines true) opened answered begun between
-  pub changes : HasToldTaken named found answered after between done
+  pub changes : HasToldTaken named found made answered after between done
 
 -- a refusal was read, and printed
 abbrev pub IsRefusedOut : Option (List Item) → Option (List Item) → Option (List ℕ) → Option (List ℕ) → Type 0

@@ -11,9 +11,9 @@ use Rattle.mt_events.specs.Mirrors.{MirrorView, mirrored}
 use Rattle.mt_events.specs.Following.{names_space}
 use Rattle.mt_events.specs.Texts.{count_text, opening_text, followed_text}
 use Rattle.mt_events.specs.declared.opening.Scope.{Scope}
+use Rattle.mt_render.specs.Named.{name_in}
 use Rattle.mt_render.specs.Events.{told_as}
 use Rattle.mt_client.specs.declared.named.NamedTelling.{NamedTelling}
-use Rattle.mt_client.specs.declared.named.SpaceName.{SpaceName}
 use Rattle.mt_client.specs.declared.fault.ClientFault.{ClientFault}
 use Rattle.mt_client.specs.declared.fault.ClientFault.TheVariants.{Connection, Output, NoMemory}
 use Rattle.mt_client.specs.Limits.{most_spaces}
@@ -58,11 +58,6 @@ is_due scope mirrors p = names_space scope p.space && fits mirrors p
 abbrev pub are_due : Scope → List MirrorView → List PostView → Bool
 are_due scope mirrors [] = true
 are_due scope mirrors (p ∷ ps) = is_due scope mirrors p && are_due scope (mirrors_with mirrors p) ps
-
--- the first name of a namespace among these, or none
-abbrev pub name_in : List SpaceName → ℕ → List ℕ
-name_in [] n = []
-name_in (x ∷ xs) n = cond (x.space == n) x.name.now (name_in xs n)
 
 -- a post as it is told, with the name of its namespace, and against the mirror of that among these
 abbrev pub told_in : NamedTelling → List MirrorView → PostView → List ℕ

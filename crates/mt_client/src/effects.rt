@@ -72,6 +72,7 @@ fn tell_lines<R: Input + Drop, O: Output>(
     requires fresh { fault_of lines.old ≡ None }
     requires rising { IsTrue (rises mirror_space mirrors.old.items) }
     ensures told { OnOk result (HasToldLines named.now count mirrors.old.items mirrors.new.items (known_lines lines.old) (known_lines lines.new) (O.contents out.old) (O.contents out.new)) }
+    ensures rising { OnOk result (IsTrue (rises mirror_space mirrors.new.items)) }
     ensures broken { IfErr result
         (λ fault. IsToldShort named.now fault mirrors.old.items (known_lines lines.old) (O.contents out.old) (O.contents out.new)) }
     ensures on { OnOk result (ReadsOn lines.old lines.new) }
@@ -99,7 +100,8 @@ fn tell_taken<R: Input + Drop, O: Output>(
 ) -> Result<bool, ClientFault>
     requires fresh { fault_of lines.old ≡ None }
     requires rising { IsTrue (rises mirror_space mirrors.old.items) }
-    ensures told { result ≡ Ok true → HasToldTaken named.now mirrors.old.items (known_lines lines.old) (known_lines lines.new) (O.contents out.old) (O.contents out.new) }
+    ensures told { result ≡ Ok true → HasToldTaken named.now mirrors.old.items mirrors.new.items (known_lines lines.old) (known_lines lines.new) (O.contents out.old) (O.contents out.new) }
+    ensures rising { OnOk result (IsTrue (rises mirror_space mirrors.new.items)) }
     ensures refused { result ≡ Ok false → IsRefusedOut (known_lines lines.old) (known_lines lines.new) (O.contents out.old) (O.contents out.new) }
     ensures broken { IfErr result
         (λ fault. IsTakenShort named.now fault mirrors.old.items (known_lines lines.old) (O.contents out.old) (O.contents out.new)) }
@@ -119,8 +121,15 @@ fn tell_taken<R: Input + Drop, O: Output>(
     Ok(true)
 }
 
-/// Takes the posts that wait, and tells them: false where a refusal was printed.
-fn tell_changes<R: Input + Drop, W: Output, O: Output>(
+/// Takes the posts that wait for the session's watcher of all namespaces, up to 1,024, which is all that a queue holds, tells
+/// them in this manner, and applies them to the tables that it has found: false where a refusal was printed. A watcher that
+/// has lost posts refuses as `Lagged` once it has given what its queue holds.
+///
+/// The reader has met no fault, and serves what comes over the connection; the tables rise by the number of their namespace, as
+/// those that [`crate::watch::watch`] found and those that this call leaves. Refused as `Connection` where the connection
+/// fails or ends early, or where what comes are no posts, each the next one of its namespace, or more than a server has; as
+/// `Output` where what was to be told does not go out, and else as `NoMemory`.
+pub fn tell_changes<R: Input + Drop, W: Output, O: Output>(
     alloc: Global,
     lines: &mut LineReader<R>,
     writer: &mut W,
@@ -130,7 +139,8 @@ fn tell_changes<R: Input + Drop, W: Output, O: Output>(
 ) -> Result<bool, ClientFault>
     requires fresh { fault_of lines.old ≡ None }
     requires rising { IsTrue (rises mirror_space mirrors.old.items) }
-    ensures told { result ≡ Ok true → HasToldTaken named.now mirrors.old.items (known_lines lines.old) (known_lines lines.new) (O.contents out.old) (O.contents out.new) }
+    ensures told { result ≡ Ok true → HasToldTaken named.now mirrors.old.items mirrors.new.items (known_lines lines.old) (known_lines lines.new) (O.contents out.old) (O.contents out.new) }
+    ensures rising { OnOk result (IsTrue (rises mirror_space mirrors.new.items)) }
     ensures part { IsSentPart (ended taking_text) (W.contents writer.old) (W.contents writer.new) }
     ensures refused { result ≡ Ok false → IsRefusedOut (known_lines lines.old) (known_lines lines.new) (O.contents out.old) (O.contents out.new) }
     ensures broken { IfErr result
@@ -161,7 +171,7 @@ fn tell_answered<R: Input + Drop, W: Output, O: Output>(
     requires rising { IsTrue (rises mirror_space mirrors.old.items) }
     ensures told { result ≡ Ok true → (answered : Option (List Item)) × (between : Option (List ℕ))
         × HasPassed (λ all. IsAnswer (form_of line.now) all true) (known_lines lines.old) answered (O.contents out.old) between
-        × HasToldTaken named.now mirrors.old.items answered (known_lines lines.new) between (O.contents out.new) }
+        × HasToldTaken named.now mirrors.old.items mirrors.new.items answered (known_lines lines.new) between (O.contents out.new) }
     ensures refused { result ≡ Ok false → IsRefusedLine line.now (known_lines lines.old) (known_lines lines.new) (O.contents out.old) (O.contents out.new) }
     ensures broken { IfErr result
         (λ fault. IsAnsweredShort named.now fault line.now mirrors.old.items (known_lines lines.old) (O.contents out.old) (O.contents out.new)) }

@@ -24,4 +24,4 @@ pub mod relay;
 pub mod request;
 mod sending;
 pub mod telling;
-mod watch;
+pub mod watch;

@@ -19,6 +19,7 @@ use mt_events::opening::Scope;
 use mt_lines::line::LineReader;
 use mt_lines::stream::{Input, Output};
 use mt_render::drawing::{Drawing, drawing_text};
+use mt_render::named::SpaceName;
 use std::alloc::Global;
 
 /// Prints a drawing of tables.
@@ -26,19 +27,20 @@ fn print_drawing<O: Output>(
     alloc: Global,
     out: &mut O,
     drawing: Drawing,
+    names: &[SpaceName<'_>],
     parts: &[Mirror],
 ) -> Result<(), ClientFault>
     ensures kept { OnErr result (result ≢ Err ClientFault.Output → Keeps (O.contents out.old) (O.contents out.new)) }
     ensures kind { result ≢ Err ClientFault.Connection }
     ensures cause { result ≡ Err ClientFault.Output → IsTrue O.counts
         → HasBroken (O.failed out.old) (O.failed out.new) (O.faults out.old) (O.faults out.new) }
-    ensures out { OnOk result (IsOut O.Output (drawing_text drawing parts.now) out.old out.new) }
+    ensures out { OnOk result (IsOut O.Output (drawing_text drawing names.now parts.now) out.old out.new) }
 {
-    let text = drawing_text(alloc, drawing, parts)?;
+    let text = drawing_text(alloc, drawing, names, parts)?;
     print(out, text.as_slice())
 }
 
-/// Watches a scope and prints a drawing of the tables that the watcher found.
+/// Watches a scope and prints a drawing of the tables that the watcher found, with these names of their namespaces.
 ///
 /// The reader has met no fault, and serves what comes over the connection. Nothing is sent behind the request, so the
 /// session has a watcher for as long as the connection stays. Answers true where the drawing was printed, and false
@@ -55,6 +57,7 @@ pub fn draw<R: Input + Drop, W: Output, O: Output>(
     writer: &mut W,
     scope: Scope,
     drawing: Drawing,
+    names: &[SpaceName<'_>],
     out: &mut O,
 ) -> Result<bool, ClientFault>
     requires fresh { fault_of lines.old ≡ None }
@@ -63,7 +66,7 @@ pub fn draw<R: Input + Drop, W: Output, O: Output>(
     // watcher of the scope, and it is the drawing of all that it has.
     ensures drawn { result ≡ Ok true → (parts : List MirrorView)
         × HasWatched scope (known_lines lines.old) (known_lines lines.new) parts
-        × Appends (O.contents out.old) (O.contents out.new) (drawing_text drawing parts) }
+        × Appends (O.contents out.old) (O.contents out.new) (drawing_text drawing names.now parts) }
 
     // Else the refusal was printed that stands in the place of the opening.
     ensures refused { result ≡ Ok false → (refusal : List ℕ)
@@ -97,6 +100,6 @@ pub fn draw<R: Input + Drop, W: Output, O: Output>(
     let Some(parts) = watch(alloc, lines, writer, scope, out)? else {
         return Ok(false);
     };
-    print_drawing(alloc, out, drawing, parts.as_slice())?;
+    print_drawing(alloc, out, drawing, names, parts.as_slice())?;
     Ok(true)
 }

@@ -18,7 +18,7 @@ use crate::answer::is_refusal;
 use crate::fault::ClientFault;
 use crate::mirror::read_end;
 use crate::mirrors::apply_told;
-use crate::named::{NamedTelling, name_of};
+use crate::named::NamedTelling;
 use crate::posts::read_posted;
 use crate::relay::{next_text, print, print_line};
 use crate::request::numbered_line;
@@ -29,6 +29,7 @@ use mt_events::opening::Scope;
 use mt_events::post::Post;
 use mt_lines::line::LineReader;
 use mt_lines::stream::{Input, Output};
+use mt_render::named::name_in;
 use std::alloc::Global;
 
 /// How many posts a request asks for, the most that one may.
@@ -60,7 +61,7 @@ pub(crate) fn tell_due<O: Output>(
         return Err(ClientFault::Connection);
     }
     let mut text = Vec::new(alloc);
-    let name = name_of(named.names, post.space);
+    let name = name_in(named.names, post.space);
     apply_told(alloc, &mut text, named.telling, mirrors, post, name)?;
     print(out, text.as_slice())
 }

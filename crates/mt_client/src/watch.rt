@@ -33,8 +33,13 @@ fn watch_line(alloc: Global, scope: Scope) -> Result<Vec<u8>, AllocError>
     }
 }
 
-/// Watches a scope: what the watcher found, or None where a refusal was printed.
-pub(crate) fn watch<R: Input + Drop, W: Output, O: Output>(
+/// Watches a scope: the tables that the watcher found, by rising number of their namespaces, or None where a refusal was
+/// printed.
+///
+/// The reader has met no fault, and serves what comes over the connection. The session has the watcher for as long as the
+/// connection stays, or up to a `close`. Refused as `Connection` where the connection fails or ends early, or where what comes
+/// is no such opening, as `Output` where the refusal does not go out, and else as `NoMemory`.
+pub fn watch<R: Input + Drop, W: Output, O: Output>(
     alloc: Global,
     lines: &mut LineReader<R>,
     writer: &mut W,

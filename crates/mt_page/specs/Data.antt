@@ -86,7 +86,7 @@ tables_text lines = between (codes "{\"opening\":[") lines (codes "],\n\"steps\"
 
 -- the object that a page reads, up to its steps: the tables that were there before, as `show NS --json` prints them
 unfoldable pub opening_data : List MirrorView → List ℕ
-opening_data parts = inert (tables_text (drawing_text FlatJson parts))
+opening_data parts = inert (tables_text (drawing_text FlatJson [] parts))
 
 -- its steps, and what stands behind them: names of namespaces, and its title
 unfoldable pub steps_data : List StepTexts → List NameTexts → List ℕ → List ℕ

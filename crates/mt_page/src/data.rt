@@ -148,7 +148,7 @@ pub fn opening_data(alloc: Global, parts: &[Mirror]) -> Result<Vec<u8>, AllocErr
     ensures data { IfOk result (λ text. text.items ≡ opening_data parts.now) }
     ensures harmless { IfOk result (λ text. IsTrue (is_harmless text.items)) }
 {
-    let lines = drawing_text(alloc, Drawing::FlatJson, parts)?;
+    let lines = drawing_text(alloc, Drawing::FlatJson, &[], parts)?;
     let mut text = Vec::new(alloc);
     push_tables(&mut text, lines.as_slice())?;
     inert_text(alloc, text.as_slice())

@@ -14,3 +14,4 @@ pub mod DownLaws
 pub mod GroupsLaws
 pub mod WalkedLaws
 pub mod PlaceLaws
+pub mod AgreeLaws

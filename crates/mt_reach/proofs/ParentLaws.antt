@@ -126,7 +126,7 @@ module _ (w : WorldView) where
             ∙ placed m e f m.place refl ∙ sym (parent_at w i m e)
 
     -- and whether a mount stands on another
-    child_seen : (i : ℕ) (m : Mount) → mount_at w.forest m.id ≡ Some m → option_map_or (λ q. stands_on_row q (seen_mount w m)) (seen_at (seen_rows w) i) false ≡ stands_on i m
+    pub child_seen : (i : ℕ) (m : Mount) → mount_at w.forest m.id ≡ Some m → option_map_or (λ q. stands_on_row q (seen_mount w m)) (seen_at (seen_rows w) i) false ≡ stands_on i m
     child_seen i m e = go (mount_at w.forest i) refl m.place refl
       where
         there : (p : Place) → m.place ≡ Some p → (q : Mount) × (mount_at w.forest p.mount ≡ Some q) × (q.space ≡ m.space)

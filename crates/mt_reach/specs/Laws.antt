@@ -19,6 +19,7 @@ use Rattle.mt_reach.specs.Missing.{missing_groups}
 use Rattle.mt_reach.specs.Seen.{seen_rows, seen_directory}
 use Rattle.mt_reach.specs.Reached.{reached}
 use Rattle.mt_reach.specs.Tree.{seen_children}
+use Rattle.mt_reach.specs.Walking.{end_of, directory_at}
 use Rattle.mt_reach.specs.Refusals.{IsWitness, shared_parent, unbindable_inside, into_itself, off_root, at_root_place, left_outside}
 
 -- from the rows of a well-formed world the mounts that are reached from a directory that is there are its propagation targets
@@ -57,6 +58,12 @@ UnbindableIsWitnessed = (w : WorldView) → IsWellFormed w → (i dest : ℕ) �
 -- a path leads to the place p of a well-formed world
 abbrev pub PathEndsAt : WorldView → Place → Type 0
 PathEndsAt w p = (n : ℕ) × (path : List (List ℕ)) × (walk w.skel w.forest n path ≡ Ok p)
+
+-- a walk of the rows ends on the mount and in the directory that a path leads to (path_resolution(7))
+abbrev pub WalksAgree : Type 0
+WalksAgree =
+    (w : WorldView) (n : ℕ) (path : List (List ℕ)) (p : Place) → IsSkeleton w.skel → IsWellFormed w → walk w.skel w.forest n path ≡ Ok p
+    → (r : SeenRow) × (end_of (seen_rows w) n path ≡ Some r) × (r.id ≡ p.mount) × (directory_at r path ≡ seen_directory w p.dir)
 
 -- the mount that a path ends on, but not at the root of, is none exactly where the path names a mount (umount2(2), EINVAL)
 abbrev pub OffRootIsWitnessed : Type 0

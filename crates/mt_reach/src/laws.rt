@@ -1,5 +1,5 @@
 //! What is true of the answers about the rows of a world. The functions do nothing: their contracts are the laws.
-ghost use Rattle.mt_reach.specs.Laws.{ReachedAreHits, NoneIsMissing, MountsComeWhereReached, BusyIsWitnessed, SharedIsWitnessed, UnbindableIsWitnessed, IntoIsWitnessed, OffRootIsWitnessed, RootPlaceIsWitnessed, OutsideIsWitnessed};
+ghost use Rattle.mt_reach.specs.Laws.{WalksAgree, ReachedAreHits, NoneIsMissing, MountsComeWhereReached, BusyIsWitnessed, SharedIsWitnessed, UnbindableIsWitnessed, IntoIsWitnessed, OffRootIsWitnessed, RootPlaceIsWitnessed, OutsideIsWitnessed};
 
 /// The mounts that are reached from a directory of a mount are those to which a mount made there propagates, where the rows
 /// are those of all namespaces of a well-formed world.
@@ -17,6 +17,11 @@ pub fn none_is_missing()
 /// there.
 pub fn mounts_come_where_reached()
     ensures { MountsComeWhereReached }
+{}
+
+/// A walk of the rows of a well-formed world ends on the mount and in the directory that the path leads to.
+pub fn walks_agree()
+    ensures { WalksAgree }
 {}
 
 /// The mounts that are named for a refusal are none exactly where the refusal does not hold: for `Busy`, `SharedParent`,

@@ -1,19 +1,15 @@
 -- No object of an event has a float, so that each has one text.
-use Rattle.std.proofs.Common.{◌≡◌, ℕ, List, [], ◌∷◌, codes, false, Option, Some, None, refl}
+use Rattle.std.proofs.Common.{◌≡◌, ℕ, List, codes, false, Option, Some, None, refl}
 use Rattle.std.specs.Option.{option_map_or}
 use Rattle.serde_json.specs.Data.{object, Members, no_members, put}
 use Rattle.serde_json.specs.Written.{has_float, members_have_float}
 use Rattle.mt_skel.specs.Keyed.{row_at}
 use Rattle.mt_info.specs.declared.row.Row.{Row}
 use Rattle.mt_info.specs.Table.{row_id}
-use Rattle.mt_render.specs.Members.{text_data, number_data, with_mount}
+use Rattle.mt_render.specs.Members.{text_data, number_data, with_name, with_mount}
 use Rattle.mt_render.specs.Objects.{flat_node}
-use Rattle.mt_render.proofs.FloatLaws.{put_free, mount_free, flat_free}
-use Rattle.mt_render.specs.Events.{with_name, left_members, changed_members}
-
-name_free : (name : List ℕ) (ms : Members) → members_have_float ms ≡ false → members_have_float (with_name name ms) ≡ false
-name_free [] ms fms = fms
-name_free (b ∷ bs) ms fms = put_free (codes "name") (text_data (b ∷ bs)) ms refl fms
+use Rattle.mt_render.proofs.FloatLaws.{put_free, name_free, mount_free, flat_free}
+use Rattle.mt_render.specs.Events.{left_members, changed_members}
 
 -- the object of an event has none where what it tells of a mount has none
 pub event_free : (event name : List ℕ) (n : ℕ) (ms : Members) → members_have_float ms ≡ false → has_float (object (with_name name (put (codes "namespace") (number_data n) (put (codes "event") (text_data event) ms)))) ≡ false

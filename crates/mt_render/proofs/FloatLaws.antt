@@ -10,7 +10,8 @@ use Rattle.serde_json.specs.Written.{has_float, items_have_float, members_have_f
 use Rattle.mt_info.specs.declared.row.Row.{Row}
 use Rattle.mt_info.specs.RowLine.{option_words}
 use Rattle.mt_render.specs.Forest.{BranchView, is_top, child_rows, tree, strays}
-use Rattle.mt_render.specs.Members.{text_data, number_data, path_bytes, source_bytes, kinds_text, with_standing, with_shown, with_kinds, with_group, with_groups, with_mount}
+use Rattle.mt_render.specs.Members.{text_data, number_data, path_bytes, source_bytes, kinds_text, with_name, with_standing, with_shown, with_kinds, with_group, with_groups, with_mount}
+use Rattle.mt_render.specs.Listing.{space_members}
 use Rattle.mt_render.specs.Objects.{with_children, node_with, flat_node, node, most_generations, is_deep, tree_nodes, listing}
 
 put_free_at : (o : Ordering) (k l : List ℕ) (d e : Data) (ms : Members) → has_float d ≡ false → has_float e ≡ false → members_have_float ms ≡ false → members_have_float (put k d ms) ≡ false
@@ -85,23 +86,34 @@ node_free : (rows : List Row) (n : ℕ) (r : Row) → has_float (node rows n r) 
 node_free rows zero r = flat_free r
 node_free rows (suc n) r = node_with_free r (map (λ c. node rows n c) (child_rows rows r)) (all_free (λ c. node rows n c) (λ c. node_free rows n c) (child_rows rows r))
 
-pub listing_free : (n : ℕ) (ds : List Data) → items_have_float (items_of ds) ≡ false → members_have_float (listing n ds) ≡ false
-listing_free n ds fds =
-    put_free (codes "filesystems") (array (items_of ds)) (put (codes "namespace") (number_data n) no_members) fds (put_free (codes "namespace") (number_data n) no_members refl refl)
+pub name_free : (name : List ℕ) (ms : Members) → members_have_float ms ≡ false → members_have_float (with_name name ms) ≡ false
+name_free [] ms fms = fms
+name_free (b ∷ bs) ms fms = put_free (codes "name") (text_data (b ∷ bs)) ms refl fms
+
+pub listing_free : (n : ℕ) (name : List ℕ) (ds : List Data) → items_have_float (items_of ds) ≡ false → members_have_float (listing n name ds) ≡ false
+listing_free n name ds fds =
+    let numbered = put (codes "namespace") (number_data n) no_members in
+    put_free (codes "filesystems") (array (items_of ds)) (with_name name numbered) fds (name_free name numbered (put_free (codes "namespace") (number_data n) no_members refl refl))
 
 -- no list of mounts has one: of all by rising ID, of each below its parent, or of the one where a path ends
-pub flat_listing_free : (n : ℕ) (rows : List Row) → has_float (object (listing n (map flat_node rows))) ≡ false
-flat_listing_free n rows = listing_free n (map flat_node rows) (all_free flat_node flat_free rows)
+pub flat_listing_free : (n : ℕ) (name : List ℕ) (rows : List Row) → has_float (object (listing n name (map flat_node rows))) ≡ false
+flat_listing_free n name rows = listing_free n name (map flat_node rows) (all_free flat_node flat_free rows)
 
-pub nested_listing_free : (n : ℕ) (rows : List Row) → has_float (object (listing n (tree_nodes rows))) ≡ false
-nested_listing_free n rows =
+pub nested_listing_free : (n : ℕ) (name : List ℕ) (rows : List Row) → has_float (object (listing n name (tree_nodes rows))) ≡ false
+nested_listing_free n name rows =
     let tops = map (node rows most_generations) (filter (is_top rows) rows) in
     let flat = λ (b : BranchView). flat_node b.row in
     let deep = map flat (filter is_deep (tree rows)) in
     let others = map flat (strays rows) in
-    listing_free n (tops ++ (deep ++ others))
+    listing_free n name (tops ++ (deep ++ others))
     (both_free tops (deep ++ others) (all_free (node rows most_generations) (node_free rows most_generations) (filter (is_top rows) rows))
     (both_free deep others (all_free flat (λ b. flat_free b.row) (filter is_deep (tree rows))) (all_free flat (λ b. flat_free b.row) (strays rows))))
 
-pub place_listing_free : (n : ℕ) (directory : List ℕ) (r : Row) → has_float (object (put (codes "directory") (text_data directory) (listing n (flat_node r ∷ [])))) ≡ false
-place_listing_free n directory r = put_free (codes "directory") (text_data directory) (listing n (flat_node r ∷ [])) refl (flat_listing_free n (r ∷ []))
+-- nor has a namespace in a list
+pub counted_free : (n : ℕ) (name : List ℕ) (mounts : ℕ) → has_float (object (space_members n name mounts)) ≡ false
+counted_free n name mounts =
+    let numbered = put (codes "namespace") (number_data n) no_members in
+    put_free (codes "mounts") (number_data mounts) (with_name name numbered) refl (name_free name numbered (put_free (codes "namespace") (number_data n) no_members refl refl))
+
+pub place_listing_free : (n : ℕ) (directory : List ℕ) (r : Row) → has_float (object (put (codes "directory") (text_data directory) (listing n [] (flat_node r ∷ [])))) ≡ false
+place_listing_free n directory r = put_free (codes "directory") (text_data directory) (listing n [] (flat_node r ∷ [])) refl (flat_listing_free n [] (r ∷ []))

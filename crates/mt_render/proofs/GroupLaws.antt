@@ -187,9 +187,9 @@ module _ (nodes : List NodeView) (members : List ListRow) (h : IsGrouped nodes m
       ap (λ b. cond b (find (is_member g) nodes) None) many
 
 -- the ring edge of one mount more
-pub one_ring : (nodes : List NodeView) (i : ℕ) (n : NodeView) (t0 t1 : List ℕ) → i < length nodes → n ≡ get_or nodes i n → t1 ≡ t0 ++ ring_edge nodes (drop (i + 1) nodes) n
-    → t1 ++ ring_edges nodes (drop (i + 1) nodes) ≡ t0 ++ ring_edges nodes (drop i nodes)
-one_ring nodes i n t0 t1 low is e =
+pub one_ring : (gs : List ℕ) (nodes : List NodeView) (i : ℕ) (n : NodeView) (t0 t1 : List ℕ) → i < length nodes → n ≡ get_or nodes i n → t1 ≡ t0 ++ ring_edge gs nodes (drop (i + 1) nodes) n
+    → t1 ++ ring_edges gs nodes (drop (i + 1) nodes) ≡ t0 ++ ring_edges gs nodes (drop i nodes)
+one_ring gs nodes i n t0 t1 low is e =
     let next : suc i ≡ i + 1 = omega arith in
     let here : drop i nodes ≡ n ∷ drop (i + 1) nodes = drop-cons nodes i n low ∙ ap (λ m. m ∷ drop (suc i) nodes) (sym is) ∙ ap (λ k. n ∷ drop k nodes) next in
-    ap (λ t. t ++ ring_edges nodes (drop (i + 1) nodes)) e ∙ append_assoc t0 (ring_edge nodes (drop (i + 1) nodes) n) (ring_edges nodes (drop (i + 1) nodes)) ∙ ap (λ ms. t0 ++ ring_edges nodes ms) (sym here)
+    ap (λ t. t ++ ring_edges gs nodes (drop (i + 1) nodes)) e ∙ append_assoc t0 (ring_edge gs nodes (drop (i + 1) nodes) n) (ring_edges gs nodes (drop (i + 1) nodes)) ∙ ap (λ ms. t0 ++ ring_edges gs nodes ms) (sym here)

@@ -12,3 +12,5 @@ mod StepLaws
 mod LeadLaws
 mod GroupLaws
 mod LineLaws
+mod PaletteLaws
+mod PartLaws

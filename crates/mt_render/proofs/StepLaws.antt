@@ -107,15 +107,16 @@ pub alone_unrolled : (rs : List Row) (lasts : List Bool) → unrolled lasts (map
 alone_unrolled [] lasts = refl
 alone_unrolled (r ∷ rs) lasts = ap (λ bs. without_lines r ∷ bs) (alone_unrolled rs [])
 
+-- a mount has a step where it is drawn
+pub has_same : (i : ℕ) (bs : List BranchView) → has_step (map step_of bs) i ≡ is_drawn bs i
+has_same i [] = refl
+has_same i (b ∷ bs) = ap (λ u. (b.row.id == i) || u) (has_same i bs)
+
 -- rows in no tree as steps
 pub stray_steps : (rows : List Row) (drawn : List StepView) → drawn ≡ map step_of (tree rows) → map top_step (filter (λ r. not (has_step drawn r.id)) rows) ≡ map step_of (strays rows)
 stray_steps rows drawn e =
     (λ i. map top_step (filter (λ r. not ((ap (λ ss. has_step ss r.id) e ∙ has_same r.id (tree rows)) i)) rows)) ∙ tops (filter (λ r. not (is_drawn (tree rows) r.id)) rows)
   where
-    has_same : (i : ℕ) (bs : List BranchView) → has_step (map step_of bs) i ≡ is_drawn bs i
-    has_same i [] = refl
-    has_same i (b ∷ bs) = ap (λ u. (b.row.id == i) || u) (has_same i bs)
-
     tops : (rs : List Row) → map top_step rs ≡ map step_of (map without_lines rs)
     tops [] = refl
     tops (r ∷ rs) = ap (λ ss. top_step r ∷ ss) (tops rs)

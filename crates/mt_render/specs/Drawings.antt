@@ -6,14 +6,15 @@ use Rattle.mt_events.specs.Mirrors.{MirrorView}
 use Rattle.mt_render.specs.declared.drawing.Drawing.{Drawing}
 use Rattle.mt_render.specs.declared.drawing.Drawing.TheVariants.{Tree, PlainTree, Graph, FlatJson, NestedJson}
 use Rattle.mt_render.specs.declared.leads.Strokes.TheVariants.{Lines, Ascii}
+use Rattle.mt_render.specs.declared.named.SpaceName.{SpaceName}
 use Rattle.mt_render.specs.Trees.{trees_text}
 use Rattle.mt_render.specs.Graphs.{graph_text}
 use Rattle.mt_render.specs.Objects.{flat_line, nested_line}
 
--- tables as they are drawn
-unfoldable pub drawing_text : Drawing → List MirrorView → List ℕ
-drawing_text Tree parts = trees_text Lines parts
-drawing_text PlainTree parts = trees_text Ascii parts
-drawing_text Graph parts = graph_text parts
-drawing_text FlatJson parts = flat_map flat_line parts
-drawing_text NestedJson parts = flat_map nested_line parts
+-- tables as they are drawn, with these names of their namespaces
+unfoldable pub drawing_text : Drawing → List SpaceName → List MirrorView → List ℕ
+drawing_text Tree names parts = trees_text Lines names parts
+drawing_text PlainTree names parts = trees_text Ascii names parts
+drawing_text Graph names parts = graph_text names parts
+drawing_text FlatJson names parts = flat_map (flat_line names) parts
+drawing_text NestedJson names parts = flat_map (nested_line names) parts

@@ -11,16 +11,11 @@ use Rattle.mt_info.specs.SameRow.{attrs_eq}
 use Rattle.mt_info.specs.Table.{row_id}
 use Rattle.mt_events.specs.Mirrors.{MirrorView}
 use Rattle.mt_events.specs.Posts.{PostView}
-use Rattle.mt_render.specs.Members.{text_data, number_data, with_mount}
+use Rattle.mt_render.specs.Members.{text_data, number_data, with_name, with_mount}
 use Rattle.mt_render.specs.Objects.{value_line, flat_node}
 use Rattle.mt_render.specs.Wording.{named_text}
 use Rattle.mt_render.specs.declared.telling.Telling.{Telling}
 use Rattle.mt_render.specs.declared.telling.Telling.TheVariants.{Words, Json}
-
--- the name of a namespace, if it has one
-abbrev pub with_name : List ℕ → Members → Members
-with_name [] ms = ms
-with_name (b ∷ bs) ms = put (codes "name") (text_data (b ∷ bs)) ms
 
 -- what happened to a mount, and in which namespace
 abbrev pub event_line : List ℕ → List ℕ → ℕ → Members → List ℕ

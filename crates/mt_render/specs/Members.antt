@@ -30,6 +30,11 @@ source_bytes source (n ∷ ns) = source ++ (codes "[" ++ (names_text (n ∷ ns) 
 abbrev pub kinds_text : Row → List ℕ
 kinds_text r = cond (is_some r.shared) (codes "shared") (codes "private") ++ (cond (is_some r.master) (codes ",slave") [] ++ cond r.unbindable (codes ",unbindable") [])
 
+-- the name of a namespace, if it has one
+abbrev pub with_name : List ℕ → Members → Members
+with_name [] ms = ms
+with_name (b ∷ bs) ms = put (codes "name") (text_data (b ∷ bs)) ms
+
 -- where a mount is
 abbrev pub with_standing : Row → Members → Members
 with_standing r ms = put (codes "target") (text_data (path_bytes r.point)) (put (codes "parent") (number_data r.parent) (put (codes "id") (number_data r.id) ms))

@@ -9,7 +9,9 @@ use Rattle.mt_info.specs.declared.row.Row.{Row}
 use Rattle.mt_events.specs.Mirrors.{MirrorView}
 use Rattle.mt_terminal.specs.Terminal.{quoted_text}
 use Rattle.mt_render.specs.Forest.{BranchView, is_top, child_rows, tree, strays}
-use Rattle.mt_render.specs.Members.{text_data, number_data, with_mount}
+use Rattle.mt_render.specs.Members.{text_data, number_data, with_name, with_mount}
+use Rattle.mt_render.specs.declared.named.SpaceName.{SpaceName}
+use Rattle.mt_render.specs.Named.{name_in}
 
 -- a value as a line of its own, with no character that a terminal obeys
 abbrev pub value_line : Data → List ℕ
@@ -43,18 +45,18 @@ is_deep b = nat_lt most_generations (length b.lasts)
 abbrev pub tree_nodes : List Row → List Data
 tree_nodes rows = map (node rows most_generations) (filter (is_top rows) rows) ++ (map (λ b. flat_node b.row) (filter is_deep (tree rows)) ++ map (λ b. flat_node b.row) (strays rows))
 
--- mounts of a namespace
-abbrev pub listing : ℕ → List Data → Members
-listing space ds = put (codes "filesystems") (array (items_of ds)) (put (codes "namespace") (number_data space) no_members)
+-- mounts of a namespace, which may have a name
+abbrev pub listing : ℕ → List ℕ → List Data → Members
+listing space name ds = put (codes "filesystems") (array (items_of ds)) (with_name name (put (codes "namespace") (number_data space) no_members))
 
 -- all mounts of a namespace, by rising ID
-unfoldable pub flat_line : MirrorView → List ℕ
-flat_line m = value_line (object (listing m.space (map flat_node m.rows)))
+unfoldable pub flat_line : List SpaceName → MirrorView → List ℕ
+flat_line names m = value_line (object (listing m.space (name_in names m.space) (map flat_node m.rows)))
 
 -- the same, each below its parent
-unfoldable pub nested_line : MirrorView → List ℕ
-nested_line m = value_line (object (listing m.space (tree_nodes m.rows)))
+unfoldable pub nested_line : List SpaceName → MirrorView → List ℕ
+nested_line names m = value_line (object (listing m.space (name_in names m.space) (tree_nodes m.rows)))
 
 -- where a path ends: a mount, and a directory of its filesystem
 unfoldable pub place_line : ℕ → List ℕ → Row → List ℕ
-place_line space directory r = value_line (object (put (codes "directory") (text_data directory) (listing space (flat_node r ∷ []))))
+place_line space directory r = value_line (object (put (codes "directory") (text_data directory) (listing space [] (flat_node r ∷ []))))

@@ -9,6 +9,8 @@ use Rattle.mt_terminal.specs.Terminal.{terminal_text}
 use Rattle.mt_render.specs.declared.leads.Strokes.{Strokes}
 use Rattle.mt_render.specs.declared.leads.Strokes.TheVariants.{Lines, Ascii}
 use Rattle.mt_render.specs.declared.columns.Widths.{Widths}
+use Rattle.mt_render.specs.declared.named.SpaceName.{SpaceName}
+use Rattle.mt_render.specs.Named.{name_in, name_words}
 use Rattle.mt_render.specs.Propagation.{propagation}
 use Rattle.mt_render.specs.Columns.{CellsView, no_widths, widened, cells_line}
 use Rattle.mt_render.specs.Forest.{BranchView, tree, strays}
@@ -72,14 +74,18 @@ columns_text w lines others = flat_map (cells_line w) lines ++ strays_text w oth
 abbrev pub fitted_text : List CellsView → List CellsView → List ℕ
 fitted_text lines others = columns_text (fold widened (fold widened no_widths lines) others) lines others
 
--- the table of a namespace, with its number
-unfoldable pub part_tree : Strokes → MirrorView → List ℕ
-part_tree s m = codes "namespace " ++ (decimal m.space ++ (codes "\n" ++ fitted_text (header ∷ map (cells s) (tree m.rows)) (map (cells s) (strays m.rows))))
+-- the line above the table of a namespace: its number, and its name
+abbrev pub heading : ℕ → List ℕ → List ℕ
+heading space name = codes "namespace " ++ (decimal space ++ (terminal_text (name_words name) ++ codes "\n"))
+
+-- the table of a namespace
+unfoldable pub part_tree : Strokes → List SpaceName → MirrorView → List ℕ
+part_tree s names m = heading m.space (name_in names m.space) ++ fitted_text (header ∷ map (cells s) (tree m.rows)) (map (cells s) (strays m.rows))
 
 -- tables, each but the first behind an empty line
-abbrev pub apart : Strokes → List MirrorView → List ℕ
-apart s parts = flat_map (λ m. 10 ∷ part_tree s m) parts
+abbrev pub apart : Strokes → List SpaceName → List MirrorView → List ℕ
+apart s names parts = flat_map (λ m. 10 ∷ part_tree s names m) parts
 
-abbrev pub trees_text : Strokes → List MirrorView → List ℕ
-trees_text s [] = []
-trees_text s (m ∷ later) = part_tree s m ++ apart s later
+abbrev pub trees_text : Strokes → List SpaceName → List MirrorView → List ℕ
+trees_text s names [] = []
+trees_text s names (m ∷ later) = part_tree s names m ++ apart s names later

@@ -16,6 +16,7 @@ use Rattle.mt_events.specs.Mirrors.{MirrorView}
 use Rattle.mt_events.specs.Posts.{PostView, ended}
 use Rattle.mt_terminal.specs.Terminal.{terminal_text}
 use Rattle.mt_render.specs.Propagation.{propagation}
+use Rattle.mt_render.specs.Named.{name_words}
 use Rattle.mt_render.specs.declared.field.Field.{Field}
 use Rattle.mt_render.specs.declared.field.Field.TheVariants.{Point, Parent, Root, ReadOnly, Nosuid, Nodev, Noexec, Nosymfollow, Nodiratime, AccessTimes, Propagation}
 
@@ -79,18 +80,17 @@ abbrev pub listed : Row → Row → List Field → List ℕ
 listed r s [] = codes "as before"
 listed r s (f ∷ fs) = change_words r s f ++ further_words r s fs
 
+-- the fields in which two rows differ
+unfoldable pub fields_changed : Row → Row → List Field
+fields_changed r s = filter (field_differs r s) fields
+
 -- what of the second row is not as in the first
 unfoldable pub changes_text : Row → Row → List ℕ
-changes_text r s = listed r s (filter (field_differs r s) fields)
+changes_text r s = listed r s (fields_changed r s)
 
 -- a mount and its mount point
 abbrev pub mount_words : Row → List ℕ
 mount_words r = decimal r.id ++ codes " " ++ path_text r.point
-
--- the name of a namespace, if it has one
-abbrev pub name_words : List ℕ → List ℕ
-name_words [] = []
-name_words (b ∷ bs) = codes " (" ++ escaped (b ∷ bs) ++ codes ")"
 
 abbrev pub space_words : List ℕ → ℕ → List ℕ
 space_words name n = codes " in namespace " ++ decimal n ++ name_words name

@@ -1,27 +1,10 @@
 //! Names of mounts and lines of edges in a graph.
 ghost use Rattle.std.specs.Prelude.{◌≡◌, ◌++◌, OnOk};
-ghost use Rattle.mt_render.specs.Edges.{colour, name, arrow};
+ghost use Rattle.mt_render.specs.Edges.{name, arrow};
 
 use mt_info::print::push_number;
 use mt_mounts::mount::{MountId, SpaceId};
-use mt_peers::state::GroupId;
 use std::alloc::AllocError;
-
-/// The colour of a peer group.
-pub(crate) fn colour(group: GroupId) -> &'static [u8]
-    ensures { result.now ≡ colour group }
-{
-    match group % 8 {
-        0 => b"red3",
-        1 => b"blue3",
-        2 => b"green4",
-        3 => b"darkorange2",
-        4 => b"purple3",
-        5 => b"turquoise4",
-        6 => b"deeppink2",
-        _ => b"goldenrod3",
-    }
-}
 
 /// Appends the name of a mount.
 pub(crate) fn push_name(text: &mut Vec<u8>, space: SpaceId, id: MountId) -> Result<(), AllocError>

@@ -8,9 +8,9 @@ ghost use Rattle.mt_skel.specs.Keyed.{rises};
 ghost use Rattle.mt_info.specs.Table.{row_id};
 ghost use Rattle.mt_info.specs.SameRow.{atime_eq, attrs_eq, bool_eq};
 ghost use Rattle.mt_render.specs.Members.{number_data, with_mount};
-ghost use Rattle.mt_render.specs.Events.{with_name, event_line, left_members, left_event, new_event, stands_as_before, change_event, changed_members, changed_event, row_event, post_events};
+ghost use Rattle.mt_render.specs.Events.{event_line, left_members, left_event, new_event, stands_as_before, change_event, changed_members, changed_event, row_event, post_events};
 
-use crate::members::{Members, put_number, put_row, put_text};
+use crate::members::{Members, put_name, put_number, put_row, put_text};
 use crate::objects::{flat_node, push_value};
 use mt_events::mirror::Mirror;
 use mt_events::post::Post;
@@ -19,16 +19,6 @@ use mt_info::table::find_row;
 use mt_mounts::mount::{Atime, Attrs, MountId, SpaceId};
 use serde_json::{Map, Value, put};
 use std::alloc::{AllocError, Global};
-
-/// Puts in the name of a namespace, but for one that is empty.
-fn put_name(members: &mut Members, alloc: Global, name: &[u8]) -> Result<(), AllocError>
-    ensures { OnOk result (members_view members.new.entries ≡ with_name name.now (members_view members.old.entries)) }
-{
-    match name {
-        [] => Ok(()),
-        [_, ..] => put_text(members, alloc, "name", name),
-    }
-}
 
 /// Appends the line of what happened to a mount in a namespace, behind the members of the mount.
 fn push_event(

@@ -1,7 +1,7 @@
 //! What of a mount is not as it was, in words.
 ghost use Rattle.std.specs.Prelude.{◌≡◌, ◌++◌, cond, OnOk, IfOk};
 ghost use Rattle.std.specs.List.{filter};
-ghost use Rattle.mt_render.specs.Wording.{propagation_differs, field_differs, atime_word, field_name, field_words, change_words, further_words, listed, changes_text};
+ghost use Rattle.mt_render.specs.Wording.{propagation_differs, field_differs, fields_changed, atime_word, field_name, field_words, change_words, further_words, listed, changes_text};
 
 use crate::propagation::push_propagation;
 use mt_info::print::{push_number, push_path};
@@ -11,7 +11,7 @@ use std::alloc::{AllocError, Global};
 
 /// A field of a row of which it is told that it is not as it was.
 #[derive(Clone, Copy, PartialEq, Eq, Debug)]
-pub(crate) enum Field {
+pub enum Field {
     /// The mount point.
     Point,
     /// The parent.
@@ -98,6 +98,15 @@ fn changed_fields(
     Ok(changed)
 }
 
+/// The fields in which two rows differ, in the order in which they are told. Fails for want of memory alone.
+#[tactic(auto, unfolding(crate::specs::Wording::fields_changed))]
+pub fn fields_changed(alloc: Global, before: &Row, after: &Row) -> Result<Vec<Field>, AllocError>
+    ensures { IfOk result (λ changed. changed.items ≡ fields_changed before.now after.now) }
+{
+    let changed = changed_fields(alloc, &FIELDS, before, after)?;
+    Ok(changed)
+}
+
 /// The name of a kind of access times.
 fn atime_word(atime: Atime) -> &'static [u8]
     ensures { result.now ≡ atime_word atime }
@@ -110,7 +119,7 @@ fn atime_word(atime: Atime) -> &'static [u8]
 }
 
 /// What stands in front of what a field says, where that does not tell which field it is.
-fn field_name(field: Field) -> &'static [u8]
+pub fn field_name(field: Field) -> &'static [u8]
     ensures { result.now ≡ field_name field }
 {
     match field {
@@ -135,8 +144,8 @@ fn either(holds: bool, word: &'static [u8], opposite: &'static [u8]) -> &'static
     if holds { word } else { opposite }
 }
 
-/// Appends what a field of a row says.
-fn push_field(text: &mut Vec<u8>, row: &Row, field: Field) -> Result<(), AllocError>
+/// Appends what a field of a row says. Fails for want of memory alone.
+pub fn push_field(text: &mut Vec<u8>, row: &Row, field: Field) -> Result<(), AllocError>
     ensures { OnOk result (text.new.items ≡ text.old.items ++ field_words row.now field) }
 {
     let attrs = row.attrs;
@@ -214,7 +223,7 @@ fn push_fields(
 pub(crate) fn push_changes(text: &mut Vec<u8>, before: &Row, after: &Row) -> Result<(), AllocError>
     ensures { OnOk result (text.new.items ≡ text.old.items ++ changes_text before.now after.now) }
 {
-    let changed = changed_fields(*text.allocator(), &FIELDS, before, after)?;
+    let changed = fields_changed(*text.allocator(), before, after)?;
     push_fields(text, before, after, &changed)?;
     Ok(())
 }

@@ -3,7 +3,7 @@ ghost use Rattle.std.specs.Prelude.{◌≡◌, ℕ, ◌++◌, map, reverse, leng
 ghost use Rattle.std.specs.HashSet.{contains};
 ghost use Rattle.mt_skel.specs.Keyed.{rises};
 ghost use Rattle.mt_info.specs.Table.{row_id};
-ghost use Rattle.mt_render.specs.Forest.{is_top, tree, strays};
+ghost use Rattle.mt_render.specs.Forest.{without_lines, is_top, drawn_from, tree, strays};
 ghost use Rattle.mt_render.specs.Steps.{step_of, top_step, steps_at, next_steps, steps_from, has_step};
 
 use crate::children::Children;
@@ -129,6 +129,19 @@ fn push_grown<'a>(
     Ok(())
 }
 
+/// A row and all below it.
+pub(crate) fn grown<'a>(
+    alloc: Global,
+    children: &Children<'a>,
+    top: &'a Row,
+) -> Result<Vec<Step<'a>>, AllocError>
+    ensures { IfOk result (λ drawn. drawn.items ≡ map step_of (drawn_from children.now (length children.now) (without_lines top.now))) }
+{
+    let mut drawn = Vec::new(alloc);
+    push_grown(&mut drawn, alloc, children, top)?;
+    Ok(drawn)
+}
+
 /// The rows of all trees: each top row, by rising ID, and all below it.
 pub(crate) fn tree<'a>(alloc: Global, children: &Children<'a>) -> Result<Vec<Step<'a>>, AllocError>
     ensures { IfOk result (λ drawn. drawn.items ≡ map step_of (tree children.now)) }
@@ -144,7 +157,7 @@ pub(crate) fn tree<'a>(alloc: Global, children: &Children<'a>) -> Result<Vec<Ste
 }
 
 /// The mounts that have a row among these.
-fn drawn_ids(alloc: Global, drawn: &[Step<'_>]) -> Result<HashSet<MountId>, AllocError>
+pub(crate) fn drawn_ids(alloc: Global, drawn: &[Step<'_>]) -> Result<HashSet<MountId>, AllocError>
     ensures { IfOk result (λ ids. (i : ℕ) → contains nat_eq ids i ≡ has_step drawn.now i) }
 {
     let mut ids = HashSet::new(alloc);

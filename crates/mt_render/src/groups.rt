@@ -1,13 +1,14 @@
 //! The edges of peer groups in a graph: rings of members, and arrows to slaves.
 ghost use Rattle.std.specs.Prelude.{◌≡◌, ◌+◌, ◌≤◌, [], ◌++◌, drop, length, slice_get, OnOk, IfOk, Some, None, MatchOption};
-ghost use Rattle.std.specs.List.{find, flat_map};
+ghost use Rattle.std.specs.List.{filter, filter_map, find, flat_map};
 ghost use Rattle.std.specs.Option.{option_and_then};
 ghost use Rattle.mt_lists.specs.Numbered.{rows_by};
 ghost use Rattle.mt_render.specs.Placed.{at_places, own_place, own_group};
 ghost use Rattle.mt_render.specs.Groups.{part_nodes, nodes, node_name, is_member, closing, next_in_ring, peer_edge, ring_edge, ring_edges, master_name, slave_edge, group_edges};
 
 use crate::children::lists_for;
-use crate::edges::{colour, push_arrow, push_name};
+use crate::edges::{push_arrow, push_name};
+use crate::palette::Palette;
 use mt_events::mirror::Mirror;
 use mt_info::print::push_number;
 use mt_info::row::Row;
@@ -59,6 +60,20 @@ fn nodes_of(alloc: Global, parts: &[Mirror]) -> Result<Vec<Node<'_>>, AllocError
 }
 
 impl<'a> Node<'a> {
+    /// The peer group of the mount.
+    fn shared(&self) -> Option<GroupId>
+        ensures { result ≡ self.now.row.shared }
+    {
+        self.row.shared
+    }
+
+    /// The peer group from which the mount receives.
+    fn master(&self) -> Option<GroupId>
+        ensures { result ≡ self.now.row.master }
+    {
+        self.row.master
+    }
+
     /// Whether the mount is in a peer group.
     fn is_member(&self, group: GroupId) -> bool
         ensures { result ≡ is_member group self.now }
@@ -80,18 +95,21 @@ impl<'a> Node<'a> {
     fn push_peer(
         &self,
         text: &mut Vec<u8>,
+        palette: &Palette,
         group: GroupId,
         next: &Node<'_>,
     ) -> Result<(), AllocError>
-        ensures { OnOk result (text.new.items ≡ text.old.items ++ peer_edge self.now group next.now) }
+        ensures { OnOk result (text.new.items ≡ text.old.items ++ peer_edge palette.now self.now group next.now) }
     {
+        let mut mark = Vec::new(*text.allocator());
+        palette.push_mark(&mut mark, group)?;
         self.push_name(text)?;
         push_arrow(
             text,
             next.space,
             next.row.id,
             b"dir=none, constraint=false, style=bold",
-            colour(group),
+            &mark,
         )
     }
 }
@@ -105,6 +123,30 @@ fn enter_groups(members: &mut Lists, nodes: &[Node<'_>])
     'nodes: for (at, node) in nodes.iter().enumerate() {
         members.enter(at as u64, node.row.shared);
     }
+}
+
+/// Appends the groups of which mounts are members.
+fn push_shared(groups: &mut Vec<GroupId>, nodes: &[Node<'_>]) -> Result<(), AllocError>
+    ensures { OnOk result (groups.new.items ≡ groups.old.items ++ filter_map (λ n. n.row.shared) nodes.now) }
+{
+    'nodes: for node in nodes {
+        if let Some(group) = node.shared() {
+            groups.push(group)?;
+        }
+    }
+    Ok(())
+}
+
+/// Appends the groups of which mounts are slaves.
+fn push_masters(groups: &mut Vec<GroupId>, nodes: &[Node<'_>]) -> Result<(), AllocError>
+    ensures { OnOk result (groups.new.items ≡ groups.old.items ++ filter_map (λ n. n.row.master) nodes.now) }
+{
+    'nodes: for node in nodes {
+        if let Some(group) = node.master() {
+            groups.push(group)?;
+        }
+    }
+    Ok(())
 }
 
 /// The mounts of a graph, with lists of those that are in the same peer group.
@@ -140,6 +182,23 @@ impl<'a> Nodes<'a> {
         let mut members = lists_for(alloc, nodes.len())?;
         enter_groups(&mut members, &nodes);
         Ok(Nodes { nodes, members })
+    }
+
+    /// The groups of which the mounts are members, and those of which they are slaves.
+    pub(crate) fn groups(&self, alloc: Global) -> Result<Vec<GroupId>, AllocError>
+        ensures { IfOk result (λ groups. groups.items ≡ filter_map (λ n. n.row.shared) self.now ++ filter_map (λ n. n.row.master) self.now) }
+    {
+        let mut groups = Vec::new(alloc);
+        push_shared(&mut groups, &self.nodes)?;
+        push_masters(&mut groups, &self.nodes)?;
+        Ok(groups)
+    }
+
+    /// How many members a group has.
+    pub(crate) fn count(&self, group: GroupId) -> usize
+        ensures { result ≡ length (filter (is_member group) self.now) }
+    {
+        self.members.count(group)
     }
 
     /// The first member of a group.
@@ -184,28 +243,29 @@ impl<'a> Nodes<'a> {
 /// Appends the edge from the mount at this place to the member that follows it in the ring of its group.
 fn push_ring_edge(
     text: &mut Vec<u8>,
+    palette: &Palette,
     nodes: &Nodes<'_>,
     at: usize,
     node: &Node<'_>,
 ) -> Result<(), AllocError>
     requires { slice_get nodes.now at ≡ Some node.now }
-    ensures { OnOk result (text.new.items ≡ text.old.items ++ ring_edge nodes.now (drop (at + 1) nodes.now) node.now) }
+    ensures { OnOk result (text.new.items ≡ text.old.items ++ ring_edge palette.now nodes.now (drop (at + 1) nodes.now) node.now) }
 {
     let Some(group) = node.row.shared else {
         return Ok(());
     };
     match nodes.next_in_ring(at, group) {
-        Some(next) => node.push_peer(text, group, next),
+        Some(next) => node.push_peer(text, palette, group, next),
         None => Ok(()),
     }
 }
 
 /// Appends the rings of all peer groups.
-fn push_rings(text: &mut Vec<u8>, nodes: &Nodes<'_>) -> Result<(), AllocError>
-    ensures { OnOk result (text.new.items ≡ text.old.items ++ ring_edges nodes.now nodes.now) }
+fn push_rings(text: &mut Vec<u8>, palette: &Palette, nodes: &Nodes<'_>) -> Result<(), AllocError>
+    ensures { OnOk result (text.new.items ≡ text.old.items ++ ring_edges palette.now nodes.now nodes.now) }
 {
     'nodes: for (at, node) in nodes.nodes.iter().enumerate() {
-        push_ring_edge(text, nodes, at, node)?;
+        push_ring_edge(text, palette, nodes, at, node)?;
     }
     Ok(())
 }
@@ -224,37 +284,42 @@ fn push_master(text: &mut Vec<u8>, nodes: &Nodes<'_>, group: GroupId) -> Result<
 }
 
 /// Appends the edge to a mount from its master, if it has one.
-fn push_slave_edge(text: &mut Vec<u8>, nodes: &Nodes<'_>, node: &Node<'_>) -> Result<(), AllocError>
-    ensures { OnOk result (text.new.items ≡ text.old.items ++ slave_edge nodes.now node.now) }
+fn push_slave_edge(
+    text: &mut Vec<u8>,
+    palette: &Palette,
+    nodes: &Nodes<'_>,
+    node: &Node<'_>,
+) -> Result<(), AllocError>
+    ensures { OnOk result (text.new.items ≡ text.old.items ++ slave_edge palette.now nodes.now node.now) }
 {
     let Some(group) = node.row.master else {
         return Ok(());
     };
+    let mut mark = Vec::new(*text.allocator());
+    palette.push_mark(&mut mark, group)?;
     push_master(text, nodes, group)?;
-    push_arrow(
-        text,
-        node.space,
-        node.row.id,
-        b"style=dashed",
-        colour(group),
-    )
+    push_arrow(text, node.space, node.row.id, b"style=dashed", &mark)
 }
 
 /// Appends the edges to all slaves.
-fn push_slaves(text: &mut Vec<u8>, nodes: &Nodes<'_>) -> Result<(), AllocError>
-    ensures { OnOk result (text.new.items ≡ text.old.items ++ flat_map (slave_edge nodes.now) nodes.now) }
+fn push_slaves(text: &mut Vec<u8>, palette: &Palette, nodes: &Nodes<'_>) -> Result<(), AllocError>
+    ensures { OnOk result (text.new.items ≡ text.old.items ++ flat_map (slave_edge palette.now nodes.now) nodes.now) }
 {
     'nodes: for node in &nodes.nodes {
-        push_slave_edge(text, nodes, node)?;
+        push_slave_edge(text, palette, nodes, node)?;
     }
     Ok(())
 }
 
 /// Appends the edges of all groups.
-pub(crate) fn push_groups(text: &mut Vec<u8>, nodes: &Nodes<'_>) -> Result<(), AllocError>
-    ensures { OnOk result (text.new.items ≡ text.old.items ++ group_edges nodes.now) }
+pub(crate) fn push_groups(
+    text: &mut Vec<u8>,
+    palette: &Palette,
+    nodes: &Nodes<'_>,
+) -> Result<(), AllocError>
+    ensures { OnOk result (text.new.items ≡ text.old.items ++ group_edges palette.now nodes.now) }
 {
-    push_rings(text, nodes)?;
-    push_slaves(text, nodes)?;
+    push_rings(text, palette, nodes)?;
+    push_slaves(text, palette, nodes)?;
     Ok(())
 }

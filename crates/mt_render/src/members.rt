@@ -2,7 +2,7 @@
 ghost use Rattle.std.specs.Prelude.{◌≡◌, ◌++◌, [], cond, is_some, codes, decimal, OnOk, IfOk};
 ghost use Rattle.serde_json.specs.Data.{put};
 ghost use Rattle.serde_json.specs.View.{members_view};
-ghost use Rattle.mt_render.specs.Members.{text_data, number_data, path_bytes, source_bytes, kinds_text, with_standing, with_shown, with_kinds, with_group, with_groups, with_mount};
+ghost use Rattle.mt_render.specs.Members.{text_data, number_data, path_bytes, source_bytes, kinds_text, with_name, with_standing, with_shown, with_kinds, with_group, with_groups, with_mount};
 
 use mt_info::print::{push_number, push_options};
 use mt_info::row::Row;
@@ -37,6 +37,16 @@ pub(crate) fn put_number(
     ensures { OnOk result (members_view members.new.entries ≡ put key.now (number_data number) (members_view members.old.entries)) }
 {
     put(members, alloc, key, Value::from(number))
+}
+
+/// Puts in the name of a namespace, but for one that is empty.
+pub(crate) fn put_name(members: &mut Members, alloc: Global, name: &[u8]) -> Result<(), AllocError>
+    ensures { OnOk result (members_view members.new.entries ≡ with_name name.now (members_view members.old.entries)) }
+{
+    match name {
+        [] => Ok(()),
+        [_, ..] => put_text(members, alloc, "name", name),
+    }
 }
 
 /// The bytes of a path.

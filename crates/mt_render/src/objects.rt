@@ -9,7 +9,8 @@ ghost use Rattle.mt_render.specs.Objects.{value_line, with_children, node_with, 
 
 use crate::children::Children;
 use crate::forest::{Step, is_top, strays, tree};
-use crate::members::{Members, put_number, put_row, put_text};
+use crate::members::{Members, put_name, put_number, put_row, put_text};
+use crate::named::{SpaceName, name_in};
 use mt_events::mirror::Mirror;
 use mt_info::row::Row;
 use mt_info::table::Table;
@@ -156,32 +157,50 @@ fn flat_nodes(alloc: Global, rows: &[Row]) -> Result<Vec<Value>, AllocError>
 }
 
 /// The members of an object of mounts of a namespace.
-fn listing(alloc: Global, space: SpaceId, values: Vec<Value>) -> Result<Members, AllocError>
-    ensures { IfOk result (λ members. members_view members.entries ≡ listing space (map view values.items)) }
+fn listing(
+    alloc: Global,
+    space: SpaceId,
+    name: &[u8],
+    values: Vec<Value>,
+) -> Result<Members, AllocError>
+    ensures { IfOk result (λ members. members_view members.entries ≡ listing space name.now (map view values.items)) }
 {
     let mut members = Map::new(alloc);
     put_number(&mut members, alloc, "namespace", space)?;
+    put_name(&mut members, alloc, name)?;
     put(&mut members, alloc, "filesystems", Value::from(values))?;
     Ok(members)
 }
 
 /// Appends the line of a namespace, with all its mounts by rising ID.
 #[tactic(auto, unfolding(crate::specs::Objects::flat_line))]
-fn push_flat(text: &mut Vec<u8>, alloc: Global, part: &Mirror) -> Result<(), AllocError>
-    ensures { OnOk result (text.new.items ≡ text.old.items ++ flat_line part.now) }
+fn push_flat(
+    text: &mut Vec<u8>,
+    alloc: Global,
+    names: &[SpaceName<'_>],
+    part: &Mirror,
+) -> Result<(), AllocError>
+    ensures { OnOk result (text.new.items ≡ text.old.items ++ flat_line names.now part.now) }
 {
     let values = flat_nodes(alloc, part.table().rows())?;
-    let value = Value::from(listing(alloc, part.space(), values)?);
+    let space = part.space();
+    let value = Value::from(listing(alloc, space, name_in(names, space), values)?);
     push_value(text, &value)
 }
 
 /// Appends the line of a namespace, with each of its mounts within its parent.
 #[tactic(auto, unfolding(crate::specs::Objects::nested_line))]
-fn push_nested(text: &mut Vec<u8>, alloc: Global, part: &Mirror) -> Result<(), AllocError>
-    ensures { OnOk result (text.new.items ≡ text.old.items ++ nested_line part.now) }
+fn push_nested(
+    text: &mut Vec<u8>,
+    alloc: Global,
+    names: &[SpaceName<'_>],
+    part: &Mirror,
+) -> Result<(), AllocError>
+    ensures { OnOk result (text.new.items ≡ text.old.items ++ nested_line names.now part.now) }
 {
     let values = tree_nodes(part.table())?;
-    let value = Value::from(listing(alloc, part.space(), values)?);
+    let space = part.space();
+    let value = Value::from(listing(alloc, space, name_in(names, space), values)?);
     push_value(text, &value)
 }
 
@@ -189,12 +208,13 @@ fn push_nested(text: &mut Vec<u8>, alloc: Global, part: &Mirror) -> Result<(), A
 pub(crate) fn push_flat_lines(
     text: &mut Vec<u8>,
     alloc: Global,
+    names: &[SpaceName<'_>],
     parts: &[Mirror],
 ) -> Result<(), AllocError>
-    ensures { OnOk result (text.new.items ≡ text.old.items ++ flat_map flat_line parts.now) }
+    ensures { OnOk result (text.new.items ≡ text.old.items ++ flat_map (flat_line names.now) parts.now) }
 {
     'parts: for part in parts {
-        push_flat(text, alloc, part)?;
+        push_flat(text, alloc, names, part)?;
     }
     Ok(())
 }
@@ -203,12 +223,13 @@ pub(crate) fn push_flat_lines(
 pub(crate) fn push_nested_lines(
     text: &mut Vec<u8>,
     alloc: Global,
+    names: &[SpaceName<'_>],
     parts: &[Mirror],
 ) -> Result<(), AllocError>
-    ensures { OnOk result (text.new.items ≡ text.old.items ++ flat_map nested_line parts.now) }
+    ensures { OnOk result (text.new.items ≡ text.old.items ++ flat_map (nested_line names.now) parts.now) }
 {
     'parts: for part in parts {
-        push_nested(text, alloc, part)?;
+        push_nested(text, alloc, names, part)?;
     }
     Ok(())
 }
@@ -226,7 +247,7 @@ pub fn place_line(
 {
     let mut values = Vec::new(alloc);
     push(&mut values, flat_node(alloc, row)?)?;
-    let mut members = listing(alloc, space, values)?;
+    let mut members = listing(alloc, space, &[], values)?;
     put_text(&mut members, alloc, "directory", directory)?;
     value_line(alloc, &Value::from(members))
 }

@@ -3,7 +3,7 @@ ghost use Rattle.std.specs.Prelude.{◌≡◌, [], ◌++◌, map, OnOk, IfOk};
 ghost use Rattle.mt_skel.specs.Escapes.{escaped};
 ghost use Rattle.mt_info.specs.RowLine.{path_text};
 ghost use Rattle.mt_terminal.specs.Terminal.{terminal_text};
-ghost use Rattle.mt_render.specs.Trees.{lead, shown_root, cells, header, strays_text, fitted_text, part_tree, apart, trees_text};
+ghost use Rattle.mt_render.specs.Trees.{lead, shown_root, cells, header, heading, strays_text, fitted_text, part_tree, apart, trees_text};
 ghost use Rattle.mt_render.specs.Steps.{led, unrolled};
 ghost use Rattle.mt_render.specs.Leads.{IsBarred, HasGoneOn};
 
@@ -11,10 +11,12 @@ use crate::children::Children;
 use crate::columns::{Cell, Cells, Widths, push_lines};
 use crate::forest::{Step, strays, tree};
 use crate::leads::{Path, Strokes};
+use crate::named::{SpaceName, name_in, push_shown_name};
 use crate::propagation::push_propagation;
 use mt_events::mirror::Mirror;
 use mt_info::print::{push_label, push_number, push_options, push_path};
 use mt_info::row::Row;
+use mt_mounts::mount::SpaceId;
 use mt_terminal::terminal::terminal_text;
 use std::alloc::{AllocError, Global};
 
@@ -150,15 +152,27 @@ fn push_columns(text: &mut Vec<u8>, lines: &[Cells], others: &[Cells]) -> Result
     Ok(())
 }
 
-/// Appends the number of a namespace and its table as a tree.
+/// Appends the line above the table of a namespace.
+fn push_heading(text: &mut Vec<u8>, space: SpaceId, name: &[u8]) -> Result<(), AllocError>
+    ensures { OnOk result (text.new.items ≡ text.old.items ++ heading space name.now) }
+{
+    text.extend_from_slice(b"namespace ")?;
+    push_number(text, space)?;
+    push_shown_name(text, name)?;
+    text.extend_from_slice(b"\n")?;
+    Ok(())
+}
+
+/// Appends the table of a namespace as a tree, behind its number and its name.
 #[tactic(auto, unfolding(crate::specs::Trees::part_tree))]
 fn push_part(
     text: &mut Vec<u8>,
     alloc: Global,
     strokes: Strokes,
+    names: &[SpaceName<'_>],
     part: &Mirror,
 ) -> Result<(), AllocError>
-    ensures { OnOk result (text.new.items ≡ text.old.items ++ part_tree strokes part.now) }
+    ensures { OnOk result (text.new.items ≡ text.old.items ++ part_tree strokes names.now part.now) }
 {
     let children = Children::of(part.table())?;
     let drawn = tree(alloc, &children)?;
@@ -168,9 +182,8 @@ fn push_part(
     push_cells(&mut lines, alloc, strokes, &drawn)?;
     let mut others = Vec::new(alloc);
     push_cells(&mut others, alloc, strokes, &strays)?;
-    text.extend_from_slice(b"namespace ")?;
-    push_number(text, part.space())?;
-    text.extend_from_slice(b"\n")?;
+    let space = part.space();
+    push_heading(text, space, name_in(names, space))?;
     push_columns(text, &lines, &others)?;
     Ok(())
 }
@@ -180,13 +193,14 @@ fn push_apart(
     text: &mut Vec<u8>,
     alloc: Global,
     strokes: Strokes,
+    names: &[SpaceName<'_>],
     parts: &[Mirror],
 ) -> Result<(), AllocError>
-    ensures { OnOk result (text.new.items ≡ text.old.items ++ apart strokes parts.now) }
+    ensures { OnOk result (text.new.items ≡ text.old.items ++ apart strokes names.now parts.now) }
 {
     'parts: for part in parts {
         text.extend_from_slice(b"\n")?;
-        push_part(text, alloc, strokes, part)?;
+        push_part(text, alloc, strokes, names, part)?;
     }
     Ok(())
 }
@@ -196,14 +210,15 @@ pub(crate) fn push_trees(
     text: &mut Vec<u8>,
     alloc: Global,
     strokes: Strokes,
+    names: &[SpaceName<'_>],
     parts: &[Mirror],
 ) -> Result<(), AllocError>
-    ensures { OnOk result (text.new.items ≡ text.old.items ++ trees_text strokes parts.now) }
+    ensures { OnOk result (text.new.items ≡ text.old.items ++ trees_text strokes names.now parts.now) }
 {
     let [part, later @ ..] = parts else {
         return Ok(());
     };
-    push_part(text, alloc, strokes, part)?;
-    push_apart(text, alloc, strokes, later)?;
+    push_part(text, alloc, strokes, names, part)?;
+    push_apart(text, alloc, strokes, names, later)?;
     Ok(())
 }

@@ -3,9 +3,10 @@ ghost use Rattle.std.specs.Prelude.{◌≡◌, ◌++◌, OnOk, IsTrue};
 ghost use Rattle.std.specs.List.{flat_map};
 ghost use Rattle.mt_skel.specs.Keyed.{rises};
 ghost use Rattle.mt_info.specs.Table.{row_id};
-ghost use Rattle.mt_render.specs.Wording.{mount_words, name_words, space_words, left_words, shown_line, left_text, kind_words, new_text, standing, changed_text, row_text, named_text};
+ghost use Rattle.mt_render.specs.Wording.{mount_words, space_words, left_words, shown_line, left_text, kind_words, new_text, standing, changed_text, row_text, named_text};
 
 use crate::field::push_changes;
+use crate::named::push_name_words;
 use crate::propagation::push_propagation;
 use mt_events::mirror::Mirror;
 use mt_events::post::Post;
@@ -13,7 +14,6 @@ use mt_info::print::{push_label, push_number, push_options, push_path};
 use mt_info::row::Row;
 use mt_info::table::find_row;
 use mt_mounts::mount::{MountId, SpaceId};
-use mt_skel::escape::push_escaped;
 use mt_terminal::terminal::terminal_text;
 use std::alloc::AllocError;
 
@@ -90,27 +90,13 @@ fn push_mount(text: &mut Vec<u8>, row: &Row) -> Result<(), AllocError>
     Ok(())
 }
 
-/// Appends the name of a namespace in parentheses, but for one that is empty.
-fn push_name(text: &mut Vec<u8>, name: &[u8]) -> Result<(), AllocError>
-    ensures { OnOk result (text.new.items ≡ text.old.items ++ name_words name.now) }
-{
-    match name {
-        [] => Ok(()),
-        [_, ..] => {
-            text.extend_from_slice(b" (")?;
-            push_escaped(text, name)?;
-            text.extend_from_slice(b")")
-        }
-    }
-}
-
 /// Appends in which namespace a mount is.
 fn push_space(text: &mut Vec<u8>, space: Named<'_>) -> Result<(), AllocError>
     ensures { OnOk result (text.new.items ≡ text.old.items ++ space_words space.entry.name.now space.entry.number) }
 {
     text.extend_from_slice(b" in namespace ")?;
     push_number(text, space.number)?;
-    push_name(text, space.name)?;
+    push_name_words(text, space.name)?;
     Ok(())
 }
 
@@ -125,8 +111,8 @@ fn push_left_mount(text: &mut Vec<u8>, rows: &[Row], id: MountId) -> Result<(), 
     }
 }
 
-/// Appends a line as a terminal is given it.
-fn push_shown(text: &mut Vec<u8>, line: &[u8]) -> Result<(), AllocError>
+/// Appends a line as a terminal is given it. Fails for want of memory alone.
+pub fn push_shown(text: &mut Vec<u8>, line: &[u8]) -> Result<(), AllocError>
     ensures { OnOk result (text.new.items ≡ text.old.items ++ shown_line line.now) }
 {
     text.extend_from_slice(&terminal_text(*text.allocator(), line)?)?;
@@ -178,8 +164,8 @@ fn push_new_line(text: &mut Vec<u8>, space: Named<'_>, row: &Row) -> Result<(), 
     push_shown(text, &line)
 }
 
-/// Appends the mount point of a mount that stands where it stood.
-fn push_standing(text: &mut Vec<u8>, before: &Row, after: &Row) -> Result<(), AllocError>
+/// Appends the mount point of a mount that stands where it stood. Fails for want of memory alone.
+pub fn push_standing(text: &mut Vec<u8>, before: &Row, after: &Row) -> Result<(), AllocError>
     ensures { OnOk result (text.new.items ≡ text.old.items ++ standing before.now after.now) }
 {
     if before.point.is_same(&after.point) {

@@ -45,7 +45,7 @@ returns g c =
     record {
       told = λ is.
           let told = rw same at (c.tell_answered.ensures.told is) in
-          record { found = c.in-Some.mirrors.items; opened = known_lines c.watch.new.lines; answered = told.0; between = told.1; watched = found; answer = told.2; changes = told.3 };
+          record { found = c.in-Some.mirrors.items; made = c.tell_answered.new.mirrors.items; opened = known_lines c.watch.new.lines; answered = told.0; between = told.1; watched = found; answer = told.2; changes = told.3 };
       refused = λ is. inr (c.in-Some.mirrors.items, known_lines c.watch.new.lines, found, rw same at (c.tell_answered.ensures.refused is));
       broken = IfErr-weaker c.tell_answered.result _ _ (λ f q. inr (c.in-Some.mirrors.items, known_lines c.watch.new.lines, found, q)) (rw same at c.tell_answered.ensures.broken);
       sent = λ is. let all = out_both sent (c.tell_answered.ensures.sent is) in all.went;

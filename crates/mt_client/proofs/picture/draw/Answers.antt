@@ -27,7 +27,7 @@ pub returns-clause-drawn : goal.returns-clause-drawn
 returns-clause-drawn g c is =
     let found = MatchOption-at_some {o = c.in_ok-parts.field-0} _ _ c.in-Some.parts (search rules) c.in_ok-parts.ensures.found in
     let same = MatchOption-at_some {o = c.in_ok-parts.field-0} _ _ c.in-Some.parts (search rules) c.in_ok-parts.ensures.unprinted in
-    (c.in-Some.parts.items, watched_whole c.args.scope c.in-Some.parts.items _ _ found, subst (λ ps. Appends (g.O.Output.contents c.args.out.now) (g.O.Output.contents c.print_drawing.new.out) (drawing_text c.args.drawing ps)) c.as_slice.ensures.value (rw same at c.in_ok-print_drawing.ensures.out.went))
+    (c.in-Some.parts.items, watched_whole c.args.scope c.in-Some.parts.items _ _ found, subst (λ ps. Appends (g.O.Output.contents c.args.out.now) (g.O.Output.contents c.print_drawing.new.out) (drawing_text c.args.drawing c.args.names.now ps)) c.as_slice.ensures.value (rw same at c.in_ok-print_drawing.ensures.out.went))
 
 pub returns-in_default-clause-asked : goal.returns-in_default-clause-asked
 returns-in_default-clause-asked g c = let a = c.watch.ensures.refused (search rules) in either (λ o. o.went) (λ b. b) a.gone

@@ -3,7 +3,7 @@ use Rattle.serde_json.specs.Data.{Members, object, put}
 use Rattle.serde_json.specs.View.{members_view}
 use Rattle.serde_json.specs.Written.{has_float}
 use Rattle.mt_render.specs.Members.{text_data, number_data}
-use Rattle.mt_render.specs.Events.{with_name}
+use Rattle.mt_render.specs.Members.{with_name}
 use Rattle.mt_render.proofs.EventLaws.{event_free}
 use Rattle.mt_render.proofs.events.push_event.Goals as goal
 

@@ -5,4 +5,4 @@ use Rattle.mt_render.proofs.graph.push_clusters.Given as goal
 
 -- what was appended, and what is to come
 abbrev pub invariant-parts : goal.invariant-parts
-invariant-parts l = l.text.items ++ flat_map (cluster) (drop l.part-index l.parts) ≡ l.initial.text.items ++ flat_map (cluster) l.parts
+invariant-parts l = l.text.items ++ flat_map (cluster l.palette l.names) (drop l.part-index l.parts) ≡ l.initial.text.items ++ flat_map (cluster l.palette l.names) l.parts

@@ -13,6 +13,6 @@ push_ring_edge-requires c =
 pub nodes-preserved : goal.nodes-preserved
 nodes-preserved c =
     let same = c.deref-node-items.ensures.value ∙ c.nodes-2.view_is in
-    one_ring c.args.nodes.now c.nodes.at c.node-item.result c.nodes.text.items c.push_ring_edge.new.text.items (subst (λ (ns : List NodeView). c.nodes.at < length ns) same c.nodes-test.true)
+    one_ring c.args.palette.now c.args.nodes.now c.nodes.at c.node-item.result c.nodes.text.items c.push_ring_edge.new.text.items (subst (λ (ns : List NodeView). c.nodes.at < length ns) same c.nodes-test.true)
     (subst (λ (ns : List NodeView). c.node-item.result ≡ get_or ns c.nodes.at c.node-item.result) same c.node-item.is) c.in_ok-push_ring_edge.ensures
     ∙ c.nodes.invariant

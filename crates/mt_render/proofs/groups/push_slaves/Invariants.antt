@@ -5,4 +5,4 @@ use Rattle.mt_render.proofs.groups.push_slaves.Given as goal
 
 -- what was appended, and what is to come
 abbrev pub invariant-nodes : goal.invariant-nodes
-invariant-nodes l = l.text.items ++ flat_map (slave_edge l.nodes) (drop l.node-index l.nodes) ≡ l.initial.text.items ++ flat_map (slave_edge l.nodes) l.nodes
+invariant-nodes l = l.text.items ++ flat_map (slave_edge l.palette l.nodes) (drop l.node-index l.nodes) ≡ l.initial.text.items ++ flat_map (slave_edge l.palette l.nodes) l.nodes

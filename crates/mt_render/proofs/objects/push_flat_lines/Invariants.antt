@@ -5,4 +5,4 @@ use Rattle.mt_render.proofs.objects.push_flat_lines.Given as goal
 
 -- the lines that were appended, and those to come
 abbrev pub invariant-parts : goal.invariant-parts
-invariant-parts l = l.text.items ++ flat_map flat_line (drop l.part-index l.parts) ≡ l.initial.text.items ++ flat_map flat_line l.parts
+invariant-parts l = l.text.items ++ flat_map (flat_line l.names) (drop l.part-index l.parts) ≡ l.initial.text.items ++ flat_map (flat_line l.names) l.parts

@@ -1,0 +1,1 @@
+"""The page in a browser. Called by checks/browser.py."""

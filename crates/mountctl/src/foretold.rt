@@ -1,0 +1,337 @@
+//! `what-if` without a server: what lines would change in the namespaces of tables.
+
+use crate::PROGRAM;
+use crate::fault::Fault;
+use crate::messages::{NAME, tell_reason, tell_refused};
+use crate::missed::tell_missed;
+use crate::namespaces::{Namespaces, named_tables};
+use crate::screen::standard_output;
+use crate::script::{SCRIPT_LIMIT, is_comment};
+use crate::task::{WordFault, parted};
+use mt_forms::nearest::meant_by;
+use mt_forms::slip::Slip;
+use mt_forms::split::{joined_words, split_line};
+use mt_lines::line::{Line, LineReader};
+use mt_lines::stream::{Reading, send};
+use mt_lines::words::Pieces;
+use mt_reasons::line::reason_of;
+use mt_render::telling::Telling;
+use mt_terminal::message::Shown;
+use mt_what_if::asked::{AskedLine, SpaceWord, WrongLine, read_asked};
+use mt_what_if::foretelling::{Foretold, Manner, Question, foretell};
+use mt_what_if::scene::{Scene, begin};
+use mt_what_if::trying::Outcome;
+use std::alloc::{AllocError, AllocFailed, Global};
+use std::process::ExitCode;
+
+/// The status where something changes in a namespace that no line names.
+const LEAKS: u8 = 4;
+
+/// The most lines of standard input.
+const MOST_LINES: u64 = u64::MAX;
+
+/// How a question is asked.
+#[derive(Clone, Copy)]
+struct Options {
+    /// Whether it is told what each line changes.
+    each: bool,
+    /// Whether the answer is JSON.
+    json: bool,
+    /// Whether a change in a namespace that no line names makes the status 4.
+    fails: bool,
+}
+
+impl Options {
+    /// How so many lines are answered: of one it is always told what it changes.
+    fn manner(self, count: usize) -> Manner {
+        Manner {
+            telling: if self.json {
+                Telling::Json
+            } else {
+                Telling::Words
+            },
+            each: self.each || count == 1,
+        }
+    }
+}
+
+/// The words in front of the lines, without options, and the options.
+fn options_of<'a>(alloc: Global, words: &[&'a str]) -> Result<(Vec<&'a str>, Options), AllocError> {
+    let mut others = Vec::new(alloc);
+    let mut options = Options {
+        each: false,
+        json: false,
+        fails: false,
+    };
+    for word in words {
+        match *word {
+            "--each" => options.each = true,
+            "--json" => options.json = true,
+            "--fail-if-elsewhere" => options.fails = true,
+            other => others.push(other)?,
+        }
+    }
+    Ok((others, options))
+}
+
+/// Why lines are not there.
+#[derive(Clone, Copy)]
+enum Lack {
+    /// A line of standard input has a quote that is not closed.
+    Quote(u64),
+    /// There is none, or one has no words.
+    Words,
+    /// Standard input cannot be read.
+    Run(Fault),
+}
+
+impl From<AllocError> for Lack {
+    fn from(_error: AllocError) -> Lack {
+        Lack::Run(Fault::NoMemory)
+    }
+}
+
+impl<T: Drop> From<AllocFailed<T>> for Lack {
+    fn from(_error: AllocFailed<T>) -> Lack {
+        Lack::Run(Fault::NoMemory)
+    }
+}
+
+/// Adds the words of a line of standard input, if it has any.
+fn push_input_line(
+    alloc: Global,
+    lines: &mut Vec<Vec<u8>>,
+    line: &[u8],
+    number: u64,
+) -> Result<(), Lack> {
+    if is_comment(line) {
+        return Ok(());
+    }
+    match split_line(alloc, line)? {
+        Some(words) => {
+            if !words.is_empty() {
+                lines.push(words)?;
+            }
+            Ok(())
+        }
+        None => Err(Lack::Quote(number)),
+    }
+}
+
+/// Adds the lines of standard input.
+fn push_input(rt: &HostRuntime, lines: &mut Vec<Vec<u8>>) -> Result<(), Lack> {
+    let alloc = rt.alloc();
+    let mut input = LineReader::new(alloc, Reading::new(rt.reader()), SCRIPT_LIMIT)?;
+    'lines: for before in 0..MOST_LINES {
+        match input.next() {
+            Ok(Line::Text) => push_input_line(alloc, lines, input.line(), before + 1)?,
+            Ok(Line::End) => return Ok(()),
+            Ok(Line::TooLong | Line::Unended) => return Err(Lack::Run(Fault::Input)),
+            Err(fault) => return Err(Lack::Run(Fault::of_input(fault))),
+        }
+    }
+    Ok(())
+}
+
+/// Adds a line of these words, or where they are a dash those of standard input.
+fn push_line(rt: &HostRuntime, lines: &mut Vec<Vec<u8>>, words: &[&str]) -> Result<(), Lack> {
+    match words {
+        [] => Err(Lack::Words),
+        ["-"] => push_input(rt, lines),
+        words => {
+            lines.push(joined_words(rt.alloc(), words)?)?;
+            Ok(())
+        }
+    }
+}
+
+/// The lines of words that have `--` between two lines: the words of each, with a zero byte between two.
+fn lines_of(rt: &HostRuntime, words: &[&str]) -> Result<Vec<Vec<u8>>, Lack> {
+    let alloc = rt.alloc();
+    let mut lines = Vec::new(alloc);
+    let mut line = Vec::new(alloc);
+    for word in words {
+        if *word == "--" {
+            push_line(rt, &mut lines, line.as_slice())?;
+            line = Vec::new(alloc);
+        } else {
+            line.push(*word)?;
+        }
+    }
+    push_line(rt, &mut lines, line.as_slice())?;
+    if lines.is_empty() {
+        return Err(Lack::Words);
+    }
+    Ok(lines)
+}
+
+/// Says why lines are not there, and answers the status.
+fn tell_lack(rt: &HostRuntime, lack: Lack) -> ExitCode {
+    match lack {
+        Lack::Words => PROGRAM.refuse(rt, WordFault::Question.message()),
+        Lack::Run(fault) => PROGRAM.fail(rt, fault.message()),
+        Lack::Quote(number) => {
+            let _ = eprintln!(rt; "{NAME}: line {number}: a quote is not closed");
+            ExitCode::from(2)
+        }
+    }
+}
+
+/// The words of a line with spaces between them.
+fn plain_line(alloc: Global, words: &[u8]) -> Result<Vec<u8>, AllocError> {
+    let mut line = Vec::new(alloc);
+    let mut pieces = Pieces::new(0, words);
+    if let Some(first) = pieces.next() {
+        line.extend_from_slice(first)?;
+    }
+    for word in pieces {
+        line.extend_from_slice(b" ")?;
+        line.extend_from_slice(word)?;
+    }
+    Ok(line)
+}
+
+/// Says which slip a line has, and the word that was meant.
+fn tell_slip(
+    rt: &HostRuntime,
+    number: u64,
+    line: &[u8],
+    slip: &Slip<'_>,
+) -> Result<(), AllocError> {
+    let line = Shown(line);
+    match meant_by(rt.alloc(), slip)? {
+        Some(word) => {
+            let word = Shown(word);
+            let _ = eprintln!(rt; "{NAME}: line {number}: {line}: {slip}: is it {word}?");
+        }
+        None => {
+            let _ = eprintln!(rt; "{NAME}: line {number}: {line}: {slip}");
+        }
+    }
+    Ok(())
+}
+
+/// Says what is wrong with a line.
+fn tell_wrong(
+    rt: &HostRuntime,
+    number: u64,
+    words: &[u8],
+    wrong: &WrongLine<'_>,
+) -> Result<(), AllocError> {
+    let line = plain_line(rt.alloc(), words)?;
+    match wrong {
+        WrongLine::Slip(slip) => tell_slip(rt, number, line.as_slice(), slip),
+        WrongLine::NoSpace(word) => {
+            let (line, word) = (Shown(line.as_slice()), Shown(word.bytes()));
+            let _ = eprintln!(rt; "{NAME}: line {number}: {line}: no one table is called {word}");
+            Ok(())
+        }
+        WrongLine::Refused { line: own, fault } => {
+            tell_refused(rt, number, line.as_slice(), fault.name());
+            if let Some(reason) = reason_of(rt.alloc(), own.as_slice())? {
+                tell_reason(rt, Some(number), reason);
+            }
+            Ok(())
+        }
+        WrongLine::NoMemory => Err(AllocError),
+    }
+}
+
+/// Reads all lines, or says what is wrong with the first one that is, and answers the status.
+fn read_all<'a>(
+    rt: &HostRuntime,
+    names: &[SpaceWord],
+    scene: &Scene,
+    lines: &'a [Vec<u8>],
+) -> Result<Vec<AskedLine<'a>>, ExitCode> {
+    let mut asked = Vec::new(rt.alloc());
+    let mut number = 0u64;
+    for line in lines {
+        number = number.saturating_add(1);
+        match read_asked(rt.alloc(), names, scene, line.as_slice()) {
+            Ok(line) => {
+                if asked.push(line).is_err() {
+                    return Err(PROGRAM.fail(rt, Fault::NoMemory.message()));
+                }
+            }
+            Err(wrong) => {
+                return Err(match tell_wrong(rt, number, line.as_slice(), &wrong) {
+                    Ok(()) => ExitCode::from(2),
+                    Err(_) => PROGRAM.fail(rt, Fault::NoMemory.message()),
+                });
+            }
+        }
+    }
+    Ok(asked)
+}
+
+/// The status of an answer.
+fn status_of_answer(answer: &Foretold, options: Options) -> ExitCode {
+    if matches!(answer.outcome, Outcome::Refused(_)) {
+        ExitCode::from(1)
+    } else if answer.leaks && options.fails {
+        ExitCode::from(LEAKS)
+    } else {
+        ExitCode::SUCCESS
+    }
+}
+
+/// Prints an answer.
+fn print_answer(rt: &HostRuntime, answer: &Foretold, options: Options) -> ExitCode {
+    let mut out = standard_output(rt);
+    match send(&mut out, answer.text.as_slice()) {
+        Ok(()) => status_of_answer(answer, options),
+        Err(_) => PROGRAM.fail(rt, Fault::Output.message()),
+    }
+}
+
+/// Asks what lines change in the namespaces of tables.
+fn ask(
+    rt: &HostRuntime,
+    names: &Namespaces,
+    lines: &[Vec<u8>],
+    options: Options,
+) -> Result<ExitCode, ExitCode> {
+    let alloc = rt.alloc();
+    let Ok(mut begun) = begin(alloc, names.tables()) else {
+        return Err(PROGRAM.fail(rt, Fault::NoMemory.message()));
+    };
+    tell_missed(rt, names, begun.missed.as_slice());
+    let Ok(words) = names.space_words(alloc) else {
+        return Err(PROGRAM.fail(rt, Fault::NoMemory.message()));
+    };
+    let asked = read_all(rt, &words, &begun.scene, lines)?;
+    let question = Question {
+        tables: names.tables(),
+        names: &begun.names,
+        lines: &asked,
+        manner: options.manner(asked.len()),
+    };
+    match foretell(alloc, &mut begun.scene, &question) {
+        Ok(answer) => Ok(print_answer(rt, &answer, options)),
+        Err(_) => Err(PROGRAM.fail(rt, Fault::NoMemory.message())),
+    }
+}
+
+/// Answers what lines would change in the namespaces of tables: what the words behind `what-if` ask for.
+fn answer_question(rt: &HostRuntime, words: &[&str]) -> Result<ExitCode, ExitCode> {
+    let Some((front, behind)) = parted(words) else {
+        return Err(PROGRAM.refuse(rt, WordFault::Question.message()));
+    };
+    let Ok((named, options)) = options_of(rt.alloc(), front) else {
+        return Err(PROGRAM.fail(rt, Fault::NoMemory.message()));
+    };
+    let names = named_tables(rt, named.as_slice(), WordFault::Question)?;
+    match lines_of(rt, behind) {
+        Ok(lines) => ask(rt, &names, lines.as_slice(), options),
+        Err(lack) => Err(tell_lack(rt, lack)),
+    }
+}
+
+/// Does what words ask for behind `what-if`, where no socket stands in front of it.
+pub(crate) fn run_foretold(rt: &HostRuntime, words: &[&str]) -> ExitCode {
+    match answer_question(rt, words) {
+        Ok(status) => status,
+        Err(status) => status,
+    }
+}

@@ -1,0 +1,157 @@
+//! `page`, with a server and without one.
+
+use crate::connection::{connected, status_of};
+use crate::fault::Fault;
+use crate::kept::Kept;
+use crate::messages::NAME;
+use crate::page::{PageData, Unplayed, play};
+use crate::played::{Played, PlayedFault, read_played};
+use crate::quiet::Quiet;
+use crate::screen::standard_output;
+use crate::script::SCRIPT_LIMIT;
+use crate::task::WordFault;
+use crate::{LINE_LIMIT, PROGRAM};
+use mt_client::relay::print_text;
+use mt_floor::floor::Floor;
+use mt_lines::line::{LineReader, ReadFault};
+use mt_lines::stream::{Reading, Writing};
+use mt_page::data::Step;
+use mt_page::template::{BEFORE, BEHIND};
+use mt_session::serving::{End, LINE_LIMIT as SESSION_LIMIT, serve_plain};
+use mt_terminal::message::Shown;
+use std::alloc::{AllocError, Global};
+use std::os::unix::net::UnixStream;
+use std::process::ExitCode;
+
+/// How many posts the queue of a watcher holds, the most that one may.
+const QUEUE: usize = 1_024;
+
+/// All that is asked for the page of a session, as lines: its lines are known, and nobody else makes posts.
+fn requests_of(alloc: Global, steps: &[Step]) -> Result<Vec<u8>, AllocError> {
+    let mut requests = Vec::from_slice(alloc, b"watch all\n")?;
+    for step in steps {
+        if step.answer.is_empty() {
+            requests.extend_from_slice(step.line.as_slice())?;
+            requests.extend_from_slice(b"\ntake 1024\n")?;
+        }
+    }
+    requests.extend_from_slice(b"take 1024\n")?;
+    Ok(requests)
+}
+
+/// The answers of a new server to requests: a session of its own, as `mountd -` serves one.
+fn answers_to(alloc: Global, requests: &[u8]) -> Result<Kept, Fault> {
+    let mut input = LineReader::new(alloc, Reading::new(requests), SESSION_LIMIT)?;
+    let mut answers = Kept::new(alloc);
+    let mut floor = Floor::new(alloc, QUEUE);
+    match serve_plain(alloc, &mut input, &mut answers, &mut floor) {
+        End::Cut(_) | End::Read(ReadFault::NoMemory) | End::Memory => Err(Fault::NoMemory),
+        End::Read(_) | End::Quit | End::Stop | End::Input | End::Spent => Ok(answers),
+    }
+}
+
+/// The data of a session's page, which a new server of its own answers.
+fn play_alone(rt: &HostRuntime, session: Played, title: &[u8]) -> Result<PageData, Unplayed> {
+    let alloc = rt.alloc();
+    let requests = requests_of(alloc, session.steps.as_slice())?;
+    let answers = answers_to(alloc, requests.as_slice())?;
+    let mut lines = LineReader::new(alloc, Reading::new(answers.text()), LINE_LIMIT)?;
+    play(alloc, session, title, &mut lines, &mut Quiet)
+}
+
+/// The data of a session's page, which a server answers over a connection.
+fn play_over(
+    rt: &HostRuntime,
+    stream: &UnixStream,
+    session: Played,
+    title: &[u8],
+) -> Result<PageData, Unplayed> {
+    let alloc = rt.alloc();
+    let mut lines = LineReader::new(alloc, Reading::new(stream), LINE_LIMIT)?;
+    let mut writer = Writing::new(stream);
+    play(alloc, session, title, &mut lines, &mut writer)
+}
+
+/// Prints the page of these data.
+fn print_page(rt: &HostRuntime, data: &PageData) -> Result<bool, Fault> {
+    let mut out = standard_output(rt);
+    print_text(&mut out, BEFORE.as_bytes())?;
+    print_text(&mut out, data.opening.as_slice())?;
+    print_text(&mut out, data.steps.as_slice())?;
+    print_text(&mut out, BEHIND.as_bytes())?;
+    Ok(true)
+}
+
+/// Prints a page, or says why there is none, and answers the status. `socket` is that of the server, or the program's name.
+fn end_page(rt: &HostRuntime, socket: &str, played: Result<PageData, Unplayed>) -> ExitCode {
+    match played {
+        Ok(data) => status_of(rt, socket, print_page(rt, &data)),
+        Err(Unplayed::Failed(fault)) => status_of(rt, socket, Err(fault)),
+        Err(Unplayed::Lost) => {
+            let socket = Shown(socket.as_bytes());
+            let _ = eprintln!(rt; "{NAME}: {socket}: changes were lost");
+            ExitCode::from(PROGRAM.failed)
+        }
+        Err(Unplayed::Refused(refusal)) => {
+            let refusal = Shown(refusal.text().trim_ascii_end());
+            let _ = eprintln!(rt; "{NAME}: {refusal}");
+            ExitCode::from(1)
+        }
+    }
+}
+
+/// Reads the session on standard input, or says why not, and answers the status.
+fn read_session(rt: &HostRuntime) -> Result<Played, ExitCode> {
+    let alloc = rt.alloc();
+    let Ok(mut input) = LineReader::new(alloc, Reading::new(rt.reader()), SCRIPT_LIMIT) else {
+        return Err(PROGRAM.fail(rt, Fault::NoMemory.message()));
+    };
+    match read_played(alloc, &mut input) {
+        Ok(played) => Ok(played),
+        Err(PlayedFault::Watcher(number)) => {
+            let _ = eprintln!(rt; "{NAME}: line {number}: a page has a watcher of its own");
+            Err(ExitCode::from(2))
+        }
+        Err(PlayedFault::Failed(fault)) => Err(PROGRAM.fail(rt, fault.message())),
+    }
+}
+
+/// Plays the session on standard input, over a connection to a socket or without one, and prints its page, or says why not.
+fn make_page(
+    rt: &HostRuntime,
+    socket: Option<&str>,
+    title: &str,
+    wait: u64,
+) -> Result<ExitCode, ExitCode> {
+    let session = read_session(rt)?;
+    match socket {
+        Some(socket) => {
+            let stream = connected(rt, socket, wait)?;
+            Ok(end_page(
+                rt,
+                socket,
+                play_over(rt, &stream, session, title.as_bytes()),
+            ))
+        }
+        None => Ok(end_page(rt, NAME, play_alone(rt, session, title.as_bytes()))),
+    }
+}
+
+/// Prints the page of the session on standard input: the lines are sent to the server at a socket, or where none is given to
+/// a new one of their own. The words are the title, or none.
+pub(crate) fn run_page(
+    rt: &HostRuntime,
+    socket: Option<&str>,
+    words: &[&str],
+    wait: u64,
+) -> ExitCode {
+    let title = match words {
+        [] => "",
+        [title] => *title,
+        _ => return PROGRAM.refuse(rt, WordFault::Page.message()),
+    };
+    match make_page(rt, socket, title, wait) {
+        Ok(status) => status,
+        Err(status) => status,
+    }
+}

@@ -1,0 +1,241 @@
+//! Why a command is refused, by the rows that the server tells behind the refusal.
+ghost use Rattle.std.specs.Prelude.{◌≡◌, None, OnOk};
+ghost use Rattle.mt_lines.specs.Reading.{fault_of};
+
+use crate::fault::Fault;
+use crate::found::fault_of_line;
+use crate::kept::{Kept, ask_kept};
+use crate::messages::tell_lines;
+use crate::missing::{Missing, missing_in};
+use mt_book::command::Command;
+use mt_info::print::push_number;
+use mt_info::read::read_row;
+use mt_info::row::Row;
+use mt_lines::line::LineReader;
+use mt_lines::stream::{Input, Output};
+use mt_lines::words::{Pieces, number, words};
+use mt_mounts::mount::SpaceId;
+use mt_protocol::refusal::refusal_named;
+use mt_protocol::verb::Verb;
+use mt_reach::row::SeenRow;
+use mt_reach::rows::SeenRows;
+use mt_refused::asked::asked_space;
+use mt_refused::missing::missing_text;
+use mt_refused::text::refused_text;
+use mt_refused::titles::Titles;
+use mt_requests::request::{Request, read_request};
+use mt_skel::fault::Fault as Refusal;
+use std::alloc::{AllocError, Global};
+use std::io::Eprint;
+
+/// The refusal that an answer is, if it is one.
+pub(crate) fn refusal_in(answer: &[u8]) -> Option<Refusal> {
+    refusal_named(answer.strip_prefix(b"no ")?)
+}
+
+/// Which rows a reason is found by.
+#[derive(Clone, Copy)]
+enum Question {
+    /// None.
+    Nothing,
+    /// Those of the command's namespace.
+    Own,
+    /// Those of all namespaces.
+    All,
+}
+
+/// Which rows the reason of a refusal is found by, if there are any.
+fn question_of(refusal: Refusal) -> Option<Question> {
+    match refusal {
+        Refusal::BadAttr => Some(Question::Nothing),
+        Refusal::SharedParent | Refusal::NoNamespace => Some(Question::All),
+        Refusal::NoEntry
+        | Refusal::NotMountRoot
+        | Refusal::RootPlace
+        | Refusal::Unbindable
+        | Refusal::IntoItself
+        | Refusal::UnbindableInside
+        | Refusal::Busy => Some(Question::Own),
+        _ => None,
+    }
+}
+
+/// The command of a line; of a question for a path the one that is refused as that would be, where nothing is there. None where
+/// the line is neither.
+fn command_of(alloc: Global, line: &[u8], refusal: Refusal) -> Result<Option<Command>, Fault> {
+    match (read_request(alloc, line), refusal) {
+        (Ok(Request::Run(command)), _) => Ok(Some(command)),
+        (Ok(Request::Find { space, path }), Refusal::NoEntry) => {
+            Ok(Some(Command::Unmount { space, path }))
+        }
+        (Err(Refusal::NoMemory), _) => Err(Fault::NoMemory),
+        _ => Ok(None),
+    }
+}
+
+/// The number of a namespace, as the heading of its rows says it. None where a line is no heading.
+fn space_in(line: &[u8]) -> Option<SpaceId> {
+    number(words(line.strip_prefix(b"space ")?).next()?)
+}
+
+/// The row of a line, if it is one.
+fn row_in(alloc: Global, line: &[u8]) -> Result<Option<Row>, Fault> {
+    match read_row(alloc, line) {
+        Ok(row) => Ok(Some(row)),
+        Err(Refusal::NoMemory) => Err(Fault::NoMemory),
+        Err(_) => Ok(None),
+    }
+}
+
+/// The rows among the lines of an answer, by their order there: those of the namespace of this number, up to the first heading.
+fn rows_in(alloc: Global, space: SpaceId, answer: &[u8]) -> Result<Vec<SeenRow>, Fault> {
+    let mut rows = Vec::new(alloc);
+    let mut space = space;
+    for line in Pieces::new(b'\n', answer) {
+        if let Some(next) = space_in(line) {
+            space = next;
+        } else if let Some(row) = row_in(alloc, line)? {
+            match SeenRow::of(space, &row, alloc) {
+                Ok(row) => rows.push(row)?,
+                Err(fault) => return Err(fault_of_line(fault)),
+            }
+        }
+    }
+    Ok(rows)
+}
+
+/// The rows of all namespaces, or none where the server tells them not, as where the session has a watcher already.
+fn all_rows<R: Input + Drop, W: Output>(
+    alloc: Global,
+    lines: &mut LineReader<R>,
+    writer: &mut W,
+) -> Result<Option<Vec<SeenRow>>, Fault>
+    requires fresh { fault_of lines.old ≡ None }
+    ensures fresh { OnOk result (fault_of lines.new ≡ None) }
+{
+    let mut opening = Kept::new(alloc);
+    if !ask_kept(alloc, lines, writer, b"watch all", &mut opening)? {
+        return Ok(None);
+    }
+    let mut closed = Kept::new(alloc);
+    let _closed = ask_kept(alloc, lines, writer, b"close", &mut closed)?;
+    let rows = rows_in(alloc, 0, opening.text())?;
+    Ok(Some(rows))
+}
+
+/// The rows of one namespace, or none where it is gone.
+fn own_rows<R: Input + Drop, W: Output>(
+    alloc: Global,
+    space: SpaceId,
+    lines: &mut LineReader<R>,
+    writer: &mut W,
+) -> Result<Vec<SeenRow>, Fault>
+    requires fresh { fault_of lines.old ≡ None }
+    ensures fresh { OnOk result (fault_of lines.new ≡ None) }
+{
+    let mut table = Kept::new(alloc);
+    let show = show_line(alloc, space)?;
+    let _shown = ask_kept(alloc, lines, writer, show.as_slice(), &mut table)?;
+    rows_in(alloc, space, table.text())
+}
+
+/// The line that asks for the table of a namespace. Fails for want of memory alone.
+fn show_line(alloc: Global, space: SpaceId) -> Result<Vec<u8>, AllocError> {
+    let mut line = Vec::new(alloc);
+    line.extend_from_slice(Verb::Show.word())?;
+    line.extend_from_slice(b" ")?;
+    push_number(&mut line, space)?;
+    Ok(line)
+}
+
+/// The rows that a question asks for; those of the command's own namespace where all are not to be had.
+fn asked_rows<R: Input + Drop, W: Output>(
+    alloc: Global,
+    question: Question,
+    space: Option<SpaceId>,
+    lines: &mut LineReader<R>,
+    writer: &mut W,
+) -> Result<Vec<SeenRow>, Fault>
+    requires fresh { fault_of lines.old ≡ None }
+    ensures fresh { OnOk result (fault_of lines.new ≡ None) }
+{
+    if matches!(question, Question::All) {
+        if let Some(rows) = all_rows(alloc, lines, writer)? {
+            return Ok(rows);
+        }
+    }
+    match (question, space) {
+        (Question::Nothing, _) | (_, None) => Ok(Vec::new(alloc)),
+        (_, Some(space)) => own_rows(alloc, space, lines, writer),
+    }
+}
+
+/// What is told of a command that is refused, by these rows and by which path is not there; nothing where they are none of one
+/// machine.
+fn text_by_rows(
+    alloc: Global,
+    rows: Vec<SeenRow>,
+    command: &Command,
+    refusal: Refusal,
+    missing: Option<Missing>,
+) -> Result<Option<Vec<u8>>, Refusal> {
+    let mut rows = rows;
+    rows.sort_unstable_by_key(|row| row.id);
+    let Some(rows) = SeenRows::new(alloc, rows)? else {
+        return Ok(None);
+    };
+    let titles = Titles::new(Vec::new(alloc), u64::MAX, u64::MAX);
+    match missing {
+        Some(Missing { which, there }) => {
+            missing_text(alloc, &rows, &titles, command, which, there)
+        }
+        None => refused_text(alloc, &rows, &titles, command, refusal),
+    }
+}
+
+/// Which path of a command is not there, where it was refused for that.
+fn missing_path<R: Input + Drop, W: Output>(
+    alloc: Global,
+    command: &Command,
+    refusal: Refusal,
+    lines: &mut LineReader<R>,
+    writer: &mut W,
+) -> Result<Option<Missing>, Fault>
+    requires fresh { fault_of lines.old ≡ None }
+    ensures fresh { OnOk result (fault_of lines.new ≡ None) }
+{
+    match (refusal, asked_space(command)) {
+        (Refusal::NoEntry, Some(space)) => missing_in(alloc, space, command, lines, writer),
+        _ => Ok(None),
+    }
+}
+
+/// Says of a refused line what is in the way and what would change that, if the rows say it; with the number of the line where it
+/// is one of a script. What others changed behind the refusal may leave nothing to say.
+pub(crate) fn tell_reason_of<E: Eprint, R: Input + Drop, W: Output>(
+    rt: &E,
+    alloc: Global,
+    number: Option<u64>,
+    line: &[u8],
+    refusal: Refusal,
+    lines: &mut LineReader<R>,
+    writer: &mut W,
+) -> Result<(), Fault>
+    requires fresh { fault_of lines.old ≡ None }
+    ensures fresh { OnOk result (fault_of lines.new ≡ None) }
+{
+    let Some(question) = question_of(refusal) else {
+        return Ok(());
+    };
+    let Some(command) = command_of(alloc, line, refusal)? else {
+        return Ok(());
+    };
+    let missing = missing_path(alloc, &command, refusal, lines, writer)?;
+    let rows = asked_rows(alloc, question, asked_space(&command), lines, writer)?;
+    match text_by_rows(alloc, rows, &command, refusal, missing) {
+        Ok(Some(text)) => tell_lines(rt, number, text.as_slice()),
+        Ok(None) => {}
+        Err(fault) => return Err(fault_of_line(fault)),
+    }
+    Ok(())
+}

@@ -1,0 +1,3 @@
+pub mod UnreadLaws
+pub mod WayLaws
+pub mod TwiceLaws

@@ -1,0 +1,9 @@
+use Rattle.std.proofs.Common.{◌≡◌, ◌++◌, map, drop}
+use Rattle.std.specs.List.{filter}
+use Rattle.mt_questions.specs.Holders.{holder_of, is_source}
+use Rattle.mt_questions.proofs.holders.holders_among_source.Given as goal
+
+-- those of the mounts passed, and of those to come
+abbrev pub invariant-all : goal.invariant-all
+invariant-all l =
+    l.holders.items ++ map (holder_of l.rows) (filter (is_source l.source) (map (λ row. row.now) (drop l.row-index l.all))) ≡ map (holder_of l.rows) (filter (is_source l.source) (map (λ row. row.now) l.all))

@@ -1,0 +1,12 @@
+pub mod Tables
+pub mod Seeing
+pub mod Fates
+pub mod Copies
+pub mod Remedies
+pub mod Reach
+pub mod Wording
+pub mod ReachText
+pub mod Origin
+pub mod Holders
+pub mod OriginText
+pub mod Json

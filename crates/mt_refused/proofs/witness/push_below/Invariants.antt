@@ -1,0 +1,10 @@
+use Rattle.std.proofs.Common.{◌≡◌, ◌++◌, map, drop}
+use Rattle.std.specs.List.{filter}
+use Rattle.mt_reach.specs.Rows.{seen_id}
+use Rattle.mt_refused.specs.Witnesses.{is_below_path}
+use Rattle.mt_refused.proofs.witness.push_below.Given as goal
+
+-- those of the rows passed, and of those to come
+abbrev pub invariant-rows : goal.invariant-rows
+invariant-rows l =
+    l.ids.items ++ map seen_id (filter (is_below_path l.on l.path) (drop l.row-index l.row-items)) ≡ l.initial.ids.items ++ map seen_id (filter (is_below_path l.on l.path) l.row-items)

@@ -1,0 +1,79 @@
+-- The namespace and the paths of a command.
+-- A word with no source is this project's rule.
+use Rattle.std.specs.Prelude.{ℕ, Bool, true, false, List, [], Option, Some, None, codes}
+use Rattle.mt_book.specs.declared.command.Command.{Command}
+use Rattle.mt_book.specs.declared.command.Command.TheVariants as command
+use Rattle.mt_refused.specs.declared.asked.Which.{Which}
+use Rattle.mt_refused.specs.declared.asked.Which.TheVariants.{First, Second}
+
+-- its namespace, if it has one
+abbrev pub asked_space : Command → Option ℕ
+asked_space (command.CopySpace n less) = Some n
+asked_space (command.DropSpace n) = Some n
+asked_space (command.Mount n fs path) = Some n
+asked_space (command.MountWith n fs path set) = Some n
+asked_space (command.Bind n src dst deep) = Some n
+asked_space (command.Move n src dst) = Some n
+asked_space (command.Pivot n new old) = Some n
+asked_space (command.Unmount n path) = Some n
+asked_space (command.Detach n path) = Some n
+asked_space (command.SetAttr n path change) = Some n
+asked_space c = None
+
+-- its only path in a namespace, or the first of two
+abbrev pub first_path : Command → Option (List (List ℕ))
+first_path (command.Mount n fs path) = Some path
+first_path (command.MountWith n fs path set) = Some path
+first_path (command.Bind n src dst deep) = Some src
+first_path (command.Move n src dst) = Some src
+first_path (command.Pivot n new old) = Some new
+first_path (command.Unmount n path) = Some path
+first_path (command.Detach n path) = Some path
+first_path (command.SetAttr n path change) = Some path
+first_path c = None
+
+-- the second of two
+abbrev pub second_path : Command → Option (List (List ℕ))
+second_path (command.Bind n src dst deep) = Some dst
+second_path (command.Move n src dst) = Some dst
+second_path (command.Pivot n new old) = Some old
+second_path c = None
+
+abbrev pub asked_path : Command → Which → Option (List (List ℕ))
+asked_path c First = first_path c
+asked_path c Second = second_path c
+
+abbrev pub is_bind : Command → Bool
+is_bind (command.Bind n src dst deep) = true
+is_bind c = false
+
+abbrev pub is_pivot : Command → Bool
+is_pivot (command.Pivot n new old) = true
+is_pivot c = false
+
+abbrev pub is_detach : Command → Bool
+is_detach (command.Detach n path) = true
+is_detach c = false
+
+-- a command takes mounts away
+abbrev pub takes_mounts : Command → Bool
+takes_mounts (command.Unmount n path) = true
+takes_mounts (command.Detach n path) = true
+takes_mounts c = false
+
+-- it changes attributes or propagation, of a root mount too
+abbrev pub is_set : Command → Bool
+is_set (command.SetAttr n path change) = true
+is_set c = false
+
+-- one of two names
+abbrev pub either : Which → List ℕ → List ℕ → List ℕ
+either First first second = first
+either Second first second = second
+
+-- what a path is called where there are two (the lines of a session: this project's rule)
+abbrev pub path_name : Command → Which → List ℕ
+path_name (command.Bind n src dst deep) which = either which (codes "SRC, ") (codes "DST, ")
+path_name (command.Move n src dst) which = either which (codes "SRC, ") (codes "DST, ")
+path_name (command.Pivot n new old) which = either which (codes "NEW, ") (codes "OLD, ")
+path_name c which = []

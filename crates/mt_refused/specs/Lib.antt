@@ -1,0 +1,12 @@
+pub mod Titles
+pub mod Asked
+pub mod Endings
+pub mod Hindrances
+pub mod Witnesses
+pub mod Pages
+pub mod Parts
+pub mod Sentences
+pub mod Listings
+pub mod Remedies
+pub mod Texts
+pub mod Missing

@@ -1,0 +1,24 @@
+-- The world of tables, on which lines are tried.
+-- A word with no source is this project's rule.
+use Rattle.std.specs.Prelude.{◌≡◌, ℕ, ◌+◌, false, List, [], ◌∷◌, Option}
+use Rattle.mt_propagate.specs.WellFormed.{IsWellFormed}
+use Rattle.mt_questions.specs.Tables.{ToldTable}
+use Rattle.mt_world.specs.declared.misfit.Misfit.{Misfit}
+use Rattle.mt_world.specs.declared.row.TableRow.{TableRow}
+use Rattle.mt_world.specs.Made.{IsMade, KeepsPlain}
+use Rattle.mt_what_if.specs.KnownSpaces.{TitledSpace}
+use Rattle.mt_what_if.specs.Trials.{TrialView}
+
+-- the namespaces of tables that count from a number on, under their names
+abbrev pub called_from : ℕ → List ToldTable → List TitledSpace
+called_from n [] = []
+called_from n (t ∷ tables) = record { number = n; name = t.name; is_named = false; is_new = false } ∷ called_from (n + 1) tables
+
+-- no line was tried yet on the world of these rows: those that are kept are told by it, and of plain tables all are kept
+pub record IsWorldOfTables (rows : List TableRow) (t : TrialView) : Type 0 where
+  pub well_formed : IsWellFormed t.start
+  pub left : List (Option Misfit)
+  pub private : List (Option Misfit)
+  pub made : IsMade t.start rows left private
+  pub plain : KeepsPlain t.start rows left
+  pub fresh : t.commands ≡ []

@@ -1,0 +1,30 @@
+//! What lines would change in the namespaces of tables.
+#![tactic(auto)]
+
+mod abridged;
+mod along;
+pub mod asked;
+pub mod difference;
+pub mod elsewhere;
+pub mod foretelling;
+pub mod gathered;
+mod json;
+pub mod known_space;
+mod line_told;
+mod lines;
+mod naming;
+pub mod numbers;
+mod provide;
+pub mod scene;
+mod script;
+mod sources;
+mod space;
+mod table_row;
+pub mod told;
+pub mod trial;
+pub mod trying;
+mod unmounts;
+mod walking;
+mod words;
+
+pub use mt_skel::fault;

@@ -1,0 +1,143 @@
+//! The world of tables, on which lines are tried.
+ghost use Rattle.std.specs.Prelude.{◌≡◌, [], IfOk, IsOkUnless};
+ghost use Rattle.mt_propagate.specs.World.{world_view};
+ghost use Rattle.mt_propagate.specs.WellFormed.{IsWellFormed};
+ghost use Rattle.mt_what_if.specs.Gathered.{rows_gathered};
+ghost use Rattle.mt_what_if.specs.Scenes.{called_from, IsWorldOfTables};
+
+use crate::gathered::{Gathered, Missed, RowPlace, gather};
+use crate::known_space::KnownSpace;
+use crate::trial::Trial;
+use mt_propagate::world::World;
+use mt_questions::table::NamedTable;
+use mt_skel::fault::Fault;
+use mt_skel::name::Label;
+use mt_world::made::{Made, world_of};
+use mt_world::misfit::Misfit;
+use mt_world::row::TableRow;
+use std::alloc::{AllocError, Global};
+
+/// The world of tables, on which lines are tried.
+pub struct Scene {
+    /// The world, and what was tried on it.
+    pub trial: Trial,
+    /// The names of its filesystems: the devices of the tables, and those that were made.
+    pub filesystems: Vec<Label>,
+}
+
+impl Drop for Scene {
+    fn drop(self) {
+        let Scene {
+            trial: _trial,
+            filesystems: _filesystems,
+        } = self;
+    }
+}
+
+/// The world of tables, and what it has not of them.
+pub struct Begun {
+    /// The world of the tables, on which no line was tried yet.
+    pub scene: Scene,
+    /// The namespaces of the tables.
+    pub names: Vec<KnownSpace>,
+    /// The rows that the world has not as they are told.
+    pub missed: Vec<Missed>,
+}
+
+impl Drop for Begun {
+    fn drop(self) {
+        let Begun {
+            scene: _scene,
+            names: _names,
+            missed: _missed,
+        } = self;
+    }
+}
+
+/// Adds the rows for which there is a reason, each with its own.
+fn push_missed(
+    missed: &mut Vec<Missed>,
+    origins: &[RowPlace],
+    whys: &[Option<Misfit>],
+    is_private: bool,
+) -> Result<(), AllocError> {
+    for (origin, why) in origins.iter().zip(whys) {
+        if why.is_some() {
+            missed.push(Missed {
+                origin: *origin,
+                why: *why,
+                is_private,
+            })?;
+        }
+    }
+    Ok(())
+}
+
+/// Whether a name is among these.
+fn has_label(labels: &[Label], label: &Label) -> bool {
+    labels.iter().any(|other| other.bytes() == label.bytes())
+}
+
+/// The devices of rows, each once.
+fn devices_of(alloc: Global, rows: &[TableRow]) -> Result<Vec<Label>, Fault>
+    ensures memory { IsOkUnless result Fault.NoMemory }
+{
+    let mut devices = Vec::new(alloc);
+    for row in rows {
+        if !has_label(&devices, &row.device) {
+            devices.push(row.device.copy()?)?;
+        }
+    }
+    Ok(devices)
+}
+
+/// The names of tables, by their numbers from 1.
+fn names_of(alloc: Global, tables: &[NamedTable]) -> Result<Vec<KnownSpace>, AllocError>
+    ensures { IfOk result (λ spaces. spaces.items ≡ called_from 1 tables.now) }
+{
+    let mut spaces = Vec::new(alloc);
+    'tables: for (table, named) in tables.iter().enumerate() {
+        spaces.push(KnownSpace::new(alloc, table as u64 + 1, &named.name)?)?;
+    }
+    Ok(spaces)
+}
+
+/// The scene of the world of tables, which has the filesystems of these rows.
+fn scene_of(alloc: Global, rows: &[TableRow], world: &World) -> Result<Scene, Fault>
+    requires { IsWellFormed (world_view world.now) }
+    ensures trial { IfOk result (λ scene. scene.trial ≡ record { start = world_view world.now; commands = [] }) }
+    ensures memory { IsOkUnless result Fault.NoMemory }
+{
+    Ok(Scene {
+        trial: Trial::new(alloc, world)?,
+        filesystems: devices_of(alloc, rows)?,
+    })
+}
+
+/// The rows that the world of tables has not as they are told.
+fn missed_of(alloc: Global, gathered: &Gathered, made: &Made) -> Result<Vec<Missed>, AllocError> {
+    let mut missed = Vec::from_slice(alloc, &gathered.missed)?;
+    let origins = gathered.origins.as_slice();
+    push_missed(&mut missed, origins, &made.left, false)?;
+    push_missed(&mut missed, origins, &made.private, true)?;
+    Ok(missed)
+}
+
+/// The world of these tables, on which no line was tried yet, and which rows it has not as they are told. The namespaces have the
+/// numbers of their tables, from 1, and the mounts and peer groups their own. Refused as `NoMemory` alone.
+pub fn begin(alloc: Global, tables: &[NamedTable]) -> Result<Begun, Fault>
+    ensures begun { IfOk result (λ begun. IsWorldOfTables (rows_gathered 1 tables.now) begun.scene.trial) }
+    ensures names { IfOk result (λ begun. begun.names.items ≡ called_from 1 tables.now) }
+    ensures memory { IsOkUnless result Fault.NoMemory }
+{
+    let gathered = gather(alloc, tables)?;
+    let made = world_of(alloc, &gathered.rows)?;
+    let missed = missed_of(alloc, &gathered, &made)?;
+    let names = names_of(alloc, tables)?;
+    let scene = scene_of(alloc, &gathered.rows, &made.world)?;
+    Ok(Begun {
+        scene,
+        names,
+        missed,
+    })
+}
