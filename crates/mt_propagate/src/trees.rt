@@ -1,5 +1,5 @@
 //! The namespaces that are detached trees.
-ghost use Rattle.std.specs.Prelude.{◌≡◌, ◌==◌, [], IfOk, OnOk, IsOkUnless};
+ghost use Rattle.std.specs.Prelude.{◌≡◌, ◌==◌, [], length, IfOk, OnOk, IsOkUnless};
 ghost use Rattle.mt_skel.specs.Keyed.{among, without};
 
 use mt_mounts::mount::SpaceId;
@@ -57,6 +57,13 @@ impl Trees {
         Ok(())
     }
 
+    /// Whether there is none.
+    pub(crate) fn is_empty(&self) -> bool
+        ensures { result ≡ (length self.now == 0) }
+    {
+        self.spaces.is_empty()
+    }
+
     /// Whether a namespace is one of them.
     pub(crate) fn has(&self, space: SpaceId) -> bool
         ensures { result ≡ among self.now space }
@@ -68,13 +75,6 @@ impl Trees {
     pub(crate) fn end(&mut self, space: SpaceId)
         ensures { self.new ≡ without (λ n. n == space) self.old }
     {
-        drop_space(&mut self.spaces, space);
+        self.spaces.retain(|other| *other != space);
     }
-}
-
-/// Takes a namespace out of a list.
-fn drop_space(spaces: &mut Vec<SpaceId>, space: SpaceId)
-    ensures { spaces.new.items ≡ without (λ n. n == space) spaces.old.items }
-{
-    spaces.retain(|other| *other != space);
 }
