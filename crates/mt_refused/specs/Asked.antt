@@ -12,7 +12,7 @@ asked_space (command.CopySpace n less) = Some n
 asked_space (command.DropSpace n) = Some n
 asked_space (command.Mount n fs path) = Some n
 asked_space (command.MountWith n fs path set) = Some n
-asked_space (command.Bind n src dst deep) = Some n
+asked_space (command.Bind n src dst recursive) = Some n
 asked_space (command.Move n src dst) = Some n
 asked_space (command.Pivot n new old) = Some n
 asked_space (command.Unmount n path) = Some n
@@ -24,7 +24,7 @@ asked_space c = None
 abbrev pub first_path : Command → Option (List (List ℕ))
 first_path (command.Mount n fs path) = Some path
 first_path (command.MountWith n fs path set) = Some path
-first_path (command.Bind n src dst deep) = Some src
+first_path (command.Bind n src dst recursive) = Some src
 first_path (command.Move n src dst) = Some src
 first_path (command.Pivot n new old) = Some new
 first_path (command.Unmount n path) = Some path
@@ -34,7 +34,7 @@ first_path c = None
 
 -- the second of two
 abbrev pub second_path : Command → Option (List (List ℕ))
-second_path (command.Bind n src dst deep) = Some dst
+second_path (command.Bind n src dst recursive) = Some dst
 second_path (command.Move n src dst) = Some dst
 second_path (command.Pivot n new old) = Some old
 second_path c = None
@@ -44,7 +44,7 @@ asked_path c First = first_path c
 asked_path c Second = second_path c
 
 abbrev pub is_bind : Command → Bool
-is_bind (command.Bind n src dst deep) = true
+is_bind (command.Bind n src dst recursive) = true
 is_bind c = false
 
 abbrev pub is_pivot : Command → Bool
@@ -73,7 +73,7 @@ either Second first second = second
 
 -- what a path is called where there are two (the lines of a session: this project's rule)
 abbrev pub path_name : Command → Which → List ℕ
-path_name (command.Bind n src dst deep) which = either which (codes "SRC, ") (codes "DST, ")
+path_name (command.Bind n src dst recursive) which = either which (codes "SRC, ") (codes "DST, ")
 path_name (command.Move n src dst) which = either which (codes "SRC, ") (codes "DST, ")
 path_name (command.Pivot n new old) which = either which (codes "NEW, ") (codes "OLD, ")
 path_name c which = []
