@@ -68,7 +68,7 @@ fn seen_of(rt: &HostRuntime, all: &Namespaces) -> Result<SeenTables, ExitCode> {
 
 /// The number of a namespace, or the status.
 fn space_of(rt: &HostRuntime, all: &Namespaces, word: &str) -> Result<u64, ExitCode> {
-    match all.space_named(word) {
+    match all.space_named(word.as_bytes()) {
         Some(space) => Ok(space),
         None => {
             let word = Shown(word.as_bytes());
