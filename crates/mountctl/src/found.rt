@@ -41,11 +41,6 @@ pub(crate) fn place_in(answer: &[u8]) -> Option<(&[u8], &[u8])> {
     Some((id, directory))
 }
 
-/// The row of a mount, if it is among these.
-fn row_of(rows: &[Row], id: MountId) -> Option<&Row> {
-    rows.iter().find(|row| row.id == id)
-}
-
 /// Prints where a path ends.
 fn print_place<O: Output>(
     alloc: Global,
@@ -61,6 +56,24 @@ fn print_place<O: Output>(
     let line = place_line(alloc, space, directory.as_slice(), row)?;
     print_text(out, line.as_slice())?;
     Ok(())
+}
+
+/// Prints where a path ends, if the row of its mount is among these: whether it is.
+fn print_among<O: Output>(
+    alloc: Global,
+    space: SpaceId,
+    directory: &[u8],
+    rows: &[Row],
+    id: MountId,
+    out: &mut O,
+) -> Result<bool, Fault> {
+    for row in rows {
+        if row.id == id {
+            print_place(alloc, space, directory, row, out)?;
+            return Ok(true);
+        }
+    }
+    Ok(false)
 }
 
 /// Looks once for a path of a namespace by the line that asks for it, and for the row of the mount on which it ends.
@@ -87,11 +100,11 @@ fn look_once<R: Input + Drop, W: Output, O: Output>(
         return Err(Fault::Connection);
     };
     let table = shown_table(alloc, space, lines, writer)?;
-    let Some(row) = row_of(table.rows(), id) else {
-        return Ok(Look::Gone);
-    };
-    print_place(alloc, space, directory, row, out)?;
-    Ok(Look::Found)
+    if print_among(alloc, space, directory, table.rows(), id, out)? {
+        Ok(Look::Found)
+    } else {
+        Ok(Look::Gone)
+    }
 }
 
 /// Prints where a path of a namespace ends as JSON: false where it is refused, which is printed.

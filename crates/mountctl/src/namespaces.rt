@@ -8,7 +8,7 @@ use crate::tables::{TableFault, read_table};
 use crate::task::WordFault;
 use mt_import::host_mount::HostMount;
 use mt_mounts::mount::SpaceId;
-use mt_questions::naming::{SpaceAlias, last_name, space_named};
+use mt_questions::naming::{SpaceAlias, last_name, space_called};
 use mt_questions::table::NamedTable;
 use mt_terminal::message::Shown;
 use mt_what_if::asked::SpaceWord;
@@ -88,7 +88,7 @@ impl Namespaces {
     /// The number of the table of a namespace, from 1: the word is the name of its file, with or without folders, the number
     /// of a process in it, or the number of the table. None where it is none of these, or the last name of two files.
     pub(crate) fn space_named(&self, word: &[u8]) -> Option<SpaceId> {
-        space_named(self.aliases.as_slice(), self.tables.len() as u64, word)
+        space_called(self.tables.as_slice(), self.aliases.as_slice(), word)
     }
 
     /// Adds a word, and the namespace that it names.

@@ -1,10 +1,11 @@
 -- Which namespace a word names.
 -- A word with no source is this project's rule.
-use Rattle.std.specs.Prelude.{ℕ, nat_lt, nat_le, Bool, not, ◌||◌, ◌&&◌, ◌==◌, if◌then◌else◌, List, [], fold, Option, None, Some}
+use Rattle.std.specs.Prelude.{ℕ, nat_lt, nat_le, Bool, not, ◌||◌, ◌&&◌, ◌==◌, if◌then◌else◌, List, [], length, fold, Option, None, Some}
 use Rattle.std.specs.List.{find, list_all}
 use Rattle.std.specs.Option.{option_and_then, option_map, option_map_or, option_or}
 use Rattle.std.specs.Str.{bytes_eq}
 use Rattle.mt_lines.specs.Words.{pieces, number_in_text}
+use Rattle.mt_questions.specs.Tables.{ToldTable}
 
 -- a word, and the namespace that it names: the path of the file of its table, or the number of a process in it
 pub record SpaceAliasView : Type 0 where
@@ -39,15 +40,15 @@ agrees word n a = not (is_last_name word a) || (a.space == n)
 abbrev pub space_alone : List SpaceAliasView → List ℕ → ℕ → Option ℕ
 space_alone aliases word n = if list_all (agrees word n) aliases then Some n else None
 
--- the number of a table that a word is, of so many
-abbrev pub table_of_number : ℕ → ℕ → Option ℕ
-table_of_number last n = if nat_lt 0 n && nat_le n last then Some n else None
+-- the number of one of these tables, counted from 1
+abbrev pub numbered_among : List ToldTable → ℕ → Option ℕ
+numbered_among tables n = if nat_lt 0 n && nat_le n (length tables) then Some n else None
 
-abbrev pub table_number : ℕ → List ℕ → Option ℕ
-table_number last word = option_and_then (table_of_number last) (number_in_text word)
+abbrev pub space_of_number : List ToldTable → List ℕ → Option ℕ
+space_of_number tables word = option_and_then (numbered_among tables) (number_in_text word)
 
 -- The namespace that a word names: by the whole word of an alias, or else by its last name, if that is of one namespace alone; a word
 -- that is neither may be the number of a table.
-abbrev pub space_named : List SpaceAliasView → ℕ → List ℕ → Option ℕ
-space_named aliases last word =
-    option_or (space_of_word aliases word) (option_map_or (space_alone aliases word) (space_of_name aliases word) (table_number last word))
+abbrev pub space_called : List ToldTable → List SpaceAliasView → List ℕ → Option ℕ
+space_called tables aliases word =
+    option_or (space_of_word aliases word) (option_map_or (space_alone aliases word) (space_of_name aliases word) (space_of_number tables word))

@@ -1,8 +1,9 @@
 //! Which namespace a word names.
 ghost use Rattle.std.specs.Prelude.{◌≡◌};
 ghost use Rattle.std.specs.List.{list_all};
-ghost use Rattle.mt_questions.specs.Naming.{last_name, space_of_word, space_of_name, agrees, space_alone, table_number, space_named};
+ghost use Rattle.mt_questions.specs.Naming.{last_name, space_of_word, space_of_name, agrees, space_alone, space_of_number, space_called};
 
+use crate::table::NamedTable;
 use mt_lines::words::{Pieces, number};
 use mt_mounts::mount::SpaceId;
 use std::marker::Model;
@@ -90,29 +91,31 @@ fn space_alone(aliases: &[SpaceAlias], word: &[u8], space: SpaceId) -> Option<Sp
     }
 }
 
-/// The number of a table that a word is, of so many.
-fn table_number(last: SpaceId, word: &[u8]) -> Option<SpaceId>
-    ensures { result ≡ table_number last word.now }
+/// The number of one of these tables that a word is, counted from 1.
+fn space_of_number(tables: &[NamedTable], word: &[u8]) -> Option<SpaceId>
+    ensures { result ≡ space_of_number tables.now word.now }
 {
-    let space = number(word)?;
-    if 0 < space && space <= last {
-        Some(space)
-    } else {
-        None
+    match number(word) {
+        Some(space) if 0 < space && space <= tables.len() as u64 => Some(space),
+        _ => None,
     }
 }
 
-/// The number of the namespace that a word names, of so many tables, whose numbers begin at 1: the word is that of an alias, or its
-/// last name, or the number of a table. None where it is none of these, or the last name of words of several namespaces. Takes no
-/// memory.
-pub fn space_named(aliases: &[SpaceAlias], last: SpaceId, word: &[u8]) -> Option<SpaceId>
-    ensures { result ≡ space_named aliases.now last word.now }
+/// The number of the namespace that a word names, given the words that name those of tables: the word is one of these, or the last
+/// name in one, or the number of a table, from 1. None where it is none of these, or the last name in words of several namespaces.
+/// Takes no memory.
+pub fn space_called(
+    tables: &[NamedTable],
+    aliases: &[SpaceAlias],
+    word: &[u8],
+) -> Option<SpaceId>
+    ensures { result ≡ space_called tables.now aliases.now word.now }
 {
     if let Some(space) = space_of_word(aliases, word) {
         return Some(space);
     }
     match space_of_name(aliases, word) {
         Some(space) => space_alone(aliases, word, space),
-        None => table_number(last, word),
+        None => space_of_number(tables, word),
     }
 }
