@@ -128,6 +128,7 @@ fn push_note(text: &mut Vec<u8>, note: &str) -> Result<(), AllocError>
 
 /// The text of a page: ways to write something, the answer, an example, refusals, and a note. What is empty is left out with its
 /// title. Fails for want of memory alone.
+#[tactic(auto, unfolding(crate::specs::Pages::page_text))]
 pub fn page_text(
     alloc: Global,
     usages: &[Usage],
