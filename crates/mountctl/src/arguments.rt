@@ -21,8 +21,10 @@ Environment:
   MOUNTD_SOCKET            the socket of the server, where the first word is none: one that begins a line, or what may
                            stand in its place, is no socket (./show is), nor are letters that are no file's name";
 
-/// The column of a line in which it is said what stands in front of that does.
+/// The column of a line in which it is said what something does, and how long that is at most that stands in front of it there.
 const COLUMN: usize = 27;
+
+const WIDEST: usize = 25;
 
 /// Appends so many spaces. Fails for want of memory alone.
 fn push_spaces(text: &mut String, count: usize) -> Result<(), AllocError> {
@@ -38,7 +40,7 @@ fn push_usage(text: &mut String, usage: Usage) -> Result<(), AllocError> {
     text.push_str(usage.words)?;
     let mut width = usage.words.len().saturating_add(2);
     for line in usage.says.lines() {
-        if width + 2 > COLUMN {
+        if width > WIDEST {
             text.push('\n')?;
             width = 0;
         }
