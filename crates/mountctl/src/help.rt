@@ -170,7 +170,11 @@ fn list_of_words(alloc: Global) -> Result<Vec<u8>, AllocError> {
     push_list(&mut text, b"Lines that change tables:", changing.as_slice())?;
     push_list(&mut text, b"Other lines:", asking.as_slice())?;
     push_list(&mut text, b"In the place of a line:", lines.as_slice())?;
-    push_list(&mut text, b"In the place of a socket and a line:", sockets.as_slice())?;
+    push_list(
+        &mut text,
+        b"In the place of a socket and a line:",
+        sockets.as_slice(),
+    )?;
     text.extend_from_slice(BEHIND_LIST)?;
     Ok(text)
 }

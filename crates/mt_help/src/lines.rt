@@ -18,9 +18,11 @@ pub fn answer_said(form: Form) -> &'static str
         Form::Number => "ok, and the number of what is made",
         Form::Place => "ok, the number of the mount, and the directory of its filesystem",
         Form::Table => "ok, the count of the rows and the number of the last change, and the rows",
-        Form::Opening => "ok and a count of lines, and as many: of each namespace a heading and its rows",
+        Form::Opening =>
+            "ok and a count of lines, and as many: of each namespace a heading and its rows",
         Form::Posts => "ok and a count of posts, and their lines",
-        Form::Followed => "the lines of posts as they come, and then ok and how many posts they are",
+        Form::Followed =>
+            "the lines of posts as they come, and then ok and how many posts they are",
         Form::Never => "",
     }
 }

@@ -104,11 +104,7 @@ fn space_of_number(tables: &[NamedTable], word: &[u8]) -> Option<SpaceId>
 /// The number of the namespace that a word names, given the words that name those of tables: the word is one of these, or the last
 /// name in one, or the number of a table, from 1. None where it is none of these, or the last name in words of several namespaces.
 /// Takes no memory.
-pub fn space_called(
-    tables: &[NamedTable],
-    aliases: &[SpaceAlias],
-    word: &[u8],
-) -> Option<SpaceId>
+pub fn space_called(tables: &[NamedTable], aliases: &[SpaceAlias], word: &[u8]) -> Option<SpaceId>
     ensures { result ≡ space_called tables.now aliases.now word.now }
 {
     if let Some(space) = space_of_word(aliases, word) {
