@@ -157,7 +157,8 @@ fn push_list(text: &mut Vec<u8>, title: &[u8], words: &[&'static [u8]]) -> Resul
         text.push(b' ')?;
         text.extend_from_slice(word)?;
     }
-    text.push(b'\n')
+    text.push(b'\n')?;
+    Ok(())
 }
 
 /// All words that have a page, under their kinds.

@@ -31,7 +31,8 @@ fn push_indented(text: &mut Vec<u8>, line: &[u8]) -> Result<(), AllocError>
 {
     text.extend_from_slice(b"    ")?;
     text.extend_from_slice(line)?;
-    text.push(b'\n')
+    text.push(b'\n')?;
+    Ok(())
 }
 
 /// Appends lines that have a newline between them, each behind an indent.
@@ -70,7 +71,8 @@ fn push_title(text: &mut Vec<u8>, title: &str) -> Result<(), AllocError>
 {
     text.push(b'\n')?;
     text.extend_from_slice(title.as_bytes())?;
-    text.push(b'\n')
+    text.push(b'\n')?;
+    Ok(())
 }
 
 /// Appends a section of these lines; nothing where there are none.
@@ -92,7 +94,8 @@ fn push_said(text: &mut Vec<u8>, said: RefusalSaid) -> Result<(), AllocError>
     text.extend_from_slice(said.refusal.name())?;
     text.extend_from_slice(b": ")?;
     text.extend_from_slice(said.sentence.as_bytes())?;
-    text.push(b'\n')
+    text.push(b'\n')?;
+    Ok(())
 }
 
 /// Appends refusals with what they say.
