@@ -1,6 +1,6 @@
 -- The page of each line of a session.
 -- A word with no source is this project's rule.
-use Rattle.std.specs.Prelude.{◌≡◌, ℕ, Bool, true, false, List, [], ◌∷◌, map, codes}
+use Rattle.std.specs.Prelude.{◌≡◌, ℕ, if◌then◌else◌, List, [], ◌∷◌, map, codes}
 use Rattle.mt_skel.specs.declared.fault.Fault.{Fault}
 use Rattle.mt_skel.specs.declared.fault.Fault.TheVariants.{BadAttr, Busy, EntryExists, FilesystemExists, IntoItself, Lagged, NoEntry, NoFilesystem, NoNamespace, NoWatcher, NotMountRoot, RootPlace, SharedParent, Stopped, TooMany, TooManyWatchers, Unbindable, UnbindableInside, WatcherOpen}
 use Rattle.mt_protocol.specs.Verbs.{verb_form, is_command}
@@ -71,10 +71,13 @@ answer_said Posts = codes "ok and a count of posts, and their lines"
 answer_said Followed = codes "the lines of posts as they come, and then ok and how many posts they are"
 answer_said Never = []
 
--- what else a command may be refused as, and any other line
-abbrev pub note_of : Bool → List ℕ
-note_of true = codes "Each command may be refused as Stopped or JournalFull too, and each line as BadLine, TooLong, BadPath or NoMemory."
-note_of false = codes "Each line may be refused as BadLine, TooLong, BadPath or NoMemory too."
+-- what else lines may be refused as: those that end something, commands, and the others
+abbrev pub note_of : Verb → List ℕ
+note_of verb.Quit = codes "A line of a wrong form is refused as BadLine or TooLong."
+note_of verb.Stop = codes "A line of a wrong form is refused as BadLine or TooLong."
+note_of v =
+    if is_command v then codes "A line of a wrong form is refused as BadLine, TooLong or BadPath, and any command may be as JournalFull, Stopped or NoMemory."
+    else codes "A line of a wrong form is refused as BadLine, TooLong or BadPath, and any may be as NoMemory."
 
 -- the refusal of which it is told what it says
 abbrev pub said_refusal : RefusalSaid → Fault
@@ -83,4 +86,4 @@ said_refusal said = said.refusal
 -- a page of lines with a verb that are written so: with the answer, the example and the refusals of that verb, each with what it says
 abbrev pub IsVerbPage : Verb → List Usage → List ℕ → Type 0
 IsVerbPage v usages text = (said : List RefusalSaid) × (map said_refusal said ≡ refusals_of v)
-    × (text ≡ page_text usages (answer_said (verb_form v)) (example_of v) said (note_of (is_command v)))
+    × (text ≡ page_text usages (answer_said (verb_form v)) (example_of v) said (note_of v))

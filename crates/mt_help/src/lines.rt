@@ -27,14 +27,30 @@ pub fn answer_said(form: Form) -> &'static str
     }
 }
 
-/// What else a line may be refused as: a command, and any other line.
-pub fn note_of(is_command: bool) -> &'static str
-    ensures { result.now ≡ note_of is_command }
+/// What else a line with a verb may be refused as.
+pub fn note_of(verb: Verb) -> &'static str
+    ensures { result.now ≡ note_of verb }
 {
-    if is_command {
-        "Each command may be refused as Stopped or JournalFull too, and each line as BadLine, TooLong, BadPath or NoMemory."
-    } else {
-        "Each line may be refused as BadLine, TooLong, BadPath or NoMemory too."
+    match verb {
+        Verb::Quit | Verb::Stop => "A line of a wrong form is refused as BadLine or TooLong.",
+        Verb::Show | Verb::Find | Verb::Watch | Verb::Take | Verb::Follow | Verb::Close => {
+            "A line of a wrong form is refused as BadLine, TooLong or BadPath, and any may be as NoMemory."
+        }
+        Verb::Mkfs
+        | Verb::Mkdir
+        | Verb::Newns
+        | Verb::Copyns
+        | Verb::Dropns
+        | Verb::Mount
+        | Verb::Bind
+        | Verb::Rbind
+        | Verb::Move
+        | Verb::Pivot
+        | Verb::Umount
+        | Verb::Detach
+        | Verb::Setattr => {
+            "A line of a wrong form is refused as BadLine, TooLong or BadPath, and any command may be as JournalFull, Stopped or NoMemory."
+        }
     }
 }
 
@@ -49,6 +65,6 @@ pub fn verb_page(alloc: Global, verb: Verb, usages: &[Usage]) -> Result<Vec<u8>,
         answer_said(verb.form()),
         example_of(verb),
         said.as_slice(),
-        note_of(verb.is_command()),
+        note_of(verb),
     )
 }
