@@ -5,7 +5,7 @@ use Rattle.mt_skel.specs.declared.fault.Fault.{Fault}
 use Rattle.mt_propagate.specs.World.{WorldView}
 use Rattle.mt_what_if.specs.Foretelling.{changes_if_each, IsForetold, AreForetold}
 use Rattle.mt_what_if.specs.LinesTold.{tried_text}
-use Rattle.mt_what_if.specs.Taken.{taken_text}
+use Rattle.mt_what_if.specs.Taken.{taken_told}
 use Rattle.mt_what_if.specs.Trials.{TrialView, world_after, for_next}
 use Rattle.mt_what_if.specs.Tried.{IsLineTried}
 use Rattle.mt_what_if.specs.declared.foretelling.Question.{Question}
@@ -40,7 +40,7 @@ changes_by_trials q t u w0 w v e f g =
 -- what is told of a line with these changes is what is told of it
 pub line_foretold :
     (q : Question) (n : ℕ) (line : AskedLine) (t u : TrialView) (w0 w v : WorldView) (outcome : Outcome) (before after taken changes made none : List ℕ)
-    → after ≡ before ++ tried_text q.manner.telling n line.words.now taken outcome changes → taken ≡ taken_text u.given → changes ≡ made
+    → after ≡ before ++ tried_text q.manner.telling n line.words.now taken outcome changes → taken ≡ taken_told u.given → changes ≡ made
     → made ≡ none ++ changes_if_each q w0 w v → none ≡ [] → w0 ≡ t.start → w ≡ world_after t → v ≡ world_after u
     → IsLineTried q.tables.now line (for_next t) (record { trial = u; outcome = outcome })
     → (told : List ℕ) × (after ≡ before ++ told) × IsForetold q n line t u outcome told
@@ -50,7 +50,7 @@ line_foretold q n line t u w0 w v outcome before after taken changes made none e
   record {
     tried = tried;
     told = ap (λ (x : List ℕ). tried_text q.manner.telling n line.words.now x outcome changes) given
-        ∙ ap (λ (x : List ℕ). tried_text q.manner.telling n line.words.now (taken_text u.given) outcome x)
+        ∙ ap (λ (x : List ℕ). tried_text q.manner.telling n line.words.now (taken_told u.given) outcome x)
         (same ∙ more ∙ ap (λ (x : List ℕ). x ++ changes_if_each q w0 w v) empty ∙ changes_by_trials q t u w0 w v f g h);
   },
 )

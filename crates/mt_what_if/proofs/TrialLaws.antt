@@ -7,7 +7,7 @@ use Rattle.mt_propagate.specs.WellFormed.{IsWellFormed}
 use Rattle.mt_book.specs.Step.{step, next_world, world_or, after_from}
 use Rattle.mt_book.specs.declared.command.Command.{Command}
 use Rattle.mt_book.specs.declared.command.Reply.{Reply}
-use Rattle.mt_what_if.specs.Trials.{TrialView, Ended, IsTrial, world_after, has_numbers, tried, with_command, with_refused, run, run_as, all_done, stopped, then_tried}
+use Rattle.mt_what_if.specs.Trials.{TrialView, Ended, IsTrial, world_after, has_numbers, tried, with_command, with_refused, attempt, attempt_as, all_done, stopped, then_tried}
 
 pub after_one_more : (w : WorldView) (cs : List Command) (c : Command) → after_from w (cs ++ c ∷ []) ≡ next_world (after_from w cs) c
 after_one_more w [] c = refl
@@ -40,16 +40,16 @@ tried_on w v u cs ds c d r t e h same more = record {
 }
 
 -- a command that is done is accepted
-pub run_done :
-    (t u : TrialView) (w v : WorldView) (c : Command) (r : Reply) → w ≡ world_after t → tried w c ≡ Ok (v, r) → u ≡ with_command t c → run t c ≡ all_done u
-unfolding run
-run_done t u w v c r e d same = ap (λ (x : WorldView). run_as t c (tried x c)) (sym e) ∙ ap (run_as t c) d ∙ ap all_done (sym same)
+pub attempt_done :
+    (t u : TrialView) (w v : WorldView) (c : Command) (r : Reply) → w ≡ world_after t → tried w c ≡ Ok (v, r) → u ≡ with_command t c → attempt t c ≡ all_done u
+unfolding attempt
+attempt_done t u w v c r e d same = ap (λ (x : WorldView). attempt_as t c (tried x c)) (sym e) ∙ ap (attempt_as t c) d ∙ ap all_done (sym same)
 
 -- one that is refused is the one that is refused
-pub run_refused :
-    (t u : TrialView) (w : WorldView) (c : Command) (f : Fault) → w ≡ world_after t → tried w c ≡ Err f → u ≡ with_refused t c → run t c ≡ stopped u f
-unfolding run
-run_refused t u w c f e d same = ap (λ (x : WorldView). run_as t c (tried x c)) (sym e) ∙ ap (run_as t c) d ∙ ap (λ (x : TrialView). stopped x f) (sym same)
+pub attempt_refused :
+    (t u : TrialView) (w : WorldView) (c : Command) (f : Fault) → w ≡ world_after t → tried w c ≡ Err f → u ≡ with_refused t c → attempt t c ≡ stopped u f
+unfolding attempt
+attempt_refused t u w c f e d same = ap (λ (x : WorldView). attempt_as t c (tried x c)) (sym e) ∙ ap (attempt_as t c) d ∙ ap (λ (x : TrialView). stopped x f) (sym same)
 
 -- behind what is done more is tried
 pub then_more : (e : Ended) (more : TrialView → Ended) (u : TrialView) → e ≡ all_done u → then_tried e more ≡ more u

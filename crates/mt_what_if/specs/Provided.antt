@@ -25,30 +25,30 @@ nested fs path [] = []
 nested fs path (name ∷ names) = command.MakeDir fs (path ++ name ∷ []) ∷ nested fs (path ++ name ∷ []) names
 
 -- in a directory of a filesystem that goes by one of the known names
-abbrev pub goes_by : Skeleton → ℕ → List ℕ → Bool
-goes_by s f name = option_map_or (nat_eq f) (fs_named s name) false
+abbrev pub goes_by_name : Skeleton → ℕ → List ℕ → Bool
+goes_by_name s f name = option_map_or (nat_eq f) (fs_named s name) false
 
 abbrev pub nested_in : List (List ℕ) → Skeleton → ℕ → List (List ℕ) → List Command
-nested_in known s d names = option_map_or (λ fs. nested fs (directory s d).path names) (find (goes_by s (directory s d).fs) known) []
+nested_in known s d names = option_map_or (λ fs. nested fs (directory s d).path names) (find (goes_by_name s (directory s d).fs) known) []
 
 -- where a path ends, if it leads to a directory that is there
 abbrev pub nested_at : List (List ℕ) → Skeleton → Result Place Fault → List (List ℕ) → List Command
 nested_at known s (Ok place) names = nested_in known s place.dir names
 nested_at known s (Err fault) names = []
 
-abbrev pub is_end : Result Place Fault → Bool
-is_end (Ok place) = true
-is_end (Err fault) = false
+abbrev pub is_place : Result Place Fault → Bool
+is_place (Ok place) = true
+is_place (Err fault) = false
 
-abbrev pub leads : WorldView → ℕ → List (List ℕ) → Bool
-leads w n path = is_end (walk w.skel w.forest n path)
+abbrev pub leads_somewhere : WorldView → ℕ → List (List ℕ) → Bool
+leads_somewhere w n path = is_place (walk w.skel w.forest n path)
 
 -- the directories of a path that are not there (path_resolution(7)): as far as its first names lead, nothing is to be made, and those behind
 -- them are, where these end
 abbrev pub lacking_behind : List (List ℕ) → WorldView → ℕ → List (List ℕ) → List (List ℕ) → List Command
 lacking_behind known w n front [] = []
 lacking_behind known w n front (name ∷ names) =
-    if leads w n (front ++ name ∷ []) then lacking_behind known w n (front ++ name ∷ []) names
+    if leads_somewhere w n (front ++ name ∷ []) then lacking_behind known w n (front ++ name ∷ []) names
     else nested_at known w.skel (walk w.skel w.forest n front) (name ∷ names)
 
 abbrev pub directories_lacking : List (List ℕ) → WorldView → ℕ → List (List ℕ) → List Command

@@ -78,13 +78,10 @@ row_named w space target = if is_at_path w space target then row_at_path w space
 abbrev pub unmount_line_text : WorldView → AskedLine → List ℕ → Bool → List ℕ → List ℕ
 unmount_line_text w line target lazy fs = unmount_text w line.space target lazy (script_text (operation.Umount target lazy One) (decimal line.space) fs [])
 
-abbrev pub is_no_text : List ℕ → Bool
-is_no_text text = nat_eq (length text) 0
-
 -- the lines of a session that a line asks for in a world, given the filesystem that it mounts; which mounts an unmount of several is of is left open
 abbrev pub IsAskedScript : Operation → AskedLine → List ℕ → WorldView → List ℕ → Type 0
 IsAskedScript (operation.Line verb words) line fs w script = script ≡ line.own.items
-IsAskedScript (operation.Umount target lazy One) line fs w script = (script ≡ unmount_line_text w line target lazy fs) × (is_no_text script ≡ false)
+IsAskedScript (operation.Umount target lazy One) line fs w script = (script ≡ unmount_line_text w line target lazy fs) × (nat_eq (length script) 0 ≡ false)
 IsAskedScript (operation.Umount target lazy reach) line fs w script = (r : Row) × (row_named w line.space target ≡ Some r)
 IsAskedScript asked line fs w script = script ≡ script_text asked (decimal line.space) fs (options_in w line.space asked)
 
@@ -93,7 +90,7 @@ IsScriptWith fs w line script = IsAskedScript line.asked.operation line fs w scr
 
 -- an unmount names no mount, and then there are none
 abbrev pub AsksForNone : Operation → AskedLine → List ℕ → WorldView → Type 0
-AsksForNone (operation.Umount target lazy One) line fs w = is_no_text (unmount_line_text w line target lazy fs) ≡ true
+AsksForNone (operation.Umount target lazy One) line fs w = nat_eq (length (unmount_line_text w line target lazy fs)) 0 ≡ true
 AsksForNone (operation.Umount target lazy reach) line fs w = row_named w line.space target ≡ None
 AsksForNone asked line fs w = ⊥
 

@@ -15,22 +15,22 @@ taken_words (MakeDir fs path) = codes "directory " ++ path_text path ++ codes " 
 taken_words c = []
 
 -- the second directory is made in the first, or below it
-abbrev pub is_above_directory : Command → List ℕ → List (List ℕ) → Bool
-is_above_directory (MakeDir fs path) gs below = bytes_eq fs gs && starts_with bytes_eq below path
-is_above_directory c gs below = false
+abbrev pub encloses_directory : Command → List ℕ → List (List ℕ) → Bool
+encloses_directory (MakeDir fs path) gs below = bytes_eq fs gs && starts_with bytes_eq below path
+encloses_directory c gs below = false
 
-abbrev pub is_above : Command → Command → Bool
-is_above c (MakeDir gs below) = is_above_directory c gs below
-is_above c d = false
+abbrev pub encloses : Command → Command → Bool
+encloses c (MakeDir gs below) = encloses_directory c gs below
+encloses c d = false
 
-abbrev pub is_above_next : Command → List Command → Bool
-is_above_next c [] = false
-is_above_next c (d ∷ cs) = is_above c d
+abbrev pub encloses_next : Command → List Command → Bool
+encloses_next c [] = false
+encloses_next c (d ∷ cs) = encloses c d
 
 -- each is told, but of directories that are made one in the other the last one alone
 abbrev pub taken_if : Command → List Command → List ℕ
-taken_if c cs = if is_above_next c cs then [] else taken_words c
+taken_if c cs = if encloses_next c cs then [] else taken_words c
 
-abbrev pub taken_text : List Command → List ℕ
-taken_text [] = []
-taken_text (c ∷ cs) = taken_if c cs ++ taken_text cs
+abbrev pub taken_told : List Command → List ℕ
+taken_told [] = []
+taken_told (c ∷ cs) = taken_if c cs ++ taken_told cs

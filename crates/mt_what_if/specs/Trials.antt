@@ -81,16 +81,16 @@ unfoldable pub then_tried : Ended → (TrialView → Ended) → Ended
 then_tried e more = next_tried e.outcome e.trial more
 
 -- a command is tried: it is accepted, or it is the one that is refused, and changes nothing
-abbrev pub run_as : TrialView → Command → Result (WorldView × Reply) Fault → Ended
-run_as t c (Ok p) = all_done (with_command t c)
-run_as t c (Err fault) = stopped (with_refused t c) fault
+abbrev pub attempt_as : TrialView → Command → Result (WorldView × Reply) Fault → Ended
+attempt_as t c (Ok p) = all_done (with_command t c)
+attempt_as t c (Err fault) = stopped (with_refused t c) fault
 
-unfoldable pub run : TrialView → Command → Ended
-run t c = run_as t c (tried (world_after t) c)
+unfoldable pub attempt : TrialView → Command → Ended
+attempt t c = attempt_as t c (tried (world_after t) c)
 
 -- commands are given to a line, one after another
 unfoldable pub give : TrialView → Command → Ended
-give t c = then_tried (run t c) (λ u. all_done (with_given u c))
+give t c = then_tried (attempt t c) (λ u. all_done (with_given u c))
 
 abbrev pub give_all : TrialView → List Command → Ended
 give_all t [] = all_done t

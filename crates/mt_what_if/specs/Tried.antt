@@ -15,14 +15,14 @@ use Rattle.mt_questions.specs.Tables.{ToldTable}
 use Rattle.mt_book.specs.declared.command.Command.{Command}
 use Rattle.mt_what_if.specs.Provided.{unknown_type, filesystem_given, command_given}
 use Rattle.mt_what_if.specs.Scripts.{filesystem_in, IsScriptWith, HasNoScript}
-use Rattle.mt_what_if.specs.Trials.{TrialView, Ended, world_after, last_space, run, all_done, stopped, then_tried}
+use Rattle.mt_what_if.specs.Trials.{TrialView, Ended, world_after, last_space, attempt, all_done, stopped, then_tried}
 use Rattle.mt_what_if.specs.declared.asked.AskedLine.{AskedLine}
 use Rattle.mt_what_if.specs.declared.trying.Outcome.{Outcome}
 use Rattle.mt_what_if.specs.declared.trying.Outcome.TheVariants.{Done, Refused}
 
 -- a command is tried once it is given what it needs and is not there
 unfoldable pub command_run : TrialView → Command → Ended
-command_run t c = then_tried (command_given t c) (λ u. run u c)
+command_run t c = then_tried (command_given t c) (λ u. attempt u c)
 
 -- a line of a session is the command that it says, and is refused where it says none; the empty line after the last one does nothing
 abbrev pub request_run : TrialView → Result Request Fault → Ended

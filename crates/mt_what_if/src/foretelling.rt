@@ -14,7 +14,7 @@ use crate::line_told::{Tried, push_tried};
 use crate::naming::{numbers_of, spaces_told};
 use crate::numbers::Numbers;
 use crate::scene::Scene;
-use crate::taken::taken_text;
+use crate::taken::taken_told;
 use crate::told::push_events_text;
 use crate::trial::Trial;
 use crate::trying::{Outcome, try_line};
@@ -127,7 +127,7 @@ fn foretell_line(
         &before,
         trial.world(),
     )?;
-    let taken = taken_text(alloc, trial.given())?;
+    let taken = taken_told(alloc, trial.given())?;
     let tried = Tried {
         telling: question.manner.telling,
         number,

@@ -6,7 +6,7 @@ ghost use Rattle.mt_mounts.specs.Walk.{walk};
 ghost use Rattle.mt_propagate.specs.World.{world_view};
 ghost use Rattle.mt_propagate.specs.WellFormed.{IsWellFormed};
 ghost use Rattle.mt_what_if.specs.Trials.{all_done, stopped};
-ghost use Rattle.mt_what_if.specs.Provided.{filesystem_lacking, nested, goes_by, nested_in, nested_at, leads, directories_lacking, filesystem_given, directories_given, filesystem_mounted, unknown_type, mounted_given, path_given, paths_given, command_given};
+ghost use Rattle.mt_what_if.specs.Provided.{filesystem_lacking, nested, goes_by_name, nested_in, nested_at, leads_somewhere, directories_lacking, filesystem_given, directories_given, filesystem_mounted, unknown_type, mounted_given, path_given, paths_given, command_given};
 
 use crate::trial::{Trial, give_all};
 use crate::walking::place_at;
@@ -52,8 +52,8 @@ fn filesystem_lacking(
 }
 
 /// Whether a filesystem goes by a name.
-fn goes_by(skel: &Skel, fs: FsId, name: &Label) -> bool
-    ensures { result ≡ goes_by skel.now fs name.now }
+fn goes_by_name(skel: &Skel, fs: FsId, name: &Label) -> bool
+    ensures { result ≡ goes_by_name skel.now fs name.now }
 {
     match skel.fs(name) {
         Some(found) => fs == found,
@@ -63,10 +63,10 @@ fn goes_by(skel: &Skel, fs: FsId, name: &Label) -> bool
 
 /// The first of these names by which a filesystem goes.
 fn name_of<'a>(skel: &Skel, known: &'a [Label], fs: FsId) -> Option<&'a Label>
-    ensures { MatchOption result (find (goes_by skel.now fs) known.entry.now ≡ None) (λ name. find (goes_by skel.now fs) known.entry.now ≡ Some name.now) }
+    ensures { MatchOption result (find (goes_by_name skel.now fs) known.entry.now ≡ None) (λ name. find (goes_by_name skel.now fs) known.entry.now ≡ Some name.now) }
 {
     'known: for name in known {
-        if goes_by(skel, fs, name) {
+        if goes_by_name(skel, fs, name) {
             return Some(name);
         }
     }
@@ -139,9 +139,9 @@ fn nested_at(
 }
 
 /// Whether a path leads to a directory that is there.
-fn leads(world: &World, space: SpaceId, path: &[Name]) -> bool
+fn leads_somewhere(world: &World, space: SpaceId, path: &[Name]) -> bool
     requires { IsWellFormed (world_view world.now) }
-    ensures { result ≡ leads (world_view world.now) space path.now }
+    ensures { result ≡ leads_somewhere (world_view world.now) space path.now }
 {
     place_at(world, space, path).is_some()
 }
@@ -159,7 +159,7 @@ fn directories_lacking(
     ensures memory { IsOkUnless result Fault.NoMemory }
 {
     'names: for (before, _name) in path.iter().enumerate() {
-        if !leads(world, space, &path[..before + 1]) {
+        if !leads_somewhere(world, space, &path[..before + 1]) {
             return nested_at(
                 alloc,
                 known,

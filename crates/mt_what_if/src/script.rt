@@ -1,11 +1,11 @@
 //! The lines of a session that a line asks for.
-ghost use Rattle.std.specs.Prelude.{◌≡◌, ◌≢◌, true, false, IfOk, IfErr, IsOkUnless, decimal};
+ghost use Rattle.std.specs.Prelude.{◌≡◌, ◌≢◌, nat_eq, length, true, false, IfOk, IfErr, IsOkUnless, decimal};
 ghost use Rattle.mt_propagate.specs.World.{world_view};
 ghost use Rattle.mt_propagate.specs.WellFormed.{IsWellFormed};
 ghost use Rattle.mt_forms.specs.Scripts.{script_text};
 ghost use Rattle.mt_what_if.specs.Difference.{rows_if_there};
 ghost use Rattle.std.specs.Option.{option_map_or};
-ghost use Rattle.mt_what_if.specs.Scripts.{options_at, options_in, is_at_path, unmount_text, is_no_text, IsScriptWith, HasNoScript};
+ghost use Rattle.mt_what_if.specs.Scripts.{options_at, options_in, is_at_path, unmount_text, IsScriptWith, HasNoScript};
 ghost use Rattle.mt_what_if.specs.Unmounts.{last_of_source, unmount_line};
 
 use crate::asked::{AskedLine, number_text};
@@ -134,8 +134,8 @@ fn unmount_script(
     plain: Vec<u8>,
 ) -> Result<Vec<u8>, Fault>
     requires { IsWellFormed (world_view world.now) }
-    ensures script { IfOk result (λ script. (script.items ≡ unmount_text (world_view world.now) line.now.space target.now lazy plain.items) × (is_no_text script.items ≡ false)) }
-    ensures none { IfErr result (λ fault. fault ≢ Fault.NoMemory → (is_no_text (unmount_text (world_view world.now) line.now.space target.now lazy plain.items) ≡ true) × (fault ≡ Fault.NotMountRoot)) }
+    ensures script { IfOk result (λ script. (script.items ≡ unmount_text (world_view world.now) line.now.space target.now lazy plain.items) × (nat_eq (length script.items) 0 ≡ false)) }
+    ensures none { IfErr result (λ fault. fault ≢ Fault.NoMemory → (nat_eq (length (unmount_text (world_view world.now) line.now.space target.now lazy plain.items)) 0 ≡ true) × (fault ≡ Fault.NotMountRoot)) }
 {
     let script = unmount_text(alloc, world, line.space, target, lazy, plain)?;
     if script.is_empty() {

@@ -4,7 +4,7 @@ ghost use Rattle.std.specs.List.{starts_with};
 ghost use Rattle.std.specs.Str.{bytes_eq};
 ghost use Rattle.mt_skel.specs.Escapes.{escaped};
 ghost use Rattle.mt_info.specs.RowLine.{path_text};
-ghost use Rattle.mt_what_if.specs.Taken.{taken_words, is_above_directory, is_above, is_above_next, taken_if, taken_text};
+ghost use Rattle.mt_what_if.specs.Taken.{taken_words, encloses_directory, encloses, encloses_next, taken_if, taken_told};
 
 use mt_book::command::Command;
 use mt_info::print::{push_label, push_path};
@@ -57,13 +57,13 @@ fn begins_with(alloc: Global, below: &Names, path: &Names) -> Result<bool, Fault
 }
 
 /// Whether a command makes a directory which is this one, or above it.
-fn is_above_directory(
+fn encloses_directory(
     alloc: Global,
     command: &Command,
     other: &Label,
     below: &Names,
 ) -> Result<bool, Fault>
-    ensures above { IfOk result (λ above. above ≡ is_above_directory command.now other.now below.now) }
+    ensures above { IfOk result (λ above. above ≡ encloses_directory command.now other.now below.now) }
     ensures memory { IsOkUnless result Fault.NoMemory }
 {
     match command {
@@ -76,24 +76,24 @@ fn is_above_directory(
 }
 
 /// Whether a command makes a directory above that of another one.
-fn is_above(alloc: Global, command: &Command, next: &Command) -> Result<bool, Fault>
-    ensures above { IfOk result (λ above. above ≡ is_above command.now next.now) }
+fn encloses(alloc: Global, command: &Command, next: &Command) -> Result<bool, Fault>
+    ensures above { IfOk result (λ above. above ≡ encloses command.now next.now) }
     ensures memory { IsOkUnless result Fault.NoMemory }
 {
     match next {
-        Command::MakeDir { fs, path } => is_above_directory(alloc, command, fs, path),
+        Command::MakeDir { fs, path } => encloses_directory(alloc, command, fs, path),
         _ => Ok(false),
     }
 }
 
 /// Whether a command makes a directory above that of the first of these.
-fn is_above_next(alloc: Global, command: &Command, later: &[Command]) -> Result<bool, Fault>
-    ensures above { IfOk result (λ above. above ≡ is_above_next command.now later.now) }
+fn encloses_next(alloc: Global, command: &Command, later: &[Command]) -> Result<bool, Fault>
+    ensures above { IfOk result (λ above. above ≡ encloses_next command.now later.now) }
     ensures memory { IsOkUnless result Fault.NoMemory }
 {
     match later {
         [] => Ok(false),
-        [next, ..] => is_above(alloc, command, next),
+        [next, ..] => encloses(alloc, command, next),
     }
 }
 
@@ -103,7 +103,7 @@ fn push_if(text: &mut Vec<u8>, command: &Command, later: &[Command]) -> Result<(
     ensures memory { IsOkUnless result Fault.NoMemory }
 {
     let alloc = *text.allocator();
-    if is_above_next(alloc, command, later)? {
+    if encloses_next(alloc, command, later)? {
         return Ok(());
     }
     push_words(text, command)?;
@@ -112,8 +112,8 @@ fn push_if(text: &mut Vec<u8>, command: &Command, later: &[Command]) -> Result<(
 
 /// What is taken to be there where these commands were given, a line each: filesystems and directories, and of directories that are
 /// made one in the other the last one alone. Refused as `NoMemory` alone.
-pub(crate) fn taken_text(alloc: Global, given: &[Command]) -> Result<Vec<u8>, Fault>
-    ensures text { IfOk result (λ text. text.items ≡ taken_text given.now) }
+pub(crate) fn taken_told(alloc: Global, given: &[Command]) -> Result<Vec<u8>, Fault>
+    ensures text { IfOk result (λ text. text.items ≡ taken_told given.now) }
     ensures memory { IsOkUnless result Fault.NoMemory }
 {
     let mut text = Vec::new(alloc);

@@ -2,7 +2,7 @@
 ghost use Rattle.std.specs.Prelude.{◌≡◌, ◌≢◌, [], ◌++◌, IfOk, OnOk, IfErr, OnErr, Ok, Err, IsOkUnless};
 ghost use Rattle.mt_propagate.specs.World.{world_view};
 ghost use Rattle.mt_propagate.specs.WellFormed.{IsWellFormed};
-ghost use Rattle.mt_what_if.specs.Trials.{last_space, has_numbers, tried, world_after, names_made, for_next, run, give, give_all, all_done, stopped};
+ghost use Rattle.mt_what_if.specs.Trials.{last_space, has_numbers, tried, world_after, names_made, for_next, attempt, give, give_all, all_done, stopped};
 
 use mt_book::command::{Command, Reply};
 use mt_book::step::step;
@@ -170,8 +170,8 @@ impl Trial {
     /// `NoMemory`.
     pub fn run(&mut self, command: &Command) -> Result<(), Fault>
         ensures start { self.new.start ≡ self.old.start }
-        ensures done { OnOk result (run self.old command.now ≡ all_done self.new) }
-        ensures refused { IfErr result (λ fault. fault ≢ Fault.NoMemory → run self.old command.now ≡ stopped self.new fault) }
+        ensures done { OnOk result (attempt self.old command.now ≡ all_done self.new) }
+        ensures refused { IfErr result (λ fault. fault ≢ Fault.NoMemory → attempt self.old command.now ≡ stopped self.new fault) }
     {
         let copy = command.copy()?;
         self.commands.push(copy)?;

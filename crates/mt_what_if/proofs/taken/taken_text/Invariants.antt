@@ -1,7 +1,7 @@
 use Rattle.std.proofs.Common.{◌≡◌, ◌++◌, drop}
-use Rattle.mt_what_if.specs.Taken.{taken_text}
-use Rattle.mt_what_if.proofs.taken.taken_text.Given as goal
+use Rattle.mt_what_if.specs.Taken.{taken_told}
+use Rattle.mt_what_if.proofs.taken.taken_told.Given as goal
 
 -- what is told, and what is to come
 abbrev pub invariant-given : goal.invariant-given
-invariant-given l = l.text.items ++ taken_text (drop l.place l.given) ≡ taken_text l.given
+invariant-given l = l.text.items ++ taken_told (drop l.place l.given) ≡ taken_told l.given
