@@ -160,14 +160,7 @@ fn directories_lacking(
 {
     'names: for (before, _name) in path.iter().enumerate() {
         if !leads_somewhere(world, space, &path[..before + 1]) {
-            return nested_at(
-                alloc,
-                known,
-                world,
-                space,
-                &path[..before],
-                &path[before..],
-            );
+            return nested_at(alloc, known, world, space, &path[..before], &path[before..]);
         }
     }
     Ok(Vec::new(alloc))
@@ -234,12 +227,7 @@ fn give_mounted(trial: &mut Trial, alloc: Global, command: &Command) -> Result<(
 
 /// Gives a command the directories of one of its paths, if it has that, so far as they are not there.
 #[tactic(auto, unfolding(crate::specs::Provided::path_given))]
-fn give_path(
-    trial: &mut Trial,
-    alloc: Global,
-    command: &Command,
-    which: Which,
-) -> Result<(), Fault>
+fn give_path(trial: &mut Trial, alloc: Global, command: &Command, which: Which) -> Result<(), Fault>
     ensures start { trial.new.start ≡ trial.old.start }
     ensures done { OnOk result (path_given trial.old command.now which ≡ all_done trial.new) }
     ensures refused { IfErr result (λ fault. fault ≢ Fault.NoMemory → path_given trial.old command.now which ≡ stopped trial.new fault) }
@@ -267,11 +255,7 @@ fn give_paths(trial: &mut Trial, alloc: Global, command: &Command) -> Result<(),
 /// Gives a command the filesystem that it mounts and the directories of its paths, so far as they are not there. Refused as the
 /// commands that make them, and as `NoMemory`.
 #[tactic(auto, unfolding(crate::specs::Provided::command_given))]
-pub(crate) fn give_needed(
-    trial: &mut Trial,
-    alloc: Global,
-    command: &Command,
-) -> Result<(), Fault>
+pub(crate) fn give_needed(trial: &mut Trial, alloc: Global, command: &Command) -> Result<(), Fault>
     ensures start { trial.new.start ≡ trial.old.start }
     ensures done { OnOk result (command_given trial.old command.now ≡ all_done trial.new) }
     ensures refused { IfErr result (λ fault. fault ≢ Fault.NoMemory → command_given trial.old command.now ≡ stopped trial.new fault) }

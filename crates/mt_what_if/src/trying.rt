@@ -130,12 +130,7 @@ fn label_of(alloc: Global, word: &[u8]) -> Result<Label, Fault>
 
 /// Gives a line the filesystem of a name, of a type. Refused as `TooLong` where either is no label, as the command that makes the
 /// filesystem, and as `NoMemory`.
-fn give_named(
-    trial: &mut Trial,
-    alloc: Global,
-    name: &[u8],
-    kind: &[u8],
-) -> Result<(), Fault>
+fn give_named(trial: &mut Trial, alloc: Global, name: &[u8], kind: &[u8]) -> Result<(), Fault>
     ensures start { trial.new.start ≡ trial.old.start }
     ensures done { OnOk result (named_given trial.old name.now kind.now ≡ all_done trial.new) }
     ensures refused { IfErr result (λ fault. fault ≢ Fault.NoMemory → named_given trial.old name.now kind.now ≡ stopped trial.new fault) }
