@@ -1,5 +1,5 @@
 -- The world after one more command.
-use Rattle.std.proofs.Common.{◌≡◌, Bool, true, false, if◌then◌else◌, List, [], ◌∷◌, ◌++◌, Result, Ok, Err, refl, ap, sym, subst, ◌∙◌}
+use Rattle.std.proofs.Common.{◌≡◌, ℕ, Bool, true, false, if◌then◌else◌, List, [], ◌∷◌, ◌++◌, Result, Ok, Err, refl, ap, sym, subst, ◌∙◌}
 use Rattle.mt_skel.specs.declared.fault.Fault.{Fault}
 use Rattle.mt_skel.specs.declared.fault.Fault.TheVariants.{TooMany}
 use Rattle.mt_propagate.specs.World.{WorldView}
@@ -7,7 +7,7 @@ use Rattle.mt_propagate.specs.WellFormed.{IsWellFormed}
 use Rattle.mt_book.specs.Step.{step, next_world, world_or, after_from}
 use Rattle.mt_book.specs.declared.command.Command.{Command}
 use Rattle.mt_book.specs.declared.command.Reply.{Reply}
-use Rattle.mt_what_if.specs.Trials.{TrialView, Ended, IsTrial, world_after, has_numbers, tried, with_command, with_refused, attempt, attempt_as, all_done, stopped, then_tried}
+use Rattle.mt_what_if.specs.Trials.{TrialView, Ended, IsTrial, world_after, has_numbers, tried, names_made, attempt, attempt_as, all_done, stopped, then_tried}
 
 pub after_one_more : (w : WorldView) (cs : List Command) (c : Command) → after_from w (cs ++ c ∷ []) ≡ next_world (after_from w cs) c
 after_one_more w [] c = refl
@@ -41,15 +41,27 @@ tried_on w v u cs ds c d r t e h same more = record {
 
 -- a command that is done is accepted
 pub attempt_done :
-    (t u : TrialView) (w v : WorldView) (c : Command) (r : Reply) → w ≡ world_after t → tried w c ≡ Ok (v, r) → u ≡ with_command t c → attempt t c ≡ all_done u
+    (t s : TrialView) (w v : WorldView) (cs : List Command) (ns : List (List ℕ)) (c d : Command) (r : Reply)
+    → s ≡ t → w ≡ world_after s → tried w c ≡ Ok (v, r) → d ≡ c → cs ≡ s.commands ++ d ∷ [] → ns ≡ s.names ++ names_made c
+    → attempt t c ≡ all_done (record s { commands = cs; names = ns })
 unfolding attempt
-attempt_done t u w v c r e d same = ap (λ (x : WorldView). attempt_as t c (tried x c)) (sym e) ∙ ap (attempt_as t c) d ∙ ap all_done (sym same)
+attempt_done t s w v cs ns c d r same e h copy more named =
+    ap (λ (x : TrialView). attempt_as x c (tried (world_after x) c)) (sym same)
+    ∙ ap (λ (x : WorldView). attempt_as s c (tried x c)) (sym e) ∙ ap (attempt_as s c) h
+    ∙ ap (λ (xs : List Command). all_done (record s { commands = xs; names = s.names ++ names_made c })) (sym (more ∙ ap (λ (x : Command). s.commands ++ x ∷ []) copy))
+    ∙ ap (λ (xs : List (List ℕ)). all_done (record s { commands = cs; names = xs })) (sym named)
 
 -- one that is refused is the one that is refused
 pub attempt_refused :
-    (t u : TrialView) (w : WorldView) (c : Command) (f : Fault) → w ≡ world_after t → tried w c ≡ Err f → u ≡ with_refused t c → attempt t c ≡ stopped u f
+    (t s : TrialView) (w : WorldView) (cs rs : List Command) (c d : Command) (f : Fault)
+    → s ≡ t → w ≡ world_after s → tried w c ≡ Err f → cs ≡ s.commands → d ≡ c → rs ≡ s.refused ++ d ∷ []
+    → attempt t c ≡ stopped (record s { commands = cs; refused = rs }) f
 unfolding attempt
-attempt_refused t u w c f e d same = ap (λ (x : WorldView). attempt_as t c (tried x c)) (sym e) ∙ ap (attempt_as t c) d ∙ ap (λ (x : TrialView). stopped x f) (sym same)
+attempt_refused t s w cs rs c d f same e h back copy more =
+    ap (λ (x : TrialView). attempt_as x c (tried (world_after x) c)) (sym same)
+    ∙ ap (λ (x : WorldView). attempt_as s c (tried x c)) (sym e) ∙ ap (attempt_as s c) h
+    ∙ ap (λ (xs : List Command). stopped (record s { refused = xs }) f) (sym (more ∙ ap (λ (x : Command). s.refused ++ x ∷ []) copy))
+    ∙ ap (λ (xs : List Command). stopped (record s { commands = xs; refused = rs }) f) (sym back)
 
 -- behind what is done more is tried
 pub then_more : (e : Ended) (more : TrialView → Ended) (u : TrialView) → e ≡ all_done u → then_tried e more ≡ more u

@@ -1,7 +1,8 @@
 //! Commands, tried one after another on a world.
-ghost use Rattle.std.specs.Prelude.{◌≡◌, ◌≢◌, [], ◌++◌, IfOk, OnOk, IfErr, OnErr, Ok, Err, IsOkUnless};
+ghost use Rattle.std.specs.Prelude.{◌≡◌, ◌≢◌, List, [], ◌∷◌, ◌++◌, IfOk, OnOk, IfErr, OnErr, Ok, Err, IsOkUnless};
 ghost use Rattle.mt_propagate.specs.World.{world_view};
 ghost use Rattle.mt_propagate.specs.WellFormed.{IsWellFormed};
+ghost use Rattle.mt_book.specs.declared.command.Command.{Command as CommandOf};
 ghost use Rattle.mt_what_if.specs.Trials.{last_space, has_numbers, tried, world_after, names_made, for_next, attempt, give, give_all, all_done, stopped};
 
 use mt_book::command::{Command, Reply};
@@ -94,6 +95,13 @@ fn push_made_name(names: &mut Vec<Label>, command: &Command) -> Result<(), Fault
     }
 }
 
+/// Takes the last of these commands away again.
+fn take_back(commands: &mut Vec<Command>)
+    ensures { (cs : List CommandOf) (c : CommandOf) → commands.old.items ≡ cs ++ c ∷ [] → commands.new.items ≡ cs }
+{
+    let _last = commands.pop();
+}
+
 impl Trial {
     /// A world that is equal to this one, on which no command was tried yet, and names that its filesystems go by. Refused as
     /// `NoMemory` alone.
@@ -178,7 +186,7 @@ impl Trial {
         match try_step(&mut self.world, command) {
             Ok(_reply) => push_made_name(&mut self.names, command),
             Err(fault) => {
-                let _popped = self.commands.pop();
+                take_back(&mut self.commands);
                 self.refused.push(command.copy()?)?;
                 Err(fault)
             }

@@ -77,6 +77,7 @@ fn try_session_line(trial: &mut Trial, alloc: Global, line: &[u8]) -> Result<(),
 }
 
 /// Tries the lines of a session in turn, up to one that is refused.
+#[tactic(auto, unfolding(crate::specs::Tried::script_run))]
 fn try_script(trial: &mut Trial, alloc: Global, script: &[u8]) -> Result<(), Fault>
     ensures start { trial.new.start ≡ trial.old.start }
     ensures done { OnOk result (script_run trial.old script.now ≡ all_done trial.new) }
