@@ -1,6 +1,7 @@
 -- What is tried behind what is done, and nothing behind what is refused.
-use Rattle.std.proofs.Common.{◌≡◌, ℕ, ◌+◌, ◌<◌, List, [], ◌∷◌, ◌++◌, length, drop, get_or, refl, sym, ap, ◌∙◌}
+use Rattle.std.proofs.Common.{◌≡◌, ℕ, ◌+◌, ◌<◌, List, [], ◌∷◌, ◌++◌, length, drop, get_or, sym, ap, ◌∙◌}
 use Rattle.std.proofs.lemmas.List.{drop_more}
+use Rattle.mt_lines.specs.Words.{pieces}
 use Rattle.mt_skel.specs.declared.fault.Fault.{Fault}
 use Rattle.mt_book.specs.declared.command.Command.{Command}
 use Rattle.mt_forms.specs.declared.operation.Operation.{Operation}
@@ -72,9 +73,15 @@ pub lines_more :
     (t u : TrialView) (all lines : List (List ℕ)) (line : List ℕ) → all ≡ line ∷ lines → line_run t line ≡ all_done u → lines_run u lines ≡ lines_run t all
 lines_more t u all lines line e h = sym (then_more (line_run t line) (λ (v : TrialView). lines_run v lines) u h) ∙ ap (lines_run t) (sym e)
 
-pub lines_stopped :
+lines_stopped :
     (t u : TrialView) (all lines : List (List ℕ)) (line : List ℕ) (f : Fault) → all ≡ line ∷ lines → line_run t line ≡ stopped u f → lines_run t all ≡ stopped u f
 lines_stopped t u all lines line f e h = ap (lines_run t) e ∙ then_stopped (line_run t line) (λ (v : TrialView). lines_run v lines) u f h
+
+pub script_stopped :
+    (t0 t u : TrialView) (script : List ℕ) (begun all lines : List (List ℕ)) (line : List ℕ) (f : Fault) → begun ≡ pieces 10 script
+    → lines_run t all ≡ lines_run t0 begun → all ≡ line ∷ lines → line_run t line ≡ stopped u f → script_run t0 script ≡ stopped u f
+unfolding script_run
+script_stopped t0 t u script begun all lines line f e i steps h = ap (lines_run t0) (sym e) ∙ sym i ∙ lines_stopped t u all lines line f steps h
 
 -- the later lines, behind the first ones
 pub scripts_more : (t u : TrialView) (asked : Operation) (script : List ℕ) → script_run t script ≡ all_done u → scripts_run t asked script ≡ later_run u asked

@@ -24,4 +24,15 @@ returns-in-Ok-clause-done c =
     c.push_made_name.ensures.names
 
 pub returns-in_ok-push-in-Err-clause-refused : goal.returns-in_ok-push-in-Err-clause-refused
-returns-in_ok-push-in-Err-clause-refused c = ?
+returns-in_ok-push-in-Err-clause-refused c =
+    let s : TrialView = record {
+      start = world_view c.self.inside.start;
+      commands = c.self.inside.commands.items;
+      names = c.self.inside.names.items;
+      given = c.self.inside.given.items;
+      refused = c.self.inside.refused.items;
+    } in
+    λ ne. attempt_refused c.args.self.now s (world_view c.self.inside.world) c.take_back.new.commands.items c.push-in-Err.new.self.items c.args.command.now
+        c.in_ok-copy-in-Err.field-0 c.in-Err.fault c.self.view_is c.self.invariant.leads (c.in-Err.ensures.refused ne)
+        (c.take_back.ensures c.self.inside.commands.items c.in_ok-copy.copy c.in_ok-push.ensures.items) c.in_ok-copy-in-Err.ensures.copy
+        c.in_ok-push-in-Err.ensures.items
