@@ -1,18 +1,27 @@
 -- Ends of lines.
-use Rattle.std.proofs.Common.{◌≡◌, ℕ, ◌≤◌, ◌<◌, true, false, Bool, List, [], Option, Some, None, refl, arith}
+use Rattle.std.proofs.Common.{◌≡◌, ℕ, ◌≤◌, ◌<◌, true, false, Bool, List, [], Option, Some, None, Result, Ok, refl, arith}
 use Rattle.std.specs.Option.{ForSome}
+use Rattle.mt_skel.specs.declared.fault.Fault.{Fault}
 use Rattle.mt_lines.specs.declared.stream.StreamFault.{StreamFault}
 use Rattle.mt_lines.specs.declared.line.ReadFault.{ReadFault}
 use Rattle.mt_lines.specs.Reading.{IsFaultCause}
 use Rattle.mt_session.specs.declared.serving.End.{End}
-use Rattle.mt_session.specs.declared.serving.End.TheVariants.{Read, Cut as CutOff}
-use Rattle.mt_session.specs.Session.{IsReadEnd, IsReadEndRun, IsCutCause, IsCutRun}
+use Rattle.mt_requests.specs.declared.request.Request.{Request}
+use Rattle.mt_requests.specs.declared.request.Request.TheVariants.{Quit as AsksQuit, Stop as AsksStop}
+use Rattle.mt_session.specs.declared.serving.End.TheVariants.{Quit, Stop, Read, Cut as CutOff}
+use Rattle.mt_session.specs.Session.{ends_by, IsReadEnd, IsReadEndRun, IsCutCause, IsCutRun}
 use Rattle.mt_session.specs.Answering.{ends_whole, is_by_answer}
 
 -- an end by which no answer was cut, as one that comes once an answer is out whole: no call of the writer has failed
 abbrev pub is_uncut : Option End → Bool
 is_uncut (Some (CutOff cut)) = false
 is_uncut end = true
+
+-- what a request brings comes once its answer is out whole
+pub ends_are_whole : (asked : Result Request Fault) → ForSome (ends_by asked) (λ e. ends_whole e ≡ true)
+ends_are_whole (Ok AsksQuit) e is = let same : Quit ≡ e = cc in rw (← same) refl
+ends_are_whole (Ok AsksStop) e is = let same : Stop ≡ e = cc in rw (← same) refl
+ends_are_whole asked e is = cc
 
 pub whole_uncut : (end : Option End) → ForSome end (λ e. ends_whole e ≡ true) → is_uncut end ≡ true
 whole_uncut None h = refl
