@@ -1,12 +1,10 @@
 -- Options of a `setattr` line, by what stands behind their keys.
 use Rattle.std.proofs.Common.{arith, suc, ◌≡◌, ℕ, Bool, true, false, nat_lt, List, [], ◌∷◌, length, drop, cond, ◌||◌, codes, Option, Some, None, is_some, refl, ◌∙◌}
 use Rattle.std.proofs.lemmas.Bool.Decides.{nat_tests}
-use Rattle.std.specs.List.{filter, find, list_all, list_any}
+use Rattle.std.specs.List.{filter, find, list_any}
 use Rattle.std.specs.Option.{option_map, option_map_or}
-use Rattle.mt_lines.specs.Words.{pieces}
 use Rattle.mt_setattr.specs.declared.change.Change.{Change}
-use Rattle.mt_setattr.specs.declared.change.SetWords.{SetWords}
-use Rattle.mt_requests.specs.Options.{has_key, is_repeated, is_set_word, lists, are_options, nothing_set, nothing_cleared, set_words, clr_words, kind_of, said, change_with, change_of}
+use Rattle.mt_requests.specs.Options.{has_key, is_repeated, are_options, nothing_set, nothing_cleared, set_words, clr_words, kind_of, said, change_with, change_of}
 
 -- something passes a test where the list of all that do is not empty
 any_filtered : {A : Type 0} (test : A → Bool) (xs : List A) → list_any test xs ≡ nat_lt 0 (length (filter test xs))
@@ -56,11 +54,3 @@ change_by_options options =
     let prop = read_said (codes "prop=") (Some None) (λ word. option_map (λ kind. Some kind) (kind_of word)) options in
     let recursive = read_said (codes "rec") false (λ rest. true) options ∙ flag_said (text_of (codes "rec") options) in
     rw (set, clr, prop, recursive) refl
-
--- what is set where each word of a list can be
-pub set_listed : (list : List ℕ) (ro nosuid nodev noexec nosymfollow nodiratime relatime noatime strictatime : Bool) → list_all is_set_word (pieces 44 list) ≡ true
-    → ro ≡ lists list (codes "ro") → nosuid ≡ lists list (codes "nosuid") → nodev ≡ lists list (codes "nodev") → noexec ≡ lists list (codes "noexec")
-    → nosymfollow ≡ lists list (codes "nosymfollow") → nodiratime ≡ lists list (codes "nodiratime") → relatime ≡ lists list (codes "relatime")
-    → noatime ≡ lists list (codes "noatime") → strictatime ≡ lists list (codes "strictatime")
-    → ◌≡◌ {A = Option SetWords} (Some (record { ro = ro; nosuid = nosuid; nodev = nodev; noexec = noexec; nosymfollow = nosymfollow; nodiratime = nodiratime; relatime = relatime; noatime = noatime; strictatime = strictatime })) (set_words list)
-set_listed list ro nosuid nodev noexec nosymfollow nodiratime relatime noatime strictatime each e1 e2 e3 e4 e5 e6 e7 e8 e9 = rw (each, e1, e2, e3, e4, e5, e6, e7, e8, e9) refl

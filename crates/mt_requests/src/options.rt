@@ -1,5 +1,5 @@
 //! The options of a `setattr` line, and of a `mount` line.
-ghost use Rattle.std.specs.Prelude.{◌≡◌, Some, None};
+ghost use Rattle.std.specs.Prelude.{◌≡◌, Some, None, codes};
 ghost use Rattle.std.specs.List.{list_all, list_any};
 ghost use Rattle.std.specs.Option.{option_copied, option_map, option_map_or};
 ghost use Rattle.mt_lines.specs.Words.{pieces};
@@ -106,25 +106,35 @@ fn are_set_words(list: &[u8]) -> bool
     Pieces::new(b',', list).all(|word| is_set_word(word))
 }
 
+/// These attributes, with the access times that a list sets.
+fn with_times(set: SetWords, list: &[u8]) -> SetWords
+    ensures { result ≡ record set { relatime = lists list.now (codes "relatime"); noatime = lists list.now (codes "noatime"); strictatime = lists list.now (codes "strictatime") } }
+{
+    SetWords {
+        relatime: lists(list, b"relatime"),
+        noatime: lists(list, b"noatime"),
+        strictatime: lists(list, b"strictatime"),
+        ..set
+    }
+}
+
 /// The attributes that a list of words sets, words joined by commas, or `None` where one of them is none that can be set.
-#[tactic(auto, using(crate::proofs::OptionLaws::set_listed))]
 pub fn set_words(list: &[u8]) -> Option<SetWords>
     ensures { result ≡ set_words list.now }
 {
     if !are_set_words(list) {
         return None;
     }
-    Some(SetWords {
+    let set = SetWords {
         ro: lists(list, b"ro"),
         nosuid: lists(list, b"nosuid"),
         nodev: lists(list, b"nodev"),
         noexec: lists(list, b"noexec"),
         nosymfollow: lists(list, b"nosymfollow"),
         nodiratime: lists(list, b"nodiratime"),
-        relatime: lists(list, b"relatime"),
-        noatime: lists(list, b"noatime"),
-        strictatime: lists(list, b"strictatime"),
-    })
+        ..SetWords::new()
+    };
+    Some(with_times(set, list))
 }
 
 /// The attributes of a new mount that a word `set=W,..` says, or `None` where it is another word.

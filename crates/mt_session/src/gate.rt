@@ -4,7 +4,7 @@ use std::sync::Wait;
 
 /// What is called at moments of a session, by the session's number.
 pub trait Gate {
-    /// A command was done, and the desk is held still.
+    /// A command was done, or a stop, and the desk is held still.
     fn in_lock<R: Wait>(&self, rt: &R, session: u64);
 
     /// A request was done, the desk is not held, and the answer was not sent.

@@ -11,4 +11,4 @@ pub returns-in-Err : goal.returns-in-Err
 returns-in-Err g c =
     let l = c.locked-answer in
     undone_piece c.args.session.now l.new.self c.args.request.now c.deref_mut.result.now l.new.desk l.result _ _ _ c.in-Err.is
-    l.ensures.kept l.ensures.undone l.ensures.unlogged l.ensures.sight c.requires.lock c.requires.other c.last.ensures
+    l.ensures.kept l.ensures.undone l.ensures.unlogged l.ensures.sight c.requires.lock c.requires.other (rw c.refusal.ensures at c.last-in-Err.ensures)
