@@ -33,7 +33,6 @@ from sessions import cases
 
 BLOCK = re.compile(rb"(?m)^(?:<!-- (.*) -->\n)?```(.*)\n((?:(?!```).*\n)*?)```$")
 BUILDING_RUN = re.compile(rb"cd crates/(\w+) && rt (?:run|try) -- ")
-ASKED = re.compile(rb"(?m)^<!-- asked -->\n```.*\n((?:(?!```).*\n)*?)```$")
 QUESTION = re.compile(rb"(?m)^<!-- what-if -->\n```.*\n((?:(?!```).*\n)*?)```$")
 
 
@@ -74,7 +73,7 @@ def with_programs():
 def check_asked():
     """What the pages show of questions that need no server is what the client prints."""
     for page in ("README.md", "docs/TOUR.md"):
-        for text in ASKED.findall(read(*page.split("/"))):
+        for text in cases.ASKED.findall(read(*page.split("/"))):
             for command, wanted in STEP.findall(text):
                 done = subprocess.run(["sh", "-c", command], cwd=TOP, env=with_programs(), stdout=subprocess.PIPE)
                 check_printed(command, wanted, done.stdout, page)

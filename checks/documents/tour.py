@@ -3,7 +3,8 @@
 The page is the source of these sessions, which are no files of cases/. Each stands in a fenced block directly
 after a line `<!-- session: NAME -->`, in the format of sessions/cases.py, with comments or without. One after a line
 `<!-- session: NAME after OTHER -->` goes on where the session OTHER ends; that has its name in its first line, unless it
-stands directly before. A fence or an input line anywhere else in the page is a failure.
+stands directly before. A fence or an input line anywhere else in the page is a failure, but for what a terminal shows after a
+line `<!-- asked -->`, which checks/readme.py asks.
 """
 import re
 
@@ -50,8 +51,8 @@ def check_tour(program):
     check_visible(blocks)
     for name, text in sessions().items():
         cases.check_session(f"session {name} of docs/TOUR.md", text, program)
-    others = PART.findall(SESSION_BLOCK.sub(b"", read(*PAGE)))
-    check("docs/TOUR.md has <!-- session: NAME --> before each block", others == [], shown(b"\n".join(others)))
+    others = PART.findall(cases.ASKED.sub(b"", SESSION_BLOCK.sub(b"", read(*PAGE))))
+    check("docs/TOUR.md has <!-- session: NAME --> or <!-- asked --> before each block", others == [], shown(b"\n".join(others)))
 
 
 def update_tour(program):

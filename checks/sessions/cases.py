@@ -33,6 +33,8 @@ from harness.runs import TOP, answer_groups, check, difference, read, run, shown
 
 FOLDER = "cases"
 INPUT_LINE = re.compile(rb">(?:(\*?)(\.?) (.+))?", re.DOTALL)
+# A block that shows a terminal, and what was typed and answered there: checks/readme.py types it again.
+ASKED = re.compile(rb"(?m)^<!-- asked -->\n```.*\n((?:(?!```).*\n)*?)```$")
 REPEATED = re.compile(rb"\{([1-9][0-9]*) ([^{}]+)\}")
 
 
