@@ -16,6 +16,7 @@ use Rattle.mt_info.specs.RowLine.{option_words}
 use Rattle.mt_forms.specs.Scripts.{script_text}
 use Rattle.mt_forms.specs.declared.operation.Operation.{Operation}
 use Rattle.mt_forms.specs.declared.operation.Operation.TheVariants as operation
+use Rattle.mt_forms.specs.declared.operation.Reach.{Reach}
 use Rattle.mt_forms.specs.declared.operation.Reach.TheVariants.{One}
 use Rattle.mt_questions.specs.Tables.{ToldTable}
 use Rattle.mt_what_if.specs.Difference.{rows_if_there}
@@ -74,24 +75,31 @@ row_at_path w space target = option_and_then (λ i. find (has_id i) (rows_if_the
 abbrev pub row_named : WorldView → ℕ → List ℕ → Option Row
 row_named w space target = if is_at_path w space target then row_at_path w space target else last_of_source target (rows_if_there w space)
 
--- the line of an unmount of one mount; there is none where no mount is named
-abbrev pub unmount_line_text : WorldView → AskedLine → List ℕ → Bool → List ℕ → List ℕ
-unmount_line_text w line target lazy fs = unmount_text w line.space target lazy (script_text (operation.Umount target lazy One) (decimal line.space) fs [])
+-- the lines of an unmount: of one mount there is a line, and of several the one that is named decides; which mounts those are is left open
+abbrev pub IsUmountScript : Reach → WorldView → ℕ → List ℕ → Bool → List ℕ → List ℕ → Type 0
+IsUmountScript One w space target lazy plain script = (script ≡ unmount_text w space target lazy plain) × (nat_eq (length script) 0 ≡ false)
+IsUmountScript reach w space target lazy plain script = (r : Row) × (row_named w space target ≡ Some r)
 
--- the lines of a session that a line asks for in a world, given the filesystem that it mounts; which mounts an unmount of several is of is left open
+-- it names no mount, and then there are none
+abbrev pub IsOfNoMount : Reach → WorldView → ℕ → List ℕ → Bool → List ℕ → Type 0
+IsOfNoMount One w space target lazy plain = nat_eq (length (unmount_text w space target lazy plain)) 0 ≡ true
+IsOfNoMount reach w space target lazy plain = row_named w space target ≡ None
+
+-- the lines of a session that a line asks for in a world, given the filesystem that it mounts
+abbrev pub script_asked : Operation → AskedLine → List ℕ → WorldView → List ℕ
+script_asked asked line fs w = script_text asked (decimal line.space) fs (options_in w line.space asked)
+
 abbrev pub IsAskedScript : Operation → AskedLine → List ℕ → WorldView → List ℕ → Type 0
 IsAskedScript (operation.Line verb words) line fs w script = script ≡ line.own.items
-IsAskedScript (operation.Umount target lazy One) line fs w script = (script ≡ unmount_line_text w line target lazy fs) × (nat_eq (length script) 0 ≡ false)
-IsAskedScript (operation.Umount target lazy reach) line fs w script = (r : Row) × (row_named w line.space target ≡ Some r)
-IsAskedScript asked line fs w script = script ≡ script_text asked (decimal line.space) fs (options_in w line.space asked)
+IsAskedScript (operation.Umount target lazy reach) line fs w script =
+    IsUmountScript reach w line.space target lazy (script_asked (operation.Umount target lazy reach) line fs w) script
+IsAskedScript asked line fs w script = script ≡ script_asked asked line fs w
 
 abbrev pub IsScriptWith : List ℕ → WorldView → AskedLine → List ℕ → Type 0
 IsScriptWith fs w line script = IsAskedScript line.asked.operation line fs w script
 
--- an unmount names no mount, and then there are none
 abbrev pub AsksForNone : Operation → AskedLine → List ℕ → WorldView → Type 0
-AsksForNone (operation.Umount target lazy One) line fs w = nat_eq (length (unmount_line_text w line target lazy fs)) 0 ≡ true
-AsksForNone (operation.Umount target lazy reach) line fs w = row_named w line.space target ≡ None
+AsksForNone (operation.Umount target lazy reach) line fs w = IsOfNoMount reach w line.space target lazy (script_asked (operation.Umount target lazy reach) line fs w)
 AsksForNone asked line fs w = ⊥
 
 abbrev pub HasNoScript : List ℕ → WorldView → AskedLine → Type 0

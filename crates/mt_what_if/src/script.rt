@@ -5,7 +5,7 @@ ghost use Rattle.mt_propagate.specs.WellFormed.{IsWellFormed};
 ghost use Rattle.mt_forms.specs.Scripts.{script_text};
 ghost use Rattle.mt_what_if.specs.Difference.{rows_if_there};
 ghost use Rattle.std.specs.Option.{option_map_or};
-ghost use Rattle.mt_what_if.specs.Scripts.{options_at, options_in, is_at_path, unmount_text, IsScriptWith, HasNoScript};
+ghost use Rattle.mt_what_if.specs.Scripts.{options_at, options_in, is_at_path, unmount_text, IsUmountScript, IsOfNoMount, IsScriptWith, HasNoScript};
 ghost use Rattle.mt_what_if.specs.Unmounts.{last_of_source, unmount_line};
 
 use crate::asked::{AskedLine, number_text};
@@ -128,20 +128,42 @@ fn unmount_text(
 fn unmount_script(
     alloc: Global,
     world: &World,
-    line: &AskedLine<'_>,
+    space: SpaceId,
     target: &[u8],
     lazy: bool,
     plain: Vec<u8>,
 ) -> Result<Vec<u8>, Fault>
     requires { IsWellFormed (world_view world.now) }
-    ensures script { IfOk result (λ script. (script.items ≡ unmount_text (world_view world.now) line.now.space target.now lazy plain.items) × (nat_eq (length script.items) 0 ≡ false)) }
-    ensures none { IfErr result (λ fault. fault ≢ Fault.NoMemory → (nat_eq (length (unmount_text (world_view world.now) line.now.space target.now lazy plain.items)) 0 ≡ true) × (fault ≡ Fault.NotMountRoot)) }
+    ensures script { IfOk result (λ script. (script.items ≡ unmount_text (world_view world.now) space target.now lazy plain.items) × (nat_eq (length script.items) 0 ≡ false)) }
+    ensures none { IfErr result (λ fault. fault ≢ Fault.NoMemory → (nat_eq (length (unmount_text (world_view world.now) space target.now lazy plain.items)) 0 ≡ true) × (fault ≡ Fault.NotMountRoot)) }
 {
-    let script = unmount_text(alloc, world, line.space, target, lazy, plain)?;
+    let script = unmount_text(alloc, world, space, target, lazy, plain)?;
     if script.is_empty() {
         return Err(Fault::NotMountRoot);
     }
     Ok(script)
+}
+
+/// The lines of a session that an unmount asks for, given that of its path. Refused as `NotMountRoot` where it names no mount, and
+/// as `NoMemory`.
+fn umount_script(
+    alloc: Global,
+    world: &World,
+    space: SpaceId,
+    target: &[u8],
+    lazy: bool,
+    reach: Reach,
+    plain: Vec<u8>,
+) -> Result<Vec<u8>, Fault>
+    requires { IsWellFormed (world_view world.now) }
+    ensures script { IfOk result (λ script. IsUmountScript reach (world_view world.now) space target.now lazy plain.items script.items) }
+    ensures none { IfErr result (λ fault. fault ≢ Fault.NoMemory → IsOfNoMount reach (world_view world.now) space target.now lazy plain.items × (fault ≡ Fault.NotMountRoot)) }
+{
+    match reach {
+        Reach::One => unmount_script(alloc, world, space, target, lazy, plain),
+        Reach::Below => unmount_lines(alloc, world, space, target, lazy, Reach::Below),
+        Reach::Filesystem => unmount_lines(alloc, world, space, target, lazy, Reach::Filesystem),
+    }
 }
 
 /// The lines of a session that a line asks for, given the name of the filesystem that it mounts. Refused as `NotMountRoot` where an
@@ -161,18 +183,11 @@ pub(crate) fn script_with(
         Operation::Umount {
             target,
             lazy,
-            reach: Reach::One,
-        } => {
-            let plain = form_script(alloc, world, line, filesystem)?;
-            unmount_script(alloc, world, line, target.bytes(), *lazy, plain)
-        }
-        Operation::Umount {
-            target,
-            lazy,
             reach,
         } => {
+            let plain = form_script(alloc, world, line, filesystem)?;
             let target = target.bytes();
-            unmount_lines(alloc, world, line.space, target, *lazy, *reach)
+            umount_script(alloc, world, line.space, target, *lazy, *reach, plain)
         }
         Operation::Bind { .. }
         | Operation::Move { .. }

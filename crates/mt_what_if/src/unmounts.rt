@@ -161,7 +161,7 @@ fn row_at_path<'a>(
     path: &[Name],
 ) -> Option<&'a Row>
     requires well_formed { IsWellFormed (world_view world.now) }
-    requires rows { rows.entry.now ≡ rows_if_there (world_view world.now) space }
+    requires rows { rows.now ≡ rows_if_there (world_view world.now) space }
     requires path { path.now ≡ names_of target.now }
     ensures { MatchOption result (row_at_path (world_view world.now) space target.now ≡ None) (λ row. row_at_path (world_view world.now) space target.now ≡ Some row.now) }
 {
@@ -178,7 +178,7 @@ fn row_named<'a>(
     path: &[Name],
 ) -> Option<&'a Row>
     requires well_formed { IsWellFormed (world_view world.now) }
-    requires rows { rows.entry.now ≡ rows_if_there (world_view world.now) space }
+    requires rows { rows.now ≡ rows_if_there (world_view world.now) space }
     requires path { path.now ≡ names_of target.now }
     ensures { MatchOption result (row_named (world_view world.now) space target.now ≡ None) (λ row. row_named (world_view world.now) space target.now ≡ Some row.now) }
 {

@@ -33,6 +33,6 @@ returns-in_ok-push-in-Err-clause-refused c =
       refused = c.self.inside.refused.items;
     } in
     λ ne. attempt_refused c.args.self.now s (world_view c.self.inside.world) c.take_back.new.commands.items c.push-in-Err.new.self.items c.args.command.now
-        c.in_ok-copy-in-Err.field-0 c.in-Err.fault c.self.view_is c.self.invariant.leads (c.in-Err.ensures.refused ne)
-        (c.take_back.ensures c.self.inside.commands.items c.in_ok-copy.copy c.in_ok-push.ensures.items) c.in_ok-copy-in-Err.ensures.copy
-        c.in_ok-push-in-Err.ensures.items
+    c.in_ok-copy-in-Err.field-0 c.in-Err.fault c.self.view_is c.self.invariant.leads (c.in-Err.ensures.refused ne)
+    (c.take_back.ensures c.self.inside.commands.items c.in_ok-copy.copy c.in_ok-push.ensures.items) c.in_ok-copy-in-Err.ensures.copy
+    c.in_ok-push-in-Err.ensures.items
