@@ -68,9 +68,6 @@ pub then_more : (e : Ended) (more : TrialView → Ended) (u : TrialView) → e �
 unfolding then_tried
 then_more e more u h = ap (λ (x : Ended). then_tried x more) h
 
-pub then_ended : (e x : Ended) (more : TrialView → Ended) (u : TrialView) → e ≡ all_done u → more u ≡ x → then_tried e more ≡ x
-then_ended e x more u h m = then_more e more u h ∙ m
-
 -- and behind what is refused it is not
 pub then_stopped : (e : Ended) (more : TrialView → Ended) (u : TrialView) (f : Fault) → e ≡ stopped u f → then_tried e more ≡ stopped u f
 unfolding then_tried

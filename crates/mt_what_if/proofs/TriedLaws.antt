@@ -1,14 +1,15 @@
 -- What is tried behind what is done, and nothing behind what is refused.
-use Rattle.std.proofs.Common.{◌≡◌, ℕ, ◌+◌, ◌<◌, List, [], ◌∷◌, ◌++◌, length, drop, get_or, sym, ap, ◌∙◌}
+use Rattle.std.proofs.Common.{◌≡◌, ℕ, ◌+◌, ◌<◌, List, [], ◌∷◌, ◌++◌, length, drop, get_or, sym, ap, subst, ◌∙◌}
 use Rattle.std.proofs.lemmas.List.{drop_more}
 use Rattle.mt_lines.specs.Words.{pieces}
 use Rattle.mt_skel.specs.declared.fault.Fault.{Fault}
 use Rattle.mt_book.specs.declared.command.Command.{Command}
 use Rattle.mt_forms.specs.declared.operation.Operation.{Operation}
 use Rattle.mt_refused.specs.declared.asked.Which.TheVariants.{First, Second}
-use Rattle.mt_what_if.specs.Trials.{TrialView, with_given, all_done, stopped, attempt, give, give_all}
+use Rattle.mt_what_if.specs.Trials.{TrialView, Ended, with_given, all_done, stopped, attempt, give, give_all}
 use Rattle.mt_what_if.specs.Provided.{mounted_given, path_given, paths_given, command_given}
-use Rattle.mt_what_if.specs.Tried.{command_run, line_run, lines_run, script_run, later_run, scripts_run}
+use Rattle.mt_what_if.specs.Tried.{command_run, line_run, lines_run, script_run, later_run, scripts_run, source_given, IsScriptTried, IsTriedBehind, IsLineWith}
+use Rattle.mt_what_if.specs.declared.asked.AskedLine.{AskedLine}
 use Rattle.mt_what_if.proofs.TrialLaws.{then_more, then_stopped}
 
 -- one command that a line is given
@@ -92,3 +93,8 @@ pub scripts_stopped :
     (t u : TrialView) (asked : Operation) (script : List ℕ) (f : Fault) → script_run t script ≡ stopped u f → scripts_run t asked script ≡ stopped u f
 unfolding scripts_run
 scripts_stopped t u asked script f h = then_stopped (script_run t script) (λ (v : TrialView). later_run v asked) u f h
+
+-- a line, behind its filesystem
+pub with_more :
+    (fs : List ℕ) (line : AskedLine) (t u : TrialView) (e : Ended) → source_given fs line.asked.operation t ≡ all_done u → IsScriptTried fs line u e → IsLineWith fs line t e
+with_more fs line t u e h q = subst (λ (x : Ended). IsTriedBehind x (IsScriptTried fs line) e) (sym h) q
