@@ -45,7 +45,9 @@ fn paths_of(command: &Command) -> (SpaceId, Option<&Names>, Option<&Names>) {
         | Command::MountWith { space, path, .. }
         | Command::Unmount { space, path }
         | Command::Detach { space, path }
-        | Command::SetAttr { space, path, .. } => (*space, Some(path), None),
+        | Command::SetAttr { space, path, .. }
+        | Command::OpenTree { space, path, .. }
+        | Command::MoveTree { space, path, .. } => (*space, Some(path), None),
         Command::Bind {
             space,
             src,
@@ -58,7 +60,8 @@ fn paths_of(command: &Command) -> (SpaceId, Option<&Names>, Option<&Names>) {
         | Command::MakeDir { .. }
         | Command::NewSpace { .. }
         | Command::CopySpace { .. }
-        | Command::DropSpace { .. } => (0, None, None),
+        | Command::DropSpace { .. }
+        | Command::NewTree { .. } => (0, None, None),
     }
 }
 
@@ -89,7 +92,9 @@ impl Scene {
         ensures made { MakesMore self.old.trial.commands self.new.trial.commands }
     {
         match command {
-            Command::Mount { fs, .. } | Command::MountWith { fs, .. } => {
+            Command::Mount { fs, .. }
+            | Command::MountWith { fs, .. }
+            | Command::NewTree { fs } => {
                 let kind = Label::of(*text.allocator(), UNKNOWN_TYPE)?;
                 self.provide_filesystem(text, fs, &kind)
             }
