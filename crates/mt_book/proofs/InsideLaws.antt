@@ -50,7 +50,7 @@ step_contained n w (CopySpace k less) v r h a low off e = let q = number_ok _ v 
 step_contained n w (DropSpace k) v r h a low off e = subst (IsContained n) (drop_space_accepted w k v (done_ok _ v r e)).world (end_contained w h k n a)
 step_contained n w (Mount k fs path) v r h a low off e = let q = number_ok _ v r e in mount_contained n w k fs path nothing_set v q.0 h a q.1
 step_contained n w (MountWith k fs path set) v r h a low off e = let q = number_ok _ v r e in mount_contained n w k fs path set v q.0 h a q.1
-step_contained n w (Bind k src dst deep) v r h a low off e = let q = number_ok _ v r e in bind_contained n w k deep src dst v q.0 h a q.1
+step_contained n w (Bind k src dst recursive) v r h a low off e = let q = number_ok _ v r e in bind_contained n w k recursive src dst v q.0 h a q.1
 step_contained n w (Move k src dst) v r h a low off e = move_contained n w k src dst v h a (done_ok _ v r e)
 step_contained n w (Pivot k new old) v r h a low off e = pivoted_contained n w k new old v h a (done_ok _ v r e)
 step_contained n w (Unmount k path) v r h a low off e = unmounted-contained n w k path v h a (done_ok _ v r e)
@@ -66,7 +66,7 @@ unfolding step
 step_outside n w (DropSpace k) v r h a is e = at_issue k n w v is a (λ b. subst (IsSameOutside k w) (drop_space_accepted w k v (done_ok _ v r e)).world (end_outside w h k b))
 step_outside n w (Mount k fs path) v r h a is e = at_issue k n w v is a (λ b. let q = number_ok _ v r e in mount_outside w k fs path nothing_set v q.0 h b q.1)
 step_outside n w (MountWith k fs path set) v r h a is e = at_issue k n w v is a (λ b. let q = number_ok _ v r e in mount_outside w k fs path set v q.0 h b q.1)
-step_outside n w (Bind k src dst deep) v r h a is e = at_issue k n w v is a (λ b. let q = number_ok _ v r e in bind_outside w k deep src dst v q.0 h b q.1)
+step_outside n w (Bind k src dst recursive) v r h a is e = at_issue k n w v is a (λ b. let q = number_ok _ v r e in bind_outside w k recursive src dst v q.0 h b q.1)
 step_outside n w (Move k src dst) v r h a is e = at_issue k n w v is a (λ b. move_outside w k src dst v h b (done_ok _ v r e))
 step_outside n w (Pivot k new old) v r h a is e = at_issue k n w v is a (λ b. pivoted_outside w k new old v h b (done_ok _ v r e))
 step_outside n w (Unmount k path) v r h a is e = at_issue k n w v is a (λ b. unmounted-outside w k path v h b (done_ok _ v r e))
