@@ -75,6 +75,7 @@ OTHER_ORDER = {
     (b"umount", "Detached", errno.ENOENT),
     (b"detach", "Detached", errno.ENOENT),
     (b"movetree", "NotDetached", errno.ENOENT),
+    (b"movetree", "NotDetached", errno.ELOOP),
 }
 
 # What the kernel says where a locked mount stands against a command.
