@@ -23,7 +23,7 @@ use Rattle.mt_propagate.specs.World.{WorldView, state_of, root_dir}
 use Rattle.mt_propagate.specs.Named.{unknown, is_mount_root}
 use Rattle.mt_propagate.specs.Limits.{too_many_mounts}
 use Rattle.mt_propagate.specs.Copies.{Source, MountCopy, copies_at, new_copies}
-use Rattle.mt_propagate.specs.Receivers.{hits}
+use Rattle.mt_propagate.specs.Receivers.{targets}
 use Rattle.mt_propagate.specs.Sound.{IsSource}
 use Rattle.mt_propagate.specs.Plans.{member_of, copied_source}
 use Rattle.mt_propagate.proofs.RowLaws.{keys-filter, part-filtered}
@@ -86,8 +86,8 @@ module _ (w : WorldView) (src : Source) (dest : Place) (still : src.moved ≡ fa
 
   copies_many : length src.mounts ≤ length (new_copies w src dest)
   copies_many =
-      let later = flat_map (λ t. map (copy_to t) src.mounts) (hits w dest) in
-      let all = ap (λ b. length (copies_at src.mounts (cond b (hits w dest) (dest.mount ∷ hits w dest)))) still in
+      let later = flat_map (λ t. map (copy_to t) src.mounts) (targets w dest) in
+      let all = ap (λ b. length (copies_at src.mounts (cond b (targets w dest) (dest.mount ∷ targets w dest)))) still in
       let parts = length-append (map (copy_to dest.mount) src.mounts) later in
       let own = length-map src.mounts (copy_to dest.mount) in
       omega (arith, all, parts, own)

@@ -28,6 +28,7 @@ use Rattle.mt_propagate.proofs.ContainedLaws.{ended-inside, below-space}
 use Rattle.mt_propagate.proofs.WalkLaws.{walked, root_here}
 use Rattle.mt_propagate.proofs.CopyForestLaws.{stands_here}
 use Rattle.mt_propagate.proofs.CopyRowLaws.{space_is}
+use Rattle.mt_propagate.proofs.DetachedTreeLaws.{trees_stay}
 use Rattle.mt_skel.proofs.MiddleLaws.{each_still}
 use Rattle.mt_propagate.proofs.RowLaws.{mapped-row, row-mapped, found-each, keys-map, part-mapped}
 use Rattle.mt_propagate.proofs.TreeLaws.{parent-from, parent-is, rank-fell}
@@ -268,6 +269,7 @@ module _ (w : WorldView) (i j : ℕ) (p : Place) where
           rw x.2 (h.below k x.0 x.1);
       group_fs = λ x y g ex ey. same_fs x ∙ h.group_fs x y g ex ey ∙ sym (same_fs y);
       master_fs = λ x y g ex ey. same_fs x ∙ h.master_fs x y g ex ey ∙ sym (same_fs y);
+      trees = trees_stay w.skel w.forest (map pivoting w.forest) h.forest.rising (pivot_forest w h i j p a) (λ k m e root. (k, pivoting m, row-mapped id_of pivoting (λ m. refl) w.forest k m e, refl)) w.trees h.trees;
     }
 
     module _ (n : ℕ) (here : space_of w i ≡ n) where

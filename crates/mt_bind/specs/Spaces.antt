@@ -72,6 +72,7 @@ unfoldable pub without_space : WorldView → ℕ → WorldView
 without_space w n = record w {
   forest = without (λ (m : Mount). m.space == n) w.forest;
   peering = left (λ i. space_of w i == n) w.peering;
+  trees = without (λ k. k == n) w.trees;
 }
 
 -- the refusals of the end of a namespace

@@ -70,5 +70,6 @@ pub fn drop_space(world: &mut World, space: SpaceId) -> Result<(), Fault>
     let ids = ids_in(world, space)?;
     make_room(world, ids.len())?;
     drop_mounts(world, &ids);
+    world.end_tree(space);
     Ok(())
 }

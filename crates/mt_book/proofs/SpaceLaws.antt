@@ -11,8 +11,8 @@ use Rattle.mt_mounts.specs.declared.mount.Mount.{Mount}
 use Rattle.mt_mounts.specs.Forest.{id_of, mount_at}
 use Rattle.mt_propagate.specs.World.{WorldView, is_space}
 use Rattle.mt_propagate.specs.WellFormed.{IsWellFormed}
-use Rattle.mt_propagate.specs.Copies.{targets}
-use Rattle.mt_propagate.specs.Receivers.{hits}
+use Rattle.mt_propagate.specs.Copies.{destinations}
+use Rattle.mt_propagate.specs.Receivers.{targets}
 use Rattle.mt_propagate.specs.Places.{relocated, new_mounts, copied_mount}
 use Rattle.mt_propagate.specs.Copied.{copied}
 use Rattle.mt_propagate.proofs.RowLaws.{mapped-row, row-second, appended-row, kept-row}
@@ -83,7 +83,7 @@ step_from n w c v r g e = effect w c v r (λ x. ComesFrom n w x.forest) e (recor
   end = λ k is. from_before n w _ (was_left n w _ g);
   -- each copy of a mount has a place
   copies = λ src p. from_more n w _ (new_mounts w src p) (was_mapped n w (relocated w src p) w.forest (relocated-id w src p) (relocated-space w src p) (was_all n w)) (λ m there none.
-      let at = in_flat (λ t. map (copied_mount w src p t) src.mounts) m (cond src.moved (hits w p) (targets w src p)) there in
+      let at = in_flat (λ t. map (copied_mount w src p t) src.mounts) m (cond src.moved (targets w p) (destinations w src p)) there in
       let x = in_map (copied_mount w src p at.0) m src.mounts at.2 in
       let bad : (copied_mount w src p at.0 x.0).place ≡ None = ap (λ (y : Mount). y.place) x.2 ∙ none in
       absurd (cc));

@@ -19,14 +19,14 @@ use Rattle.mt_peers.proofs.MemberLaws.{named, some-is}
 use Rattle.mt_peers.proofs.ReachLaws.{reaches-self}
 use Rattle.mt_propagate.specs.World.{WorldView, state_of, group_of, space_of, private}
 use Rattle.mt_propagate.specs.WellFormed.{IsWellFormed}
-use Rattle.mt_propagate.specs.Receivers.{hits}
-use Rattle.mt_propagate.specs.Copies.{Source, MountCopy, targets, all_copies, new_copies, copy_id}
+use Rattle.mt_propagate.specs.Receivers.{targets}
+use Rattle.mt_propagate.specs.Copies.{Source, MountCopy, destinations, all_copies, new_copies, copy_id}
 use Rattle.mt_propagate.specs.Groups.{GroupKey, key_of, home, key_group, is_new_key, master_key, copy_state}
 use Rattle.mt_propagate.specs.Places.{copied_mount, new_mounts, relocated}
 use Rattle.mt_propagate.specs.Copied.{copied, regrouped, is_moved}
 use Rattle.mt_propagate.specs.Sound.{IsSource, IsDestination}
 use Rattle.mt_propagate.specs.Contained.{IsContained, IsSameOutside, IsLocal}
-use Rattle.mt_propagate.proofs.ContainLaws.{receiver_of, hit_received, hit_contained}
+use Rattle.mt_propagate.proofs.ContainLaws.{receiver_of, target_received, target_contained}
 use Rattle.mt_propagate.proofs.ContainedLaws.{master-is, contained}
 use Rattle.mt_propagate.proofs.ListedLaws.{relocated-same, regrouped-mount, relocated-space}
 use Rattle.mt_mounts.proofs.SlotLaws.{none_found}
@@ -94,17 +94,17 @@ module _ (w : WorldView) (h : IsWellFormed w) (src : Source) (dest : Place) (s :
 
   module _ (n : ℕ) (c : IsContained n w) where
     -- a place in the namespace has its targets there
-    hit-inside : (t : ℕ) → In t (hits w dest) → space_of w dest.mount ≡ n → space_of w t ≡ n
-    hit-inside t e here = hit_contained n w c h.peering.rising dest t e here
+    hit-inside : (t : ℕ) → In t (targets w dest) → space_of w dest.mount ≡ n → space_of w t ≡ n
+    hit-inside t e here = target_contained n w c h.peering.rising dest t e here
 
-    target-inside : (t : ℕ) → In t (targets w src dest) → space_of w dest.mount ≡ n → space_of w t ≡ n
+    target-inside : (t : ℕ) → In t (destinations w src dest) → space_of w dest.mount ≡ n → space_of w t ≡ n
     target-inside t e here = elim e [ inl same ↦ ap (space_of w) (sym same) ∙ here | inr hit ↦ hit-inside t hit here ]
 
     -- a place without group has no targets but itself
-    target-alone : (t : ℕ) → home w src dest ≡ None → In t (targets w src dest) → space_of w t ≡ space_of w dest.mount
+    target-alone : (t : ℕ) → home w src dest ≡ None → In t (destinations w src dest) → space_of w t ≡ space_of w dest.mount
     target-alone t none e = elim e [
       | inl same ↦ ap (space_of w) (sym same)
-      | inr hit ↦ let r = receiver_of w dest.mount t (hit_received w dest t hit) in let v : None ≡ Some r.0 = sym none ∙ r.1 in absurd (cc)
+      | inr hit ↦ let r = receiver_of w dest.mount t (target_received w dest t hit) in let v : None ≡ Some r.0 = sym none ∙ r.1 in absurd (cc)
     ]
 
     -- a state with a group: like one that was there, or of a new group
@@ -163,7 +163,7 @@ module _ (w : WorldView) (h : IsWellFormed w) (src : Source) (dest : Place) (s :
             → (b : Bool) → is_new_key w (home w src dest) (record { group = a; source = x.source }) ≡ b → Mastered i g
         at x e sp a m off close up chain same true new =
             let k : GroupKey = record { group = a; source = x.source } in
-            let mk : master_key w (home w src dest) (hits w dest) x ≡ Some k = (λ i. key_of (cond (off i) None (close i)) x.source) in
+            let mk : master_key w (home w src dest) (targets w dest) x ≡ Some k = (λ i. key_of (cond (off i) None (close i)) x.source) in
             let r = new_number w h.peering src dest k (key_in w h.peering src dest k x e (inr mk) new) new in
             let far : reaches w.peering.peers m a ≡ true = any_in (λ k. eqb k a) a (groups_up w.peering.peers m) chain (eq-eqb a a refl) in
             inr (k, ap (key_at w h.peering src dest) (sym same) ∙ r.2, subst (λ v. w.peering.next ≤ v) same r.0, λ u there q. sp ∙ c.chains x.target u m a up there q far)
@@ -221,9 +221,9 @@ module _ (w : WorldView) (h : IsWellFormed w) (src : Source) (dest : Place) (s :
       top-inside : (m : Mount) → mount_at w.forest m.id ≡ Some m → src.moved ≡ true → m.id ≡ src.top.id → m.space ≡ n
       top-inside m e moved same = near m.id src.top m (ap (mount_at src.mounts) same ∙ s.tree.top_there) e ∙ here
 
-      way-inside : (m : Mount) (t : ℕ) → mount_at w.forest m.id ≡ Some m → find (λ t. is_at (record { mount = t; dir = dest.dir }) m) (hits w dest) ≡ Some t → m.space ≡ n
+      way-inside : (m : Mount) (t : ℕ) → mount_at w.forest m.id ≡ Some m → find (λ t. is_at (record { mount = t; dir = dest.dir }) m) (targets w dest) ≡ Some t → m.space ≡ n
       way-inside m t e is =
-          let f = find_in (λ t. is_at (record { mount = t; dir = dest.dir }) m) (hits w dest) t is in
+          let f = find_in (λ t. is_at (record { mount = t; dir = dest.dir }) m) (targets w dest) t is in
           let p = h.forest.placed m.id m (record { mount = t; dir = dest.dir }) e (stands_at (record { mount = t; dir = dest.dir }) m f.1) in
           sym p.2 ∙ sym (space_is w t p.0 p.1) ∙ hit-inside t f.0 here
 
@@ -252,7 +252,7 @@ module _ (w : WorldView) (h : IsWellFormed w) (src : Source) (dest : Place) (s :
 
           new : filter (in_space k) (new_mounts w src dest) ≡ []
           new = none-picked (in_space k) (new_mounts w src dest) (λ a e.
-              let p = in_pairs (copied_mount w src dest) src.mounts (cond src.moved (hits w dest) (targets w src dest)) a e in
+              let p = in_pairs (copied_mount w src dest) src.mounts (cond src.moved (targets w dest) (destinations w src dest)) a e in
               let there : a.space ≡ n = ap (λ (m : Mount). m.space) (sym p.4) ∙ target-inside p.0 (new_target w h src dest s d p.0 p.2) here in
               ne_eqb a.space k (λ same. off (sym same ∙ there)))
 

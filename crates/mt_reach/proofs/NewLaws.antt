@@ -13,8 +13,8 @@ use Rattle.mt_mounts.specs.Forest.{id_of, mount_at}
 use Rattle.mt_mounts.specs.Walk.{walk}
 use Rattle.mt_propagate.specs.World.{WorldView}
 use Rattle.mt_propagate.specs.WellFormed.{IsWellFormed}
-use Rattle.mt_propagate.specs.Receivers.{hits}
-use Rattle.mt_propagate.specs.Copies.{Source, targets, new_copies, copy_eq}
+use Rattle.mt_propagate.specs.Receivers.{is_attached, targets}
+use Rattle.mt_propagate.specs.Copies.{Source, destinations, new_copies, copy_eq}
 use Rattle.mt_propagate.specs.Places.{relocated, copied_mount, new_mounts}
 use Rattle.mt_propagate.specs.Copied.{copied}
 use Rattle.mt_propagate.proofs.ListedLaws.{relocated-id}
@@ -68,16 +68,16 @@ module _ (w : WorldView) (h : IsWellFormed w) (fs : ℕ) (p : Place) where
 
   new_there : (m : Mount) → In m (new_mounts w src p) → is_new m ≡ true
   new_there m at =
-      let r = in_flat (λ t. map (copied_mount w src p t) src.mounts) m (targets w src p) at in
+      let r = in_flat (λ t. map (copied_mount w src p t) src.mounts) m (destinations w src p) at in
       elim r.2 [
         | inl e ↦ ap (λ o. not (is_some o)) (ap (λ (x : Mount). mount_at w.forest x.id) (sym e) ∙ high_absent (copied_mount w src p r.0 src.top).id (copy_high r.0))
         | inr none ↦ absurd none
       ]
 
-  places : map (λ (m : Mount). m.place) (new_mounts w src p) ≡ map (λ t. Some (record { mount = t; dir = p.dir })) (p.mount ∷ hits w p)
-  places = single (λ t. copied_mount w src p t src.top) (λ (m : Mount). m.place) (targets w src p)
+  places : map (λ (m : Mount). m.place) (new_mounts w src p) ≡ map (λ t. Some (record { mount = t; dir = p.dir })) (p.mount ∷ targets w p)
+  places = single (λ t. copied_mount w src p t src.top) (λ (m : Mount). m.place) (destinations w src p)
 
-  pub new_at : new_places w (copied w src p) ≡ map (λ t. Some (record { mount = t; dir = p.dir })) (p.mount ∷ hits w p)
+  pub new_at : new_places w (copied w src p) ≡ map (λ t. Some (record { mount = t; dir = p.dir })) (p.mount ∷ targets w p)
   unfolding copied
   new_at =
       ap (map (λ (m : Mount). m.place)) (second_passes is_new (map (relocated w src p) w.forest) (new_mounts w src p) old_there ∙ all_pass is_new (new_mounts w src p) new_there)
@@ -87,12 +87,12 @@ same_end : (r : Result Place Fault) (p q : Place) → r ≡ Ok p → r ≡ Ok q 
 same_end r p q e f = let s : Ok p ≡ Ok q = sym e ∙ f in cc
 
 pub come_where_reached : (w v : WorldView) (n i : ℕ) (name : List ℕ) (path : List (List ℕ)) (p : Place) → IsWellFormed w → mounted w n name path ≡ Ok (v, i) → walk w.skel w.forest n path ≡ Ok p
-    → new_places w v ≡ map (λ t. Some (record { mount = t; dir = p.dir })) (p.mount ∷ reached (seen_rows w) p.mount (seen_directory w p.dir))
+    → new_places w v ≡ map (λ t. Some (record { mount = t; dir = p.dir })) (p.mount ∷ filter (is_attached w) (reached (seen_rows w) p.mount (seen_directory w p.dir)))
 come_where_reached w v n i name path p h e ended =
     let a = mount_accepted w n name path v i e in
     let q = path_end w n path in
     let d = destination w n path q h a.ended a.off_root in
     let there : is_directory w.skel q.dir ≡ true = and_first _ _ (and_first _ _ d.there.2) in
     let one = ap (new_places w) (sym a.world) ∙ new_at w h (fs_of w name) q
-    ∙ ap (λ ts. map (λ t. Some (record { mount = t; dir = q.dir })) (q.mount ∷ ts)) (sym (reached_hits w q h there)) in
-    subst (λ (p : Place). new_places w v ≡ map (λ t. Some (record { mount = t; dir = p.dir })) (p.mount ∷ reached (seen_rows w) p.mount (seen_directory w p.dir))) (same_end _ q p a.ended ended) one
+    ∙ ap (λ ts. map (λ t. Some (record { mount = t; dir = q.dir })) (q.mount ∷ filter (is_attached w) ts)) (sym (reached_hits w q h there)) in
+    subst (λ (p : Place). new_places w v ≡ map (λ t. Some (record { mount = t; dir = p.dir })) (p.mount ∷ filter (is_attached w) (reached (seen_rows w) p.mount (seen_directory w p.dir)))) (same_end _ q p a.ended ended) one

@@ -11,7 +11,7 @@ use Rattle.mt_mounts.specs.Walk.{walk}
 use Rattle.mt_propagate.specs.World.{WorldView, group_of}
 use Rattle.mt_propagate.specs.Named.{is_mount_root, is_root_place}
 use Rattle.mt_propagate.specs.WellFormed.{IsWellFormed}
-use Rattle.mt_propagate.specs.Receivers.{hits}
+use Rattle.mt_propagate.specs.Receivers.{hits, is_attached}
 use Rattle.mt_bind.specs.Mounting.{mounted, stands_on_shared, any_unbindable}
 use Rattle.mt_reach.specs.declared.row.SeenRow.{SeenRow}
 use Rattle.mt_reach.specs.Rows.{seen_at}
@@ -22,8 +22,8 @@ use Rattle.mt_reach.specs.Tree.{seen_children}
 use Rattle.mt_reach.specs.Walking.{end_of, directory_at}
 use Rattle.mt_reach.specs.Refusals.{IsWitness, shared_parent, unbindable_inside, into_itself, off_root, at_root_place, left_outside}
 
--- from the rows of a well-formed world the mounts that are reached from a directory that is there are its propagation targets
--- (`sharedsubtree`, bind semantics)
+-- from the rows of a well-formed world the mounts that are reached from a directory that is there are its hits (`sharedsubtree`, bind
+-- semantics)
 abbrev pub ReachedAreHits : Type 0
 ReachedAreHits = (w : WorldView) (p : Place) → IsWellFormed w → IsTrue (is_directory w.skel p.dir) → reached (seen_rows w) p.mount (seen_directory w p.dir) ≡ hits w p
 
@@ -35,12 +35,12 @@ NoneIsMissing = (w : WorldView) → IsWellFormed w → (i : ℕ) (r : SeenRow) �
 abbrev pub new_places : WorldView → WorldView → List (Option Place)
 new_places w v = map (λ (m : Mount). m.place) (filter (λ (m : Mount). not (has id_of m.id w.forest)) v.forest)
 
--- a mount that is accepted makes new mounts just where its path ends, and at that directory of the mounts that are reached from
--- there (`sharedsubtree`, mount semantics)
+-- a mount that is accepted makes new mounts just where its path ends, and at that directory of those of the mounts that are reached
+-- from there which are in no detached tree (`sharedsubtree`, mount semantics)
 abbrev pub MountsComeWhereReached : Type 0
 MountsComeWhereReached =
     (w v : WorldView) (n i : ℕ) (name : List ℕ) (path : List (List ℕ)) (p : Place) → IsWellFormed w → mounted w n name path ≡ Ok (v, i) → walk w.skel w.forest n path ≡ Ok p
-    → new_places w v ≡ map (λ t. Some (record { mount = t; dir = p.dir })) (p.mount ∷ reached (seen_rows w) p.mount (seen_directory w p.dir))
+    → new_places w v ≡ map (λ t. Some (record { mount = t; dir = p.dir })) (p.mount ∷ filter (is_attached w) (reached (seen_rows w) p.mount (seen_directory w p.dir)))
 
 -- the mounts that keep one from being unmounted are none exactly where none stands on it (umount(2), EBUSY)
 abbrev pub BusyIsWitnessed : Type 0

@@ -1,8 +1,8 @@
 //! What is true of the answers about the rows of a world. The functions do nothing: their contracts are the laws.
 ghost use Rattle.mt_reach.specs.Laws.{WalksAgree, ReachedAreHits, NoneIsMissing, MountsComeWhereReached, BusyIsWitnessed, SharedIsWitnessed, UnbindableIsWitnessed, IntoIsWitnessed, OffRootIsWitnessed, RootPlaceIsWitnessed, OutsideIsWitnessed};
 
-/// The mounts that are reached from a directory of a mount are those to which a mount made there propagates, where the rows
-/// are those of all namespaces of a well-formed world.
+/// The mounts that are reached from a directory of a mount are those that receive what happens there, where the rows are those
+/// of all namespaces of a well-formed world.
 pub fn reached_are_hits()
     ensures { ReachedAreHits }
 {}
@@ -13,8 +13,8 @@ pub fn none_is_missing()
     ensures { NoneIsMissing }
 {}
 
-/// A mount that is accepted makes new mounts just where its path ends, and at that directory of the mounts that are reached from
-/// there.
+/// A mount that is accepted makes new mounts just where its path ends, and at that directory of those of the mounts that are
+/// reached from there which are in no detached tree.
 pub fn mounts_come_where_reached()
     ensures { MountsComeWhereReached }
 {}

@@ -46,7 +46,7 @@ fn is_reached(
 
 /// The mounts to which a mount made in a directory of a mount comes, beside that place itself, by rising ID: all others that get
 /// what happens in its peer group, by masters that have members among the rows, and show the directory. None where it is in no
-/// group. Where a master has no member, [`gets_as_told`](crate::missing::gets_as_told) says what the rows tell of a mount. Refused
+/// group. Rows do not tell which namespaces are detached trees: to those no mount comes. Where a master has no member, [`gets_as_told`](crate::missing::gets_as_told) says what the rows tell of a mount. Refused
 /// as `NoMemory` alone.
 pub fn reached(
     rows: &SeenRows,

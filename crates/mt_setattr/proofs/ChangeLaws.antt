@@ -13,10 +13,11 @@ use Rattle.mt_peers.specs.WellFormed.{IsPeering}
 use Rattle.mt_peers.proofs.MakingLaws.{made-IsPeering, made-mounts}
 use Rattle.mt_peers.proofs.AlikeLaws.{IsAlike, made-IsAlike, same-IsAlike}
 use Rattle.mt_propagate.specs.World.{WorldView, root_dir}
-use Rattle.mt_propagate.specs.WellFormed.{IsWellFormed, fs_at}
-use Rattle.mt_propagate.proofs.RowLaws.{keys-map, mapped-row}
+use Rattle.mt_propagate.specs.WellFormed.{IsForest, IsWellFormed, fs_at}
+use Rattle.mt_propagate.proofs.RowLaws.{keys-map, mapped-row, row-mapped}
 use Rattle.mt_propagate.proofs.TreeLaws.{forest_changed}
 use Rattle.mt_propagate.proofs.ShownLaws.{shown-alike, groups-show, masters-show}
+use Rattle.mt_propagate.proofs.DetachedTreeLaws.{trees_stay}
 use Rattle.mt_setattr.specs.declared.change.Change.{Change}
 use Rattle.mt_setattr.specs.Change.{with_change, changed_mount, is_chosen}
 
@@ -52,11 +53,14 @@ module _ (w : WorldView) (h : IsWellFormed w) (c : Change) (i : ℕ) where
   unfolding with_change
   alike = same-IsAlike (fs_at w) (fs_at (with_change w c i)) (remade c.prop).peers (λ j s e. same_fs j) (peered c.prop).1
 
+  changed_forest : IsForest w.skel (map change w.forest)
+  changed_forest = forest_changed w.skel w.forest h.forest change (λ m. refl) (λ m. refl) (λ m. refl) (λ m. refl)
+
   -- a change keeps a world well-formed
   pub change-kept : IsWellFormed (with_change w c i)
   unfolding with_change
   change-kept = record {
-    forest = forest_changed w.skel w.forest h.forest change (λ m. refl) (λ m. refl) (λ m. refl) (λ m. refl);
+    forest = changed_forest;
     peering = (peered c.prop).0;
     same_mounts = keys-map id_of change (λ m. refl) w.forest ∙ h.same_mounts ∙ sym (peered c.prop).2;
     from_one = h.from_one;
@@ -71,6 +75,7 @@ module _ (w : WorldView) (h : IsWellFormed w) (c : Change) (i : ℕ) where
         );
     group_fs = groups-show (with_change w c i) alike;
     master_fs = masters-show (with_change w c i) alike;
+    trees = trees_stay w.skel w.forest (map change w.forest) h.forest.rising changed_forest (λ j m e root. (j, change m, row-mapped id_of change (λ m. refl) w.forest j m e, refl)) w.trees h.trees;
   }
 
 -- and so does one that was made or refused

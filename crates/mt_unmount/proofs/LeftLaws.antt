@@ -21,9 +21,10 @@ use Rattle.mt_propagate.proofs.CopyRowLaws.{root_is, space_is}
 use Rattle.mt_skel.proofs.MiddleLaws.{each_still}
 use Rattle.mt_propagate.proofs.RowLaws.{keys-map, keys-filter, found-each, part-kept}
 use Rattle.mt_propagate.proofs.ShownLaws.{shown-alike, groups-show, masters-show, left-mounts, state-mount}
+use Rattle.mt_propagate.proofs.DetachedTreeLaws.{trees_stay}
 use Rattle.mt_propagate.proofs.ContainedLaws.{left-contained, left-state}
 use Rattle.mt_unmount.specs.Sliding.{CanGo, once_gone, slid}
-use Rattle.mt_unmount.proofs.LeftTreeLaws.{leaves, moved, left_mounts, Stays, left-forest, row-of}
+use Rattle.mt_unmount.proofs.LeftTreeLaws.{leaves, moved, left_mounts, Stays, left-forest, row-of, stays-in, root-stays}
 use Rattle.mt_unmount.proofs.StandingLaws.{under-space}
 use Rattle.mt_unmount.proofs.SlideLaws.{slid-here}
 
@@ -60,6 +61,8 @@ module _ (w : WorldView) (h : IsWellFormed w) (goes : ℕ → Bool) where
         subst (λ (m : Mount). (1 ≤ k) × (k < w.next_mount) × (1 ≤ m.space) × (m.space < w.next_space) × (m.root < length w.skel.directories)) (sym s.made) (h.below k s.mount s.there);
     group_fs = groups-show (once_gone w goes) alike;
     master_fs = masters-show (once_gone w goes) alike;
+    trees = trees_stay w.skel w.forest (left_mounts w goes) h.forest.rising (left-forest w h goes can)
+        (λ i m e root. (i, moved w goes m, stays-in w h goes i m e (root-stays w h goes can i m e root), refl)) w.trees h.trees;
   }
 
 module _ (w : WorldView) (h : IsWellFormed w) (goes : ℕ → Bool) (n : ℕ) (c : IsContained n w) where

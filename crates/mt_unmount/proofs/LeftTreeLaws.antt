@@ -60,7 +60,7 @@ module _ (w : WorldView) (h : IsWellFormed w) (goes : ℕ → Bool) where
   space-was k y s = ap (λ (m : Mount). m.space) s.made
 
   module _ (can : CanGo w goes) where
-    root-stays : (j : ℕ) (r : Mount) → mount_at w.forest j ≡ Some r → r.place ≡ None → goes j ≡ false
+    pub root-stays : (j : ℕ) (r : Mount) → mount_at w.forest j ≡ Some r → r.place ≡ None → goes j ≡ false
     root-stays j r e none = false_from_ne_true (goes j) (λ is. let p = can.placed j r is e in none-some p.0 (sym none ∙ p.1))
 
     pub left-forest : IsForest w.skel (left_mounts w goes)

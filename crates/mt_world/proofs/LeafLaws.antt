@@ -16,7 +16,8 @@ use Rattle.mt_peers.specs.Peers.{Peer, mount_of, state_at, in_group}
 use Rattle.mt_peers.specs.WellFormed.{IsPeering}
 use Rattle.mt_propagate.specs.World.{WorldView, private, state_of, group_of}
 use Rattle.mt_propagate.specs.WellFormed.{IsWellFormed, fs_at}
-use Rattle.mt_propagate.proofs.AddedLaws.{Fits, forest_more, row_cases}
+use Rattle.mt_propagate.proofs.AddedLaws.{Fits, forest_more, row_cases, row_stays}
+use Rattle.mt_propagate.proofs.DetachedTreeLaws.{trees_stay}
 use Rattle.mt_propagate.proofs.JoinLaws.{joined-IsPeering}
 use Rattle.mt_propagate.proofs.PrivateLaws.{new_peer}
 use Rattle.mt_propagate.proofs.ShownLaws.{state-mount}
@@ -132,6 +133,7 @@ module _ (w : WorldView) (m : Mount) (h : IsWellFormed w) (fits : Fits w.skel w.
         let oi : (state_of w i).master ≡ Some g = sym (ap (λ (s : State). s.master) (leaf-state i)) ∙ ei in
         let oj : group_of w j ≡ Some g = sym (ap (λ (s : State). s.group) (leaf-state j)) ∙ ej in
         same_fs i (off_master i g oi) ∙ h.master_fs i j g oi oj ∙ sym (same_fs j (off j g oj));
+    trees = trees_stay w.skel w.forest (put id_of m w.forest) h.forest.rising (forest_more w.skel w.forest m h.forest fits) (λ i x e root. (i, x, row_stays w.skel w.forest m h.forest fits i x e, refl)) w.trees h.trees;
   }
 
 -- the mounts that pass a test are no fewer once one was put that was not there

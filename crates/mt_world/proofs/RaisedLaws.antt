@@ -31,24 +31,26 @@ raised-kept w group mount space h g m s = record {
   below = λ i x e. let b = h.below i x e in (b.0, omega (arith, b.1, m), b.2, omega (arith, b.3, s), b.4);
   group_fs = h.group_fs;
   master_fs = h.master_fs;
+  trees = h.trees;
 }
 
 -- a world by its parts
-pub raised_world : (w v : WorldView) → v.skel ≡ w.skel → v.forest ≡ w.forest → v.peering.peers ≡ w.peering.peers → v ≡ raised w v.peering.next v.next_mount v.next_space
-raised_world w v skel forest peers i = record {
+pub raised_world : (w v : WorldView) → v.skel ≡ w.skel → v.forest ≡ w.forest → v.peering.peers ≡ w.peering.peers → v.trees ≡ w.trees → v ≡ raised w v.peering.next v.next_mount v.next_space
+raised_world w v skel forest peers trees i = record {
   skel = skel i;
   forest = forest i;
   peering = record { peers = peers i; next = v.peering.next };
   next_mount = v.next_mount;
   next_space = v.next_space;
+  trees = trees i;
 }
 
 -- a bare world stays bare
-pub bare_raised : (w v : WorldView) → HasNoMounts w → v.skel ≡ w.skel → v.forest ≡ w.forest → v.peering.peers ≡ w.peering.peers → w.peering.next ≤ v.peering.next → w.next_mount ≤ v.next_mount → w.next_space ≤ v.next_space
+pub bare_raised : (w v : WorldView) → HasNoMounts w → v.skel ≡ w.skel → v.forest ≡ w.forest → v.peering.peers ≡ w.peering.peers → v.trees ≡ w.trees → w.peering.next ≤ v.peering.next → w.next_mount ≤ v.next_mount → w.next_space ≤ v.next_space
     → v.peering.next ≤ 2 ^ 62 → v.next_mount ≤ 2 ^ 62 → v.next_space ≤ 2 ^ 62 → HasNoMounts v
-bare_raised w v b skel forest peers g m s few_groups few_mounts few_spaces = record {
+bare_raised w v b skel forest peers trees g m s few_groups few_mounts few_spaces = record {
   sound = record {
-    well_formed = subst IsWellFormed (sym (raised_world w v skel forest peers)) (raised-kept w v.peering.next v.next_mount v.next_space b.sound.well_formed g m s);
+    well_formed = subst IsWellFormed (sym (raised_world w v skel forest peers trees)) (raised-kept w v.peering.next v.next_mount v.next_space b.sound.well_formed g m s);
     skel = subst IsSkeleton (sym skel) b.sound.skel;
   };
   forest = forest ∙ b.forest;

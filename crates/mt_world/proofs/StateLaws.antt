@@ -199,4 +199,5 @@ module _ (w : WorldView) (i : ℕ) (s : State) (h : IsWellFormed w) (m : Mount) 
     below = h.below;
     group_fs = λ j k g ej ek. let a = grouped-state after j g ej in let b = grouped-state after k g ek in group_fs j k g a.0 b.0 a.1 b.1 a.2 b.2;
     master_fs = λ j k g ej ek. let a = slave-state after j g ej in let b = grouped-state after k g ek in master_fs j k g a.0 b.0 a.1 b.1 a.2 b.2;
+    trees = h.trees;
   }

@@ -30,6 +30,7 @@ is_made : (c : goal.After-world-2-1) → with_space (world_view c.args.world.now
   peering = record { peers = c.join.new.self.peers; next = c.join.new.self.next };
   next_mount = c.args.world.now.next_mount + 1;
   next_space = c.args.world.now.next_space + 1;
+  trees = c.args.world.now.trees;
 }
 unfolding with_space
 is_made c =
@@ -39,7 +40,7 @@ is_made c =
     let peers = peers_after w _ _ c.requires.well_formed c.join.ensures.peers (ap (λ (p : Peering). p.peers) c.in_ok-reserve-2.ensures.peering) in
     let next = c.join.ensures.next ∙ ap (λ (p : Peering). p.next) c.in_ok-reserve-2.ensures.peering in
     sym (private_world w _ (new_root w c.in-Some.fs) (w.next_space + 1) refl
-    (forest ∙ (λ i. w.forest ++ record m { root = c.root.ensures.root i; attrs = c.new.ensures i } ∷ [])) peers next refl refl)
+    (forest ∙ (λ i. w.forest ++ record m { root = c.root.ensures.root i; attrs = c.new.ensures i } ∷ [])) peers next refl refl refl)
 
 pub returns-clause-done : goal.returns-clause-done
 returns-clause-done c =

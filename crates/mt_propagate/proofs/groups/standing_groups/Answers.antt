@@ -10,5 +10,5 @@ use Rattle.mt_propagate.proofs.groups.standing_groups.Goals as goal
 pub returns-clause-standing : goal.returns-clause-standing
 returns-clause-standing c g =
     let sorted = list_any-IsPermutation (nat_eq g) c.in_ok-groups.groups.items c.sort_unstable.new.self.items c.sort_unstable.ensures.permutation in
-    let all = ap (list_any (nat_eq g)) c.new.ensures ∙ sym sorted ∙ ap (list_any (nat_eq g)) c.in_ok-groups.ensures.groups ∙ groups-named (world_view c.args.world.now) g c.args.hits.now in
+    let all = ap (list_any (nat_eq g)) c.new.ensures ∙ sym sorted ∙ ap (list_any (nat_eq g)) c.in_ok-groups.ensures.groups ∙ groups-named (world_view c.args.world.now) g c.args.targets.now in
     ap (λ b. names c.args.home g || b) all

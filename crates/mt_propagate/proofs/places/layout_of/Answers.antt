@@ -10,6 +10,6 @@ returns-clause-layout c =
     let moved = c.args.tree.now.moved in
     let first = c.args.place.mount in
     let sources = c.new-2.ensures ∙ c.in_ok-sources.ensures.ids ∙ ap (map id_of) c.deref.ensures.value in
-    let hits = c.new.ensures ∙ c.in_ok-hits.ensures.items in
+    let others = c.new.ensures ∙ c.in_ok-others.ensures.items in
     ap (layout_of (world_view c.args.world.now) c.args.tree.now.top c.args.place moved)
-    ((λ i. copies_by (sources i) (cond moved (hits i) (first ∷ hits i))) ∙ copies-by c.args.tree.now.mounts.items (cond moved c.args.hits.now (first ∷ c.args.hits.now)))
+    ((λ i. copies_by (sources i) (cond moved (others i) (first ∷ others i))) ∙ copies-by c.args.tree.now.mounts.items (cond moved c.args.targets.now (first ∷ c.args.targets.now)))

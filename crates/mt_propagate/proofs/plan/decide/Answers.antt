@@ -9,4 +9,4 @@ pub returns-clause-relocations : goal.returns-clause-relocations
 returns-clause-relocations c =
     let last = c.in_ok-last.ensures.last ∙ ap (λ (l : List Mount). stack_last l c.args.tree.now.top) c.deref-sources.ensures.value in
     c.in_ok-relocations.ensures.relocations
-    ∙ ap (λ (m : Mount). first_relocations c.args.layout.now ++ relocations_at c.args.layout.now (world_view c.args.world.now) m c.args.hits.now) last
+    ∙ ap (λ (m : Mount). first_relocations c.args.layout.now ++ relocations_at c.args.layout.now (world_view c.args.world.now) m c.args.targets.now) last

@@ -24,6 +24,7 @@ is_made : (c : goal.After-join) → world_view (record {
   peers = c.join.new.self;
   next_mount = c.args.world.now.next_mount;
   next_space = c.args.world.now.next_space;
+  trees = c.args.world.now.trees;
 }) ≡ with_leaf (world_view c.args.world.now) c.args.mount
 is_made c =
     let w = world_view c.args.world.now in

@@ -1,0 +1,44 @@
+-- Detached trees stay namespaces that are there.
+use Rattle.std.proofs.Common.{◌≡◌, ℕ, true, List, Option, Some, None, refl, ap, ◌∙◌, arith}
+use Rattle.std.specs.Prelude.{is_none, is_some}
+use Rattle.std.proofs.lemmas.Bool.Decides.{nat_tests}
+use Rattle.mt_skel.specs.Keyed.{rises}
+use Rattle.mt_skel.specs.Skeleton.{Skeleton}
+use Rattle.mt_skel.proofs.ElementLaws.{row_in, in_found}
+use Rattle.mt_mounts.specs.declared.mount.Mount.{Mount}
+use Rattle.mt_mounts.specs.declared.mount.Place.{Place}
+use Rattle.mt_mounts.specs.Forest.{id_of, mount_at, is_root, root_mount}
+use Rattle.mt_mounts.proofs.ForestLaws.{find_row, find_passes}
+use Rattle.mt_propagate.specs.WellFormed.{IsForest, AreTrees}
+use Rattle.mt_propagate.proofs.WalkLaws.{root_here}
+
+no_place : (o : Option Place) → is_none o ≡ true → o ≡ None
+no_place None e = refl
+no_place (Some p) e = absurd (cc)
+
+root_passes : (n : ℕ) (m : Mount) → m.place ≡ None → m.space ≡ n → is_root n m ≡ true
+root_passes n m e s = grind (arith, nat_tests)
+
+-- the mounts ms become the mounts ns
+module _ (s : Skeleton) (ms ns : List Mount) (rising : rises id_of ms ≡ true) (after : IsForest s ns) where
+  -- a namespace stays where a mount of the root mount's namespace is there
+  pub space-stays : (n : ℕ) → ((i : ℕ) (m : Mount) → mount_at ms i ≡ Some m → m.place ≡ None → m.space ≡ n → (j : ℕ) × (q : Mount) × (mount_at ns j ≡ Some q) × (q.space ≡ n))
+      → is_some (root_mount ms n) ≡ true → is_some (root_mount ns n) ≡ true
+  space-stays n stays is = by (root_mount ms n) refl is
+    where
+      by : (o : Option Mount) → root_mount ms n ≡ o → is_some o ≡ true → is_some (root_mount ns n) ≡ true
+      by None e f = absurd (cc)
+      by (Some m) e f =
+          let root = root_here n m (find_passes (is_root n) ms m e) in
+          let q = stays m.id m (find_row (is_root n) ms m rising e) (no_place m.place root.0) root.1 in
+          let r = after.rooted q.0 q.1 q.2 in
+          let found = in_found (is_root n) ns r.1 (row_in id_of r.0 ns r.1 r.2) (root_passes n r.1 r.3 (r.4 ∙ q.3)) in
+          ap is_some found.1
+
+  -- and so do all detached trees where each root mount has such a mount
+  pub trees_stay : ((i : ℕ) (m : Mount) → mount_at ms i ≡ Some m → m.place ≡ None → (j : ℕ) × (q : Mount) × (mount_at ns j ≡ Some q) × (q.space ≡ m.space))
+      → (ts : List ℕ) → AreTrees ms ts → AreTrees ns ts
+  trees_stay stays ts a = record {
+    rising = a.rising;
+    there = λ n e. space-stays n (λ i m at root here. let q = stays i m at root in (q.0, q.1, q.2, q.3 ∙ here)) (a.there n e);
+  }
