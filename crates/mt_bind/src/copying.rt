@@ -136,7 +136,7 @@ fn add_space(world: &mut World, mounts: &[Mount], states: &[(MountId, State)]) -
 /// master. With `less` the new namespace is less privileged: there the copy of a mount in a group is in no group, and
 /// has that group as its master.
 ///
-/// Refused as `NoNamespace`, as `TooMany` at 64 namespaces or above 4,096 mounts, and as `NoMemory`;
+/// Refused as `NoNamespace`, `Detached` if the namespace is a detached tree, as `TooMany` at 64 namespaces or above 4,096 mounts, and as `NoMemory`;
 /// then nothing has changed.
 pub fn copy_space(world: &mut World, space: SpaceId, less: bool) -> Result<SpaceId, Fault>
     requires well_formed { IsWellFormed (world_view world.old) }
@@ -149,6 +149,9 @@ pub fn copy_space(world: &mut World, space: SpaceId, less: bool) -> Result<Space
 {
     if world.forest.root(space).is_none() {
         return Err(Fault::NoNamespace);
+    }
+    if world.is_tree(space) {
+        return Err(Fault::Detached);
     }
     let originals = world.forest.mounts_in(space)?;
     if too_many(world, originals.len()) {
