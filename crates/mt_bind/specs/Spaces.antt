@@ -15,14 +15,22 @@ use Rattle.mt_propagate.specs.World.{WorldView, is_space, is_tree, private, stat
 use Rattle.mt_propagate.specs.Limits.{too_many_mounts, too_many_spaces}
 use Rattle.mt_bind.specs.Copying.{copy_number, copy_of, state_of_copy}
 
--- one namespace more, whose root mount is private and shows the root of a filesystem
-unfoldable pub with_space : WorldView → ℕ → WorldView
-with_space w fs = record w {
-  forest = w.forest ++ record { id = w.next_mount; space = w.next_space; place = None; root = root_of w.skel fs; attrs = new_attrs } ∷ [];
+-- the root mount of the next namespace, which shows the root of a filesystem
+abbrev pub next_root : WorldView → ℕ → Mount
+next_root w fs = record { id = w.next_mount; space = w.next_space; place = None; root = root_of w.skel fs; attrs = new_attrs }
+
+-- one namespace more, whose root mount is private
+abbrev pub with_root : WorldView → Mount → WorldView
+with_root w root = record w {
+  forest = w.forest ++ root ∷ [];
   peering = record w.peering { peers = w.peering.peers ++ record { mount = w.next_mount; state = private } ∷ [] };
   next_mount = w.next_mount + 1;
   next_space = w.next_space + 1;
 }
+
+-- and shows the root of a filesystem
+unfoldable pub with_space : WorldView → ℕ → WorldView
+with_space w fs = with_root w (next_root w fs)
 
 -- the refusals of a new namespace, of the filesystem that was found
 abbrev pub new_space_refusals : WorldView → Option ℕ → List (Option Fault)

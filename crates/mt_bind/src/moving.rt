@@ -49,7 +49,7 @@ fn has_unbindable(world: &World, ids: &[MountId]) -> bool
 }
 
 /// Whether one of these mounts is unbindable and the place where they go is on a shared mount.
-fn is_unbindable_inside(world: &World, place: Place, ids: &[MountId]) -> bool
+pub(crate) fn is_unbindable_inside(world: &World, place: Place, ids: &[MountId]) -> bool
     ensures { result ≡ is_some (group_of (world_view world.now) place.mount) && list_any (λ k. (state_of (world_view world.now) k).unbindable) ids.now }
 {
     is_shared(world, place.mount) && has_unbindable(world, ids)
