@@ -48,8 +48,8 @@ abbrev pub opened_effect : WorldView → Bool → Result Place Fault → WorldVi
 opened_effect w recursive at = (with_copies w (opened_sources w recursive (place_or_nowhere at)), w.next_space)
 
 -- a detached tree of what is mounted where a path ends, and its number (open_tree(2), OPEN_TREE_CLONE)
-abbrev pub opened : WorldView → ℕ → List (List ℕ) → Bool → Result (WorldView × ℕ) Fault
-opened w n path recursive =
+abbrev pub tree_opened : WorldView → ℕ → List (List ℕ) → Bool → Result (WorldView × ℕ) Fault
+tree_opened w n path recursive =
     let at = walk w.skel w.forest n path in
     outcome (opened_refusals w recursive at) (opened_effect w recursive at)
 

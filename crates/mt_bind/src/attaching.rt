@@ -1,5 +1,5 @@
 //! Detached trees come to stand at places.
-ghost use Rattle.std.specs.Prelude.{◌≡◌, ◌≢◌, ◌+◌, ◌*◌, ◌<◌, ◌≤◌, ◌^◌, ◌||◌, IsTrue, cond, true, map, length, IfOk, IfErr, OnOk, OnErr, IsOkUnless, Ok, Err};
+ghost use Rattle.std.specs.Prelude.{◌≡◌, ◌≢◌, ◌*◌, ◌<◌, ◌≤◌, ◌^◌, cond, true, map, length, IfOk, IfErr, OnOk, OnErr, IsOkUnless, Ok, Err};
 ghost use Rattle.mt_skel.specs.Keyed.{among};
 ghost use Rattle.mt_mounts.specs.declared.mount.Mount.{Mount as AnyMount};
 ghost use Rattle.mt_propagate.specs.Plans.{source_of, copied_source};

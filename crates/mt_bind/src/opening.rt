@@ -4,7 +4,7 @@ ghost use Rattle.mt_propagate.specs.World.{world_view};
 ghost use Rattle.mt_propagate.specs.WellFormed.{IsWellFormed};
 ghost use Rattle.mt_propagate.specs.Touched.{since_view};
 ghost use Rattle.mt_propagate.specs.Plans.{member_of};
-ghost use Rattle.mt_bind.specs.Opening.{unplaced_top, opened_sources, opened, tree_made};
+ghost use Rattle.mt_bind.specs.Opening.{unplaced_top, opened_sources, tree_opened, tree_made};
 
 use crate::binding::{is_unbindable, members_at};
 use crate::copying::{add_space, copies, make_room, states};
@@ -58,8 +58,8 @@ pub fn open_tree(
 ) -> Result<SpaceId, Fault>
     requires well_formed { IsWellFormed (world_view world.old) }
     requires numbers { (world.old.next_mount < 2 ^ 63) × (world.old.next_space < 2 ^ 63) }
-    ensures done { IfOk result (λ tree. opened (world_view world.old) space path.now recursive ≡ Ok (world_view world.new, tree)) }
-    ensures refused { IfErr result (λ fault. fault ≢ Fault.NoMemory → opened (world_view world.old) space path.now recursive ≡ Err fault) }
+    ensures done { IfOk result (λ tree. tree_opened (world_view world.old) space path.now recursive ≡ Ok (world_view world.new, tree)) }
+    ensures refused { IfErr result (λ fault. fault ≢ Fault.NoMemory → tree_opened (world_view world.old) space path.now recursive ≡ Err fault) }
     ensures unchanged { OnErr result (world_view world.new ≡ world_view world.old) }
     ensures kept { IsWellFormed (world_view world.new) }
     ensures since { since_view world.new ≡ since_view world.old }
