@@ -7,11 +7,11 @@ use Rattle.mt_skel.specs.declared.fault.Fault.{Fault}
 use Rattle.mt_skel.specs.Outcome.{refusal_of, refuse_if, outcome}
 use Rattle.mt_skel.proofs.OutcomeLaws.{not_refused, accepted, passed, stopped}
 use Rattle.mt_skel.specs.Skeleton.{fs_named}
-use Rattle.mt_skel.specs.declared.fault.Fault.TheVariants.{NotMountRoot, RootPlace, BadAttr, SharedParent, IntoItself, Unbindable, UnbindableInside, TooMany}
+use Rattle.mt_skel.specs.declared.fault.Fault.TheVariants.{NotMountRoot, RootPlace, BadAttr, SharedParent, IntoItself, Unbindable, UnbindableInside, TooMany, Detached}
 use Rattle.mt_mounts.specs.declared.mount.Place.{Place}
 use Rattle.mt_mounts.specs.Forest.{is_below}
 use Rattle.mt_mounts.specs.Walk.{walk}
-use Rattle.mt_propagate.specs.World.{WorldView, is_space, state_of, group_of}
+use Rattle.mt_propagate.specs.World.{WorldView, is_space, is_tree, state_of, group_of}
 use Rattle.mt_propagate.specs.Named.{place_or_nowhere, is_root_place, is_root_mount, is_mount_root}
 use Rattle.mt_propagate.specs.Limits.{too_many_mounts, too_many_spaces}
 use Rattle.mt_propagate.specs.Copies.{Source, new_copies, copy_id}
@@ -63,6 +63,7 @@ new_space_accepted w name v i e =
 -- a copy of a namespace
 pub record IsAcceptedCopy (w : WorldView) (n : ℕ) (less : Bool) (v : WorldView) (i : ℕ) : Type 0 where
   pub there : is_space w n ≡ true
+  pub attached : is_tree w n ≡ false
   pub few_spaces : too_many_spaces w ≡ false
   pub few : too_many_mounts w (length (originals w n)) ≡ false
   pub world : with_copy w n less ≡ v
@@ -73,8 +74,9 @@ copy_space_accepted w n less v i e =
     let a = accepted (copy_space_refusals w n) _ _ e in
     record {
       there = not-false _ (not_refused _ _ a.1.0);
-      few_spaces = not_refused _ _ a.1.1.0;
-      few = not_refused _ _ a.1.1.1.0;
+      attached = not_refused _ _ a.1.1.0;
+      few_spaces = not_refused _ _ a.1.1.1.0;
+      few = not_refused _ _ a.1.1.1.1.0;
       world = ap (λ x. x.0) a.0;
       number = ap (λ x. x.1) a.0;
     }
@@ -141,6 +143,7 @@ bind_accepted w n recursive from to v i e =
 
 -- a move
 pub record IsAcceptedMove (w : WorldView) (n : ℕ) (from to : List (List ℕ)) (v : WorldView) : Type 0 where
+  pub attached : is_tree w n ≡ false
   pub begun : walk w.skel w.forest n from ≡ Ok (path_end w n from)
   pub named : is_mount_root w (path_end w n from) ≡ true
   pub placed : is_root_mount w (path_end w n from) ≡ false
@@ -154,12 +157,14 @@ pub record IsAcceptedMove (w : WorldView) (n : ℕ) (from to : List (List ℕ)) 
 
 pub move_accepted : (w : WorldView) (n : ℕ) (from to : List (List ℕ)) (v : WorldView) → moved w n from to ≡ Ok v → IsAcceptedMove w n from to v
 move_accepted w n from to v e =
-    let a = accepted (moved_refusals w (walk w.skel w.forest n from) (walk w.skel w.forest n to)) _ _ e in
-    let late = a.1.1.1.1 in
+    let a = accepted (refuse_if (is_tree w n) Detached ∷ moved_refusals w (walk w.skel w.forest n from) (walk w.skel w.forest n to)) _ _ e in
+    let early = a.1.1 in
+    let late = early.1.1.1 in
     record {
-      begun = has_ended _ a.1.0;
-      named = not-false _ (not_refused _ _ a.1.1.0);
-      placed = not_refused _ _ a.1.1.1.0;
+      attached = not_refused _ _ a.1.0;
+      begun = has_ended _ early.0;
+      named = not-false _ (not_refused _ _ early.1.0);
+      placed = not_refused _ _ early.1.1.0;
       ended = has_ended _ late.0;
       off_root = not_refused _ _ late.1.0;
       unshared = not_refused _ _ late.1.1.0;
@@ -171,6 +176,7 @@ move_accepted w n from to v e =
 
 -- a pivot
 pub record IsAcceptedPivot (w : WorldView) (n : ℕ) (new old : List (List ℕ)) (v : WorldView) : Type 0 where
+  pub attached : is_tree w n ≡ false
   pub begun : walk w.skel w.forest n new ≡ Ok (path_end w n new)
   pub named : is_mount_root w (path_end w n new) ≡ true
   pub placed : is_root_mount w (path_end w n new) ≡ false
@@ -182,12 +188,14 @@ pub record IsAcceptedPivot (w : WorldView) (n : ℕ) (new old : List (List ℕ))
 
 pub pivot_accepted : (w : WorldView) (n : ℕ) (new old : List (List ℕ)) (v : WorldView) → pivoted w n new old ≡ Ok v → IsAcceptedPivot w n new old v
 pivot_accepted w n new old v e =
-    let a = accepted (pivoted_refusals w (walk w.skel w.forest n new) (walk w.skel w.forest n old)) _ _ e in
-    let late = a.1.1.1.1 in
+    let a = accepted (refuse_if (is_tree w n) Detached ∷ pivoted_refusals w (walk w.skel w.forest n new) (walk w.skel w.forest n old)) _ _ e in
+    let early = a.1.1 in
+    let late = early.1.1.1 in
     record {
-      begun = has_ended _ a.1.0;
-      named = not-false _ (not_refused _ _ a.1.1.0);
-      placed = not_refused _ _ a.1.1.1.0;
+      attached = not_refused _ _ a.1.0;
+      begun = has_ended _ early.0;
+      named = not-false _ (not_refused _ _ early.1.0);
+      placed = not_refused _ _ early.1.1.0;
       ended = has_ended _ late.0;
       off_root = not_refused _ _ late.1.0;
       unshared = not_refused _ _ late.1.1.0;
@@ -234,11 +242,12 @@ past_places w s p = outcome (refuse_if (is_below w.forest s.mount p.mount) IntoI
     ∷ too_many w (tree_of w s.mount) p ∷ []) (copied w (tree_of w s.mount) p)
 
 -- a move of a mount that is no root mount from a parent that is not shared, where both paths end
-pub moved_judged : (w : WorldView) (n : ℕ) (from to : List (List ℕ)) (s p : Place) → walk w.skel w.forest n from ≡ Ok s → is_mount_root w s ≡ true → is_root_mount w s ≡ false
+pub moved_judged : (w : WorldView) (n : ℕ) (from to : List (List ℕ)) (s p : Place) → is_tree w n ≡ false → walk w.skel w.forest n from ≡ Ok s → is_mount_root w s ≡ true → is_root_mount w s ≡ false
     → walk w.skel w.forest n to ≡ Ok p → is_root_place w p ≡ false → stands_on_shared w s.mount ≡ false
     → moved w n from to ≡ past_places w s p
-moved_judged w n from to s p begun named placed ended off unshared =
-    (λ i. outcome (moved_refusals w (begun i) (ended i)) (moved_effect w (begun i) (ended i)))
+moved_judged w n from to s p attached begun named placed ended off unshared =
+    passed (is_tree w n) Detached _ _ attached
+    ∙ (λ i. outcome (moved_refusals w (begun i) (ended i)) (moved_effect w (begun i) (ended i)))
     ∙ passed (not (is_mount_root w s)) NotMountRoot _ _ (ap not named)
     ∙ passed (is_root_mount w s) RootPlace _ _ placed
     ∙ passed (is_root_place w p) RootPlace _ _ off
