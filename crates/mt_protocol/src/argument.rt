@@ -31,10 +31,7 @@ impl Argument {
         ensures { result ≡ is_optional self }
     {
         match self {
-            Argument::Less
-            | Argument::Recursive
-            | Argument::Attributes
-            | Argument::Setting => true,
+            Argument::Less | Argument::Recursive | Argument::Attributes | Argument::Setting => true,
             Argument::Space
             | Argument::Scope
             | Argument::Count(_)

@@ -143,7 +143,9 @@ impl<'a> Reason<'a> {
                 Shown(*word)
             ),
             Reason::Less { word } => { write!(f, "{}: only less may stand there", Shown(*word)) }
-            Reason::Recursive { word } => { write!(f, "{}: only rec may stand there", Shown(*word)) }
+            Reason::Recursive { word } => {
+                write!(f, "{}: only rec may stand there", Shown(*word))
+            }
             Reason::NoAttributes { word } => {
                 write!(f, "{}: only set= with words may stand there", Shown(*word))
             }

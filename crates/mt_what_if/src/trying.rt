@@ -92,9 +92,7 @@ impl Scene {
         ensures made { MakesMore self.old.trial.commands self.new.trial.commands }
     {
         match command {
-            Command::Mount { fs, .. }
-            | Command::MountWith { fs, .. }
-            | Command::NewTree { fs } => {
+            Command::Mount { fs, .. } | Command::MountWith { fs, .. } | Command::NewTree { fs } => {
                 let kind = Label::of(*text.allocator(), UNKNOWN_TYPE)?;
                 self.provide_filesystem(text, fs, &kind)
             }
