@@ -46,12 +46,12 @@ enum Question {
 
 /// Which rows the reason of a refusal is found by, if there are any.
 fn question_of(refusal: Refusal, command: &Command) -> Option<Question> {
-    if asked_tree(command).is_some() {
-        return Some(Question::All);
-    }
     match refusal {
         Refusal::BadAttr => Some(Question::Nothing),
         Refusal::SharedParent | Refusal::NoNamespace => Some(Question::All),
+        Refusal::IntoItself | Refusal::UnbindableInside if asked_tree(command).is_some() => {
+            Some(Question::All)
+        }
         Refusal::NoEntry
         | Refusal::NotMountRoot
         | Refusal::RootPlace
