@@ -93,7 +93,7 @@ bound_shows w n from true p h e i m f = let r = (walked w n h from p e).0 in wit
 bound_shows w n from false p h e i m f = let r = (walked w n h from p e).0 in alone_shows w h p r.0 r.1 r.3 i m f
 
 -- whose mounts are below the top
-bound_below : (w : WorldView) (n : ℕ) (from : List (List ℕ)) (recursive : Bool) (p : Place) → IsWellFormed w → walk w.skel w.forest n from ≡ Ok p → (i : ℕ) (m : Mount) → mount_at (source_at w recursive p).mounts i ≡ Some m → is_below w.forest p.mount i ≡ true
+pub bound_below : (w : WorldView) (n : ℕ) (from : List (List ℕ)) (recursive : Bool) (p : Place) → IsWellFormed w → walk w.skel w.forest n from ≡ Ok p → (i : ℕ) (m : Mount) → mount_at (source_at w recursive p).mounts i ≡ Some m → is_below w.forest p.mount i ≡ true
 bound_below w n from true p h e i m f = let r = (walked w n h from p e).0 in within_below w h p r.0 r.1 r.3 i m f
 bound_below w n from false p h e i m f =
     let r = (walked w n h from p e).0 in

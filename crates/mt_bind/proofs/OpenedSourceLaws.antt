@@ -10,14 +10,17 @@ use Rattle.mt_mounts.specs.Forest.{id_of, mount_at}
 use Rattle.mt_mounts.specs.Walk.{walk}
 use Rattle.mt_mounts.proofs.CycleLaws.{no_cycle, rank_of, rank_falls}
 use Rattle.mt_peers.proofs.MemberLaws.{some-is}
-use Rattle.mt_propagate.specs.World.{WorldView}
+use Rattle.mt_propagate.specs.World.{WorldView, space_of}
 use Rattle.mt_propagate.specs.WellFormed.{IsWellFormed, fs_at}
 use Rattle.mt_propagate.specs.Sound.{IsTree}
+use Rattle.mt_propagate.proofs.ContainedLaws.{below-space}
+use Rattle.mt_propagate.proofs.CopyRowLaws.{space_is}
+use Rattle.mt_propagate.proofs.WalkLaws.{walked}
 use Rattle.mt_propagate.proofs.RowLaws.{mapped-row, row-mapped}
 use Rattle.mt_propagate.proofs.TreeLaws.{parent-from, parent-is}
 use Rattle.mt_bind.specs.Sources.{source_at}
 use Rattle.mt_bind.specs.Opening.{unplaced_top, opened_sources}
-use Rattle.mt_bind.proofs.MountLaws.{bound_source, bound_top, bound_shows}
+use Rattle.mt_bind.proofs.MountLaws.{bound_source, bound_top, bound_shows, bound_below}
 use Rattle.mt_bind.proofs.SourceCopyLaws.{AreSources}
 use Rattle.mt_bind.proofs.OpenedLaws.{AreShown}
 
@@ -93,3 +96,11 @@ module _ (w : WorldView) (n : ℕ) (from : List (List ℕ)) (recursive : Bool) (
         let x = mapped-row id_of (unplaced_top p.mount) (λ m. refl) ms i u e in
         subst (λ (m : Mount). m.root < length w.skel.directories) (sym x.2) (source.roots i x.0 x.1);
   }
+
+  -- it is of mounts of the path's namespace
+  pub opened-inside : (i : ℕ) (u : Mount) → mount_at (opened_sources w recursive p) i ≡ Some u → space_of w i ≡ n
+  opened-inside i u e =
+      let x = mapped-row id_of (unplaced_top p.mount) (λ m. refl) ms i u e in
+      let y = bound_shows w n from recursive p h ended i x.0 x.1 in
+      let r = (walked w n h from p ended).0 in
+      space_is w i y.0 y.1 ∙ sym (below-space w h p.mount i r.0 y.0 r.1 (bound_below w n from recursive p h ended i x.0 x.1)) ∙ r.2
