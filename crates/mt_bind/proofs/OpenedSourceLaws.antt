@@ -103,4 +103,4 @@ module _ (w : WorldView) (n : ℕ) (from : List (List ℕ)) (recursive : Bool) (
       let x = mapped-row id_of (unplaced_top p.mount) (λ m. refl) ms i u e in
       let y = bound_shows w n from recursive p h ended i x.0 x.1 in
       let r = (walked w n h from p ended).0 in
-      space_is w i y.0 y.1 ∙ sym (below-space w h p.mount i r.0 y.0 r.1 (bound_below w n from recursive p h ended i x.0 x.1)) ∙ r.2
+      space_is w i y.0 y.1 ∙ sym (below-space w h p.mount i y.0 y.1 (bound_below w n from recursive p h ended i x.0 x.1)) ∙ space_is w p.mount r.0 r.1 ∙ r.2
