@@ -69,9 +69,12 @@ def put_up(copy, proc):
         with open(os.open("self/mountinfo", os.O_RDONLY, dir_fd=proc), "rb") as lines:
             return [found.groups(b"") for line in lines if (found := LINE.fullmatch(line))]
     finally:
-        # What goes from a private mount goes from no other one.
-        syscalls.mount(None, PLACE, syscalls.MS_REC | syscalls.MS_PRIVATE)
-        syscalls.umount(PLACE, syscalls.MNT_DETACH)
+        # What goes from a private mount goes from no other one. What covers the root mount goes first.
+        flags = syscalls.AT_EMPTY_PATH | syscalls.AT_RECURSIVE
+        syscalls.mount_setattr(b"", propagation=syscalls.MS_PRIVATE, flags=flags, folder=copy)
+        with contextlib.suppress(OSError):
+            while True:
+                syscalls.umount(PLACE, syscalls.MNT_DETACH)
 
 
 def root_of(tree, proc):

@@ -23,6 +23,19 @@ class Apart(Exception):
     """Two answers, or two tables, that are not the same."""
 
 
+def making_of(words):
+    """The line that makes the tree that is to be attached in the place of a mount or a bind."""
+    if words[0] == b"mount":
+        return b"newtree " + words[2]
+    return b"opentree %b %b%b" % (words[1], words[2], b" rec" if words[0] == b"rbind" else b"")
+
+
+def change_of(option):
+    """The options of a setattr that give a new mount these attributes."""
+    has_time = any(time in option.removeprefix(b"set=").split(b",") for time in TIMES)
+    return option + (b" clr=atime" if has_time else b"")
+
+
 class Pair:
     """Two sessions: one as it is, and one with trees in the place of mounts and binds."""
 
@@ -44,31 +57,32 @@ class Pair:
         [[answer, *_]] = self.other.ask(line)
         return answer
 
-    def made(self, words):
-        """The tree that is to be attached in the place of a mount or a bind, or the refusal of a line that makes it."""
-        word, space, source, *rest = words
-        if word != b"mount":
-            return self.ask(b"opentree %b %b%b" % (space, source, b" rec" if word == b"rbind" else b""))
-        answer = self.ask(b"newtree " + source)
-        for option in rest[1:] if answer.startswith(b"ok ") else []:
-            tree = answer.removeprefix(b"ok ")
-            has_time = any(time in option.removeprefix(b"set=").split(b",") for time in TIMES)
-            changed = self.ask(b"setattr %b / %b%b" % (tree, option, b" clr=atime" if has_time else b""))
-            if changed != b"ok":
-                self.ask(b"dropns " + tree)
-                return changed
-        return answer
-
     def attached(self, words):
         """What the second session answers to two lines in the place of a mount or a bind."""
-        answer = self.made(words)
+        making = making_of(words)
+        answer = self.ask(making)
         if not answer.startswith(b"ok "):
             return answer
         tree = answer.removeprefix(b"ok ")
-        answer = self.ask(b"movetree %b %b %b" % (tree, words[1], words[3]))
-        if answer != b"ok":
-            self.ask(b"dropns " + tree)
+        changes = [b"setattr %b / %b" % (tree, change_of(option)) for option in words[4:]]
+        for line in [*changes, b"movetree %b %b %b" % (tree, words[1], words[3])]:
+            answer = self.ask(line)
+            if answer != b"ok":
+                self.close_both(tree, making)
+                break
         return answer
+
+    def close_both(self, tree, making):
+        """Closes a tree that was not attached, which has used up numbers. The first session uses up as many."""
+        self.ask(b"dropns " + tree)
+        words = making.split(b" ")
+        [[made]] = self.one.ask(b" ".join([words[0], *self.original(words[1:2]), *words[2:]]) if words[0] == b"opentree" else making)
+        self.one.ask(b"dropns " + made.removeprefix(b"ok "))
+
+    def original(self, numbers):
+        """The numbers that namespaces of the second session have in the first one."""
+        first = {other: one for one, other in self.spaces.items()}
+        return [b"%d" % first[int(number)] for number in numbers]
 
     def renumbered(self, words):
         """A command with the numbers of the second session."""
