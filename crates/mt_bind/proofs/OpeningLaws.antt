@@ -1,5 +1,5 @@
 -- A well-formed world stays so where a detached tree is opened, or made of a filesystem.
-use Rattle.std.proofs.Common.{◌≡◌, ℕ, ◌+◌, ◌<◌, ◌==◌, ltb, Bool, true, List, [], ◌∷◌, ◌++◌, length, Ok, refl, ap, subst, ◌∙◌, inl, inr, arith}
+use Rattle.std.proofs.Common.{◌≡◌, ℕ, ◌+◌, ◌<◌, ◌==◌, ltb, Bool, true, List, [], ◌∷◌, ◌++◌, length, Some, Ok, refl, ap, subst, ◌∙◌, inl, inr, arith}
 use Rattle.std.specs.Prelude.{is_some, None}
 use Rattle.std.specs.List.{list_all}
 use Rattle.std.proofs.lemmas.Bool.Decides.{nat_tests}
@@ -7,7 +7,7 @@ use Rattle.mt_skel.specs.Keyed.{among}
 use Rattle.mt_skel.specs.Skeleton.{root_of}
 use Rattle.mt_skel.proofs.ElementLaws.{in_any, any_in, in_append}
 use Rattle.mt_mounts.specs.declared.mount.Mount.{Mount}
-use Rattle.mt_mounts.specs.Forest.{id_of, root_mount}
+use Rattle.mt_mounts.specs.Forest.{id_of, mount_at, root_mount}
 use Rattle.mt_propagate.specs.World.{WorldView, with_tree}
 use Rattle.mt_propagate.specs.WellFormed.{IsWellFormed, AreTrees}
 use Rattle.mt_propagate.proofs.ListedLaws.{climbs-append}
@@ -15,7 +15,8 @@ use Rattle.mt_propagate.proofs.RowLaws.{in_all, row-second}
 use Rattle.mt_propagate.proofs.DetachedTreeLaws.{tree_low, root_there}
 use Rattle.mt_propagate.proofs.WalkLaws.{number_free}
 use Rattle.mt_bind.specs.Spaces.{with_space}
-use Rattle.mt_bind.specs.Opening.{opened_sources, tree_opened, tree_made}
+use Rattle.mt_bind.specs.Opening.{opened_sources, with_copies, tree_opened, tree_made}
+use Rattle.mt_bind.proofs.SourceCopyLaws.{number, copy, copy-in}
 use Rattle.mt_bind.proofs.AcceptedLaws.{path_end, fs_of, tree_made_accepted, opened_accepted}
 use Rattle.mt_bind.proofs.SpaceLaws.{new_root, space-kept}
 use Rattle.mt_bind.proofs.OpenedLaws.{opened-kept}
@@ -66,3 +67,14 @@ opened_keeps w n path recursive v i h e =
     let a = opened_accepted w n path recursive v i e in
     let p = path_end w n path in
     subst IsWellFormed a.world (opened-kept w h (opened_sources w recursive p) (opened-sources w n path recursive p h a.ended) (opened-shown w n path recursive p h a.ended))
+
+-- the new namespace has a mount, its root mount
+pub opened_root : (w : WorldView) (n : ℕ) (path : List (List ℕ)) (recursive : Bool) (v : WorldView) (i : ℕ) → IsWellFormed w → tree_opened w n path recursive ≡ Ok (v, i)
+    → (j : ℕ) × (m : Mount) × (mount_at v.forest j ≡ Some m) × (m.space ≡ w.next_space)
+unfolding with_copies
+opened_root w n path recursive v i h e =
+    let a = opened_accepted w n path recursive v i e in
+    let ms = opened_sources w recursive (path_end w n path) in
+    let s = opened-sources w n path recursive (path_end w n path) h a.ended in
+    let r = s.root in
+    subst (λ (v : WorldView). (j : ℕ) × (m : Mount) × (mount_at v.forest j ≡ Some m) × (m.space ≡ w.next_space)) a.world (number w h ms s r.0.id, copy w h ms s r.0, copy-in w h ms s r.0.id r.0 r.1, refl)
