@@ -13,3 +13,4 @@ pub mod InsideLaws
 pub mod SourceCopyLaws
 pub mod OpenedLaws
 pub mod OpenedSourceLaws
+pub mod OpeningLaws

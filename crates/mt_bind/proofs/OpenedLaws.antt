@@ -21,7 +21,7 @@ use Rattle.mt_propagate.specs.WellFormed.{IsForest, IsWellFormed, AreTrees, fs_a
 use Rattle.mt_propagate.proofs.ListedLaws.{map-map, climbs-append}
 use Rattle.mt_propagate.proofs.NumberLaws.{climbs}
 use Rattle.mt_propagate.proofs.RowLaws.{in_all, renamed-row}
-use Rattle.mt_propagate.proofs.DetachedTreeLaws.{space_root, root_there, space-stays}
+use Rattle.mt_propagate.proofs.DetachedTreeLaws.{tree_low, root_there, space-stays}
 use Rattle.mt_propagate.proofs.ShownLaws.{shown-alike, groups-show, masters-show, mount-state, state-row}
 use Rattle.mt_bind.specs.Copying.{copy_of, peer_of}
 use Rattle.mt_bind.specs.Opening.{with_copies}
@@ -112,11 +112,8 @@ module _ (w : WorldView) (h : IsWellFormed w) (ms : List Mount) (a : AreSources 
   ]
 
   -- the new tree has the highest number, and is there
-  tree_low : (k : ℕ) → among w.trees k ≡ true → k < w.next_space
-  tree_low k e = let r = space_root w.forest h.forest.rising k (h.trees.there k e) in let b = h.below r.0.id r.0 r.1 in omega (arith, b.3, r.3)
-
   all_low : list_all (λ k. ltb k w.next_space) w.trees ≡ true
-  all_low = in_all (λ k. ltb k w.next_space) w.trees (λ k e. let low = tree_low k (any_in (λ j. j == k) k w.trees e (grind (arith, nat_tests))) in grind (arith, nat_tests))
+  all_low = in_all (λ k. ltb k w.next_space) w.trees (λ k e. let low = tree_low w h k (any_in (λ j. j == k) k w.trees e (grind (arith, nat_tests))) in grind (arith, nat_tests))
 
   tree_there : (k : ℕ) → among (w.trees ++ w.next_space ∷ []) k ≡ true → is_some (root_mount (grown w h ms a) k) ≡ true
   tree_there k e =

@@ -1,15 +1,16 @@
 -- Detached trees stay namespaces that are there.
-use Rattle.std.proofs.Common.{◌≡◌, ℕ, true, List, Option, Some, None, refl, ap, ◌∙◌, arith}
+use Rattle.std.proofs.Common.{◌≡◌, ℕ, ◌<◌, true, List, Option, Some, None, refl, ap, ◌∙◌, arith}
 use Rattle.std.specs.Prelude.{is_none, is_some}
 use Rattle.std.proofs.lemmas.Bool.Decides.{nat_tests}
-use Rattle.mt_skel.specs.Keyed.{rises}
+use Rattle.mt_skel.specs.Keyed.{among, rises}
 use Rattle.mt_skel.specs.Skeleton.{Skeleton}
 use Rattle.mt_skel.proofs.ElementLaws.{row_in, in_found}
 use Rattle.mt_mounts.specs.declared.mount.Mount.{Mount}
 use Rattle.mt_mounts.specs.declared.mount.Place.{Place}
 use Rattle.mt_mounts.specs.Forest.{id_of, mount_at, is_root, root_mount}
 use Rattle.mt_mounts.proofs.ForestLaws.{find_row, find_passes}
-use Rattle.mt_propagate.specs.WellFormed.{IsForest, AreTrees}
+use Rattle.mt_propagate.specs.World.{WorldView}
+use Rattle.mt_propagate.specs.WellFormed.{IsForest, AreTrees, IsWellFormed}
 use Rattle.mt_propagate.proofs.WalkLaws.{root_here}
 
 no_place : (o : Option Place) → is_none o ≡ true → o ≡ None
@@ -27,7 +28,11 @@ space_root ms rising n is = by (root_mount ms n) refl is
     by None e f = absurd (cc)
     by (Some m) e f = let root = root_here n m (find_passes (is_root n) ms m e) in (m, find_row (is_root n) ms m rising e, no_place m.place root.0, root.1)
 
--- and where it has one, it is there
+-- a detached tree has a number that was given out
+pub tree_low : (w : WorldView) → IsWellFormed w → (k : ℕ) → among w.trees k ≡ true → k < w.next_space
+tree_low w h k e = let r = space_root w.forest h.forest.rising k (h.trees.there k e) in let b = h.below r.0.id r.0 r.1 in omega (arith, b.3, r.3)
+
+-- and where a namespace has a root mount, it is there
 pub root_there : (ms : List Mount) (n j : ℕ) (r : Mount) → mount_at ms j ≡ Some r → r.place ≡ None → r.space ≡ n → is_some (root_mount ms n) ≡ true
 root_there ms n j r e place space = let found = in_found (is_root n) ms r (row_in id_of j ms r e) (root_passes n r place space) in ap is_some found.1
 
