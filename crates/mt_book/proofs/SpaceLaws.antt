@@ -6,11 +6,10 @@ use Rattle.std.proofs.lemmas.Bool.{false_from_ne_true}
 use Rattle.std.proofs.lemmas.Bool.Decides.{nat_tests}
 use Rattle.mt_skel.specs.Keyed.{without}
 use Rattle.mt_skel.specs.Skeleton.{IsSkeleton}
-use Rattle.mt_skel.proofs.ElementLaws.{In, row_in, in_row, in_right, in_filtered, in_map, in_mapped, in_flat}
+use Rattle.mt_skel.proofs.ElementLaws.{In, row_in, in_filtered, in_map, in_mapped, in_flat}
 use Rattle.mt_mounts.specs.declared.mount.Mount.{Mount}
 use Rattle.mt_mounts.specs.declared.mount.Place.{Place}
 use Rattle.mt_mounts.specs.Forest.{id_of, mount_at}
-use Rattle.mt_mounts.specs.Walk.{walk}
 use Rattle.mt_propagate.specs.World.{WorldView, is_space, space_of, with_tree}
 use Rattle.mt_propagate.specs.WellFormed.{IsWellFormed}
 use Rattle.mt_propagate.specs.Receivers.{targets}
@@ -24,11 +23,10 @@ use Rattle.mt_propagate.proofs.ListedLaws.{relocated-id, relocated-space}
 use Rattle.mt_bind.specs.Spaces.{with_space, with_copy, originals, without_space}
 use Rattle.mt_bind.specs.Copying.{copy_number, copy_of}
 use Rattle.mt_bind.specs.Pivoting.{pivoted_mount, with_pivot}
-use Rattle.mt_bind.specs.Sources.{source_at}
-use Rattle.mt_bind.specs.Opening.{unplaced_top, opened_sources, with_copies}
+use Rattle.mt_bind.specs.Opening.{with_copies}
 use Rattle.mt_bind.specs.Attaching.{whole_tree, rehomed, with_attached}
-use Rattle.mt_bind.proofs.AcceptedLaws.{path_end, new_space_accepted, copy_space_accepted, drop_space_accepted, tree_made_accepted, opened_accepted, attached_accepted}
-use Rattle.mt_bind.proofs.MountLaws.{bound_source}
+use Rattle.mt_bind.proofs.AcceptedLaws.{path_end, new_space_accepted, copy_space_accepted, drop_space_accepted, tree_made_accepted, attached_accepted}
+use Rattle.mt_bind.proofs.OpeningLaws.{opened_root}
 use Rattle.mt_bind.proofs.SpaceLaws.{new_root}
 use Rattle.mt_bind.proofs.NamespaceCopyLaws.{copy-in}
 use Rattle.mt_setattr.specs.Change.{changed_mount, is_chosen, with_change}
@@ -150,40 +148,23 @@ copy_has w k less h x = record { id = copy_number w (map id_of (originals w k)) 
 tree_has : (w : WorldView) (f : ℕ) → IsWellFormed w → Has w.next_space (with_tree (with_space w f) w.next_space)
 tree_has w f h = let x = root_has w f h in record { id = x.id; mount = x.mount; there = x.there; space = x.space }
 
--- what is opened has a copy of each of its sources
-opened_has : (w : WorldView) (sources : List Mount) (m : Mount) → IsWellFormed (with_copies w sources) → In m sources → Has w.next_space (with_copies w sources)
-unfolding with_copies
-opened_has w sources m h there =
-    let copy = copy_of w (map id_of sources) in
-    record { id = id_of (copy m); mount = copy m; there = in_row id_of _ (copy m) h.forest.rising (in_right (copy m) w.forest (map copy sources) (in_mapped copy m sources there)); space = refl }
-
--- and the mount where its path ends is one of these
-opened_top : (w : WorldView) (n : ℕ) (path : List (List ℕ)) (recursive : Bool) → IsWellFormed w → walk w.skel w.forest n path ≡ Ok (path_end w n path)
-    → (m : Mount) × In m (opened_sources w recursive (path_end w n path))
-opened_top w n path recursive h ended =
-    let p = path_end w n path in
-    let src = source_at w recursive p in
-    let top = (bound_source w n path recursive p p h ended).tree.top_there in
-    (unplaced_top p.mount src.top, in_mapped (unplaced_top p.mount) src.top src.mounts (row_in id_of src.top.id src.mounts src.top top))
-
-step_makes : (w : WorldView) (c : Command) (v : WorldView) (r : Reply) → IsWellFormed w → IsSkeleton w.skel → step w c ≡ Ok (v, r) → makes_space c ≡ true → Has w.next_space v
+step_makes : (w : WorldView) (c : Command) (v : WorldView) (r : Reply) → IsWellFormed w → step w c ≡ Ok (v, r) → makes_space c ≡ true → Has w.next_space v
 unfolding step
-step_makes w (NewSpace fs) v r g s e m = let q = number_ok _ v r e in subst (Has w.next_space) (new_space_accepted w fs v q.0 q.1).world (root_has w _ g)
-step_makes w (CopySpace k less) v r g s e m =
+step_makes w (NewSpace fs) v r g e m = let q = number_ok _ v r e in subst (Has w.next_space) (new_space_accepted w fs v q.0 q.1).world (root_has w _ g)
+step_makes w (CopySpace k less) v r g e m =
     let q = number_ok _ v r e in
     let a = copy_space_accepted w k less v q.0 q.1 in
     subst (Has w.next_space) a.world (copy_has w k less g (space_has k w g a.there))
-step_makes w (OpenTree n path recursive) v r g s e m =
+step_makes w (OpenTree n path recursive) v r g e m =
     let q = number_ok _ v r e in
-    let a = opened_accepted w n path recursive v q.0 q.1 in
-    let top = opened_top w n path recursive g a.ended in
-    subst (Has w.next_space) a.world (opened_has w _ top.0 (subst IsWellFormed (sym a.world) (step_kept w (OpenTree n path recursive) v r g s e).0) top.1)
-step_makes w (NewTree fs) v r g s e m = let q = number_ok _ v r e in subst (Has w.next_space) (tree_made_accepted w fs v q.0 q.1).world (tree_has w _ g)
-step_makes w c v r g s e m = absurd (cc)
+    let root = opened_root w n path recursive v q.0 g q.1 in
+    record { id = root.0; mount = root.1; there = root.2; space = root.3 }
+step_makes w (NewTree fs) v r g e m = let q = number_ok _ v r e in subst (Has w.next_space) (tree_made_accepted w fs v q.0 q.1).world (tree_has w _ g)
+step_makes w c v r g e m = absurd (cc)
 
 -- so the namespace that a command makes has the next number, and is there
 pub made_there : (w : WorldView) (c : Command) (v : WorldView) (r : Reply) → IsWellFormed w → IsSkeleton w.skel → step w c ≡ Ok (v, r) → makes_space c ≡ true → is_space v w.next_space ≡ true
-made_there w c v r g s e m = has_space w.next_space v (step_kept w c v r g s e).0 (step_makes w c v r g s e m)
+made_there w c v r g e m = has_space w.next_space v (step_kept w c v r g s e).0 (step_makes w c v r g e m)
 
 -- a namespace that is dropped is gone
 dropped_ends : (w : WorldView) (v : WorldView) (r : Reply) (n : ℕ) → IsWellFormed w → IsSkeleton w.skel → step w (DropSpace n) ≡ Ok (v, r) → is_space v n ≡ false
