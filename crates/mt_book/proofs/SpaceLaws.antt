@@ -164,7 +164,7 @@ step_makes w c v r g e m = absurd (cc)
 
 -- so the namespace that a command makes has the next number, and is there
 pub made_there : (w : WorldView) (c : Command) (v : WorldView) (r : Reply) → IsWellFormed w → IsSkeleton w.skel → step w c ≡ Ok (v, r) → makes_space c ≡ true → is_space v w.next_space ≡ true
-made_there w c v r g e m = has_space w.next_space v (step_kept w c v r g s e).0 (step_makes w c v r g e m)
+made_there w c v r g s e m = has_space w.next_space v (step_kept w c v r g s e).0 (step_makes w c v r g e m)
 
 -- a namespace that is dropped is gone
 dropped_ends : (w : WorldView) (v : WorldView) (r : Reply) (n : ℕ) → IsWellFormed w → IsSkeleton w.skel → step w (DropSpace n) ≡ Ok (v, r) → is_space v n ≡ false
