@@ -87,7 +87,7 @@ LOCKED = {
     b"bind": {errno.EINVAL},
     b"rbind": {errno.EPERM},
     b"setattr": {errno.EPERM},
-    b"opentree": {errno.EINVAL},
+    b"opentree": {errno.EINVAL, errno.EPERM},
 }
 
 ACCESS_TIMES = {b"noatime", b"strictatime"}
