@@ -1,5 +1,5 @@
 -- A well-formed world stays so where copies of mounts come to be a detached tree.
-use Rattle.std.proofs.Common.{◌≡◌, ◌⊎◌, ℕ, ◌+◌, ◌<◌, ◌≤◌, ◌==◌, ltb, true, false, List, [], ◌∷◌, ◌++◌, map, length, Option, Some, None, refl, sym, ap, subst, ◌∙◌, inl, inr, arith}
+use Rattle.std.proofs.Common.{◌≡◌, ◌⊎◌, ℕ, ◌+◌, ◌<◌, ◌≤◌, ◌==◌, ltb, eqb-true, eq-eqb, true, false, List, [], ◌∷◌, ◌++◌, map, length, Option, Some, None, refl, sym, ap, subst, ◌∙◌, inl, inr, arith}
 use Rattle.std.specs.Prelude.{IsTrue, is_some}
 use Rattle.std.specs.List.{list_all}
 use Rattle.std.specs.Option.{option_map, unwrap_or}
@@ -26,7 +26,7 @@ use Rattle.mt_propagate.proofs.ShownLaws.{shown-alike, groups-show, masters-show
 use Rattle.mt_bind.specs.Copying.{copy_of, peer_of}
 use Rattle.mt_bind.specs.Opening.{with_copies}
 use Rattle.mt_bind.proofs.CopyLaws.{state-from}
-use Rattle.mt_bind.proofs.SourceCopyLaws.{AreSources, IsCopy, number, copy, copies, among as among_sources, copy-high, copy-low, old-in, copy-in, row-of, grown, grown-forest}
+use Rattle.mt_bind.proofs.SourceCopyLaws.{AreSources, IsCopy, number, place, copy, copies, among as among_sources, copy-high, copy-low, old-in, copy-in, row-of, grown, grown-forest}
 
 -- the mounts are there, and show directories that are there, of the filesystems that they show there
 pub record AreShown (w : WorldView) (ms : List Mount) : Type 0 where
@@ -113,7 +113,7 @@ module _ (w : WorldView) (h : IsWellFormed w) (ms : List Mount) (a : AreSources 
 
   -- the new tree has the highest number, and is there
   all_low : list_all (λ k. ltb k w.next_space) w.trees ≡ true
-  all_low = in_all (λ k. ltb k w.next_space) w.trees (λ k e. let low = tree_low w h k (any_in (λ j. j == k) k w.trees e (grind (arith, nat_tests))) in grind (arith, nat_tests))
+  all_low = in_all (λ k. ltb k w.next_space) w.trees (λ k e. let low = tree_low w h k (any_in (λ j. j == k) k w.trees e (eq-eqb k k refl)) in grind (arith, nat_tests))
 
   tree_there : (k : ℕ) → among (w.trees ++ w.next_space ∷ []) k ≡ true → is_some (root_mount (grown w h ms a) k) ≡ true
   tree_there k e =
@@ -125,8 +125,8 @@ module _ (w : WorldView) (h : IsWellFormed w) (ms : List Mount) (a : AreSources 
         | inr new ↦ elim new [
           | inl is ↦
               let r = a.root in
-              let space : w.next_space ≡ k = is ∙ (let t = x.2 in grind (arith, nat_tests)) in
-              root_there (grown w h ms a) k (number w h ms a r.0.id) (copy w h ms a r.0) (copy-in w h ms a r.0.id r.0 r.1) (ap (option_map _) r.2) space
+              let space : w.next_space ≡ k = is ∙ eqb-true x.0 k x.2 in
+              root_there (grown w h ms a) k (number w h ms a r.0.id) (copy w h ms a r.0) (copy-in w h ms a r.0.id r.0 r.1) (ap (option_map (place w h ms a)) r.2) space
           | inr none ↦ absurd none
         ]
       ]

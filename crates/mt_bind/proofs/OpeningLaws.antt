@@ -1,5 +1,5 @@
 -- A well-formed world stays so where a detached tree is opened, or made of a filesystem.
-use Rattle.std.proofs.Common.{◌≡◌, ℕ, ◌+◌, ◌<◌, ◌==◌, ltb, Bool, true, List, [], ◌∷◌, ◌++◌, length, Some, Ok, refl, ap, subst, ◌∙◌, inl, inr, arith}
+use Rattle.std.proofs.Common.{◌≡◌, ℕ, ◌+◌, ◌<◌, ◌==◌, ltb, eqb-true, eq-eqb, Bool, true, List, [], ◌∷◌, ◌++◌, length, Some, Ok, refl, ap, subst, ◌∙◌, inl, inr, arith}
 use Rattle.std.specs.Prelude.{is_some, None}
 use Rattle.std.specs.List.{list_all}
 use Rattle.std.proofs.lemmas.Bool.Decides.{nat_tests}
@@ -25,7 +25,7 @@ use Rattle.mt_bind.proofs.OpenedSourceLaws.{opened-sources, opened-shown}
 -- one of the namespaces of a well-formed world comes to be a tree, with a number above those of all others
 module _ (w : WorldView) (h : IsWellFormed w) (n : ℕ) (above : (k : ℕ) → among w.trees k ≡ true → k < n) (there : is_some (root_mount w.forest n) ≡ true) where
   all_low : list_all (λ k. ltb k n) w.trees ≡ true
-  all_low = in_all (λ k. ltb k n) w.trees (λ k e. let low = above k (any_in (λ j. j == k) k w.trees e (grind (arith, nat_tests))) in grind (arith, nat_tests))
+  all_low = in_all (λ k. ltb k n) w.trees (λ k e. let low = above k (any_in (λ j. j == k) k w.trees e (eq-eqb k k refl)) in grind (arith, nat_tests))
 
   each_there : (k : ℕ) → among (w.trees ++ n ∷ []) k ≡ true → is_some (root_mount w.forest k) ≡ true
   each_there k e =
@@ -33,7 +33,7 @@ module _ (w : WorldView) (h : IsWellFormed w) (n : ℕ) (above : (k : ℕ) → a
       elim (in_append x.0 w.trees (n ∷ []) x.1) [
         | inl old ↦ h.trees.there k (any_in (λ j. j == k) x.0 w.trees old x.2)
         | inr new ↦ elim new [
-          | inl is ↦ let same : n ≡ k = is ∙ (let t = x.2 in grind (arith, nat_tests)) in subst (λ k. is_some (root_mount w.forest k) ≡ true) same there
+          | inl is ↦ let same : n ≡ k = is ∙ eqb-true x.0 k x.2 in subst (λ k. is_some (root_mount w.forest k) ≡ true) same there
           | inr none ↦ absurd none
         ]
       ]

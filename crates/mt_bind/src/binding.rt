@@ -39,11 +39,7 @@ fn only(world: &World, id: MountId) -> Result<Vec<MountId>, Fault>
 
 /// The mounts that a bind of a place copies, by rising ID: its mount alone, or with `recursive` the tree of mounts below
 /// it.
-pub(crate) fn members_at(
-    world: &World,
-    from: Place,
-    recursive: bool,
-) -> Result<Vec<MountId>, Fault>
+pub(crate) fn members_at(world: &World, from: Place, recursive: bool) -> Result<Vec<MountId>, Fault>
     requires well_formed { IsWellFormed (world_view world.now) }
     ensures members { IfOk result (λ ids. ids.items ≡ cond recursive (map id_of (filter (λ m. is_bound_along (world_view world.now) from m.id) world.now.forest.mounts)) (from.mount ∷ [])) }
     ensures memory { IsOkUnless result Fault.NoMemory }
@@ -60,10 +56,11 @@ fn sources_at(world: &World, from: Place, recursive: bool) -> Result<Sources, Fa
     ensures sources { IfOk result (λ sources. source_of (world_view world.now) sources ≡ cond recursive (tree_within (world_view world.now) from) (alone (world_view world.now) from)) }
     ensures memory { IsOkUnless result Fault.NoMemory }
 {
+    let members = members_at(world, from, recursive)?;
     Ok(Sources::Tree {
         top: from.mount,
         root: from.dir,
-        members: members_at(world, from, recursive)?,
+        members,
         moved: false,
     })
 }

@@ -80,7 +80,11 @@ fn state_of_copy(less: bool, state: State) -> State
 }
 
 /// The states of the copies of these mounts, in a namespace that is less privileged or not.
-pub(crate) fn states(world: &World, originals: &[Mount], less: bool) -> Result<Vec<(MountId, State)>, Fault>
+pub(crate) fn states(
+    world: &World,
+    originals: &[Mount],
+    less: bool,
+) -> Result<Vec<(MountId, State)>, Fault>
     requires rising { IsTrue (rises id_of originals.now) }
     requires numbers { world.now.next_mount + length originals.now < 2 ^ 64 }
     ensures states { IfOk result (λ states. peers_of states.items ≡ map (peer_of (world_view world.now) (map id_of originals.now) less) originals.now) }
