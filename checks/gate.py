@@ -40,6 +40,7 @@ TEXT_CHECKS = (
     ("self-test of unused.py", "checks/unused.py", "--self-test"),
     ("what nothing cites", "checks/unused.py"),
     ("self-test of where.py", "checks/where.py", "--self-test"),
+    ("proofs of functions that are gone", "checks/where.py", "--left-over"),
     ("where definitions stand", "checks/definitions.py"),
     ("wrong bodies can be applied", "checks/wrong.py", "--look"),
 )

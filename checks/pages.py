@@ -148,6 +148,14 @@ def check_refused():
         check(f"the refusals of {word} in mountd-lines.7", found == wanted.get(word, []), " ".join(found))
 
 
+def check_helped(mountctl):
+    """The page of each line that `help` prints has the refusals of docs/RULES.md, each once, and no others."""
+    wanted = refusals_by_line()
+    for word in wanted:
+        found = re.findall(r"(?m)^    ([A-Z]\w+): ", shown(run(mountctl, b"", "help", word)[1]))
+        check(f"the refusals of help {word}", found == [*dict.fromkeys(wanted[word])], " ".join(found))
+
+
 def check_explained(mountctl):
     """What `explain` says of each refusal is its sentence in the table, a sentence on Linux, and what to do; of an errno it names
     just the refusals that have it."""
@@ -212,6 +220,8 @@ PUT_TOGETHER = {
         "line N: a quote is not closed",
         "WORD: neither a refusal nor an errno",
         "WORD: neither a refusal nor an errno; the nearest is NAME",
+        "WORD: no word of the help",
+        "WORD: no word of the help; the nearest is NAME",
     ],
 }
 
@@ -221,8 +231,8 @@ RUNS = {
     "mountctl": [["--help"], ["import"], ["--nothing"], ["/", "show", "1"]],
 }
 
-# The sources whose words stand behind such a message, as its REASON.
-REASONS = {"missed.rt"}
+# The sources whose words are no messages: those that stand behind one, as its REASON, and examples.
+NO_MESSAGES = {"missed.rt", "help.rt"}
 
 # What stands before a message in the source of a program: a call that says it, or the function that names it.
 SAID = re.compile(r'(?:fail\(rt, |fail_at\(rt, |refuse\(rt, |Some\(|=>\s+(?:\{\s+)?|&str = )"([a-z][^"{]* [^"{]*)"')
@@ -231,7 +241,7 @@ SAID = re.compile(r'(?:fail\(rt, |fail_at\(rt, |refuse\(rt, |Some\(|=>\s+(?:\{\s
 def messages_in(program):
     """The messages in the source of a program, and in that of what both programs say of their arguments."""
     folders = [os.path.join("crates", crate, "src") for crate in (program, "mt_arguments")]
-    texts = [shown(read(folder, name)) for folder in folders for name in sorted({*os.listdir(os.path.join(TOP, folder))} - REASONS)]
+    texts = [shown(read(folder, name)) for folder in folders for name in sorted({*os.listdir(os.path.join(TOP, folder))} - NO_MESSAGES)]
     return {f"{program}: {message}" for text in texts for message in SAID.findall(text)}
 
 
@@ -302,7 +312,10 @@ def offered(*words):
 def check_offers(helps):
     """The completion offers the options and words of mountctl --help, and after each word what may stand there."""
     check_same("the options that the completion offers", options(helps["mountctl"]), offered("-"))
-    check_same("the words that the completion offers alone", words_in_place(helps["mountctl"], "SOCKET WORD.."), [*offered("wha"), *offered("imp"), *offered("exp"), *offered("rea"), *offered("ori"), *offered("hol")])
+    check_same("the words that the completion offers alone", words_in_place(helps["mountctl"], "SOCKET WORD.."), [*offered("wha"), *offered("imp"), *offered("exp"), *offered("rea"), *offered("ori"), *offered("hol"), *offered("help")])
+    pages = {*usages(helps["mountctl"]), *words_in_place(helps["mountctl"]), *words_in_place(helps["mountctl"], "SOCKET WORD..")}
+    check_same("the words that the completion offers behind help", pages, offered("help", ""))
+    check_same("what the completion offers behind help and a word", ["none"], [*offered("help", "show", ""), "none"])
     check_same("what the completion offers to be explained", [*refusals.NAMES, *errnos_of_sources()], offered("explain", ""))
     there = usages(helps["mountctl"])
     words = {*there, *words_in_place(helps["mountctl"])}
@@ -365,6 +378,7 @@ def main():
     check_help(helps)
     check_refusals()
     check_refused()
+    check_helped(programs["mountctl"])
     check_statuses(programs)
     check_explained(programs["mountctl"])
     check_examples(programs)

@@ -2,7 +2,7 @@
 """Proves one crate over libraries that are there, while it is being changed. By hand; `rt ci` decides.
 
 Usage: checks/prove.py --gather FOLDER
-       checks/prove.py CRATE FOLDER [--library] [-- FLAGS..]
+       checks/prove.py [--library] CRATE FOLDER [-- FLAGS..]
 
 `rt check` of a crate proves every crate below it first, also where `rt ci` keeps them on this machine. This asks the prover
 for the one crate, over the libraries FOLDER/NAME.rlib, and keeps its work beside them for the next time: seconds after an

@@ -17,6 +17,7 @@ import time
 from clients.answers import check_answers
 from clients.crowds import check_crowds
 from clients.foretold import check_foretold
+from clients.helps import check_helps
 from clients.hosts import check_hosts
 from clients.imports import check_import
 from clients.limits import check_limits
@@ -94,6 +95,7 @@ CLIENT_PARTS = {
     "reasons": check_reasons,
     "refusals": check_refusals,
     "starts": check_starts,
+    "helps": check_helps,
     "terminals": check_terminals,
     "retold": check_retold,
     "pictures": check_pictures,

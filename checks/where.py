@@ -1,7 +1,8 @@
 #!/usr/bin/env -S python3 -B
-"""Says where what belongs to a function or a crate stands. By hand.
+"""Says where what belongs to a function or a crate stands. By hand; the gate asks for --left-over.
 
     checks/where.py NAME
+    checks/where.py --left-over
     checks/where.py --self-test
 
 NAME is a crate, as `mt_bind`, or a function, as `bind`, `Forest::walk` or `mt_bind::binding::bind`: the last parts of its
@@ -9,6 +10,9 @@ path, as many as tell it from others; where several bear a name, each is told. O
 clauses, the definitions that they cite, its proof, who calls it, the tests and cases that lead to it, and the wrong bodies
 that change it or that its contract refuses. Of a crate it prints its layers, files, definitions, tests, cases and wrong
 bodies.
+
+--left-over prints the files of proofs that are of no function, as they are left where a function moved; the status is 1
+where there is one, since `rt ci` refuses the crate.
 
 Calls are found by names (sources/calls.py). A case leads to a function where one of its lines does. --self-test shows that
 all this is found in texts made for it.
@@ -27,6 +31,8 @@ from sources.texts import EXAMPLES, crate_of, read_all
 
 BROUGHT_IN = re.compile(r"\bghost use Rattle\.(mt_\w+)\.specs\.([\w.]+)\.\{([^}]*)\}")
 INPUT = re.compile(r"^>\*?\.? (\w+)", re.M)
+# The files that are of a function where they stand; others of proofs/ are lemmas.
+PROOF_FILES = ("Answers.antt", "Invariants.antt", "Proof.antt")
 # Cases and tests that are named, at most.
 MOST_NAMED = 12
 
@@ -91,6 +97,11 @@ class Repository:
         loose = re.compile(rf"{it.crate}/proofs/{it.module}/{it.owner}\w*{it.trait}/\+?{it.name}" if it.trait else r"(?!)")
         folders = {file: os.path.dirname(file) for file in self.proofs}
         return sorted(file for file, folder in folders.items() if folder in ends or loose.fullmatch(folder))
+
+    def left_over(self):
+        """The files of proofs that are of no function that is there: `rt ci` refuses a crate that has one."""
+        claimed = {file for it in self.functions for file in self.proof_of(it)}
+        return [file for file in self.proofs if os.path.basename(file) in PROOF_FILES and file not in claimed]
 
     def definitions_of(self, it):
         """The definitions of ours that the clauses of a function cite: each name with its file, line and text."""
@@ -243,16 +254,23 @@ def self_test():
     [dropped] = made.told("drop")
     found = {word: " ".join(count[word]) for word in SELF_TOLD}
     is_lonely = [*dropped["callers"], *dropped["tests"], *dropped["wrong bodies"]] == []
+    left = Repository(SELF, uses, [*made.proofs, "low/proofs/rows/counted/Invariants.antt"], cases, SELF_EDITS, "").left_over()
+    is_lonely = is_lonely and made.left_over() == [] and left == ["low/proofs/rows/counted/Invariants.antt"]
     return found == SELF_TOLD and is_lonely and len(made.told("low")) == 1 and made.told("none") == []
 
 
 def main():
     parser = argparse.ArgumentParser(description=__doc__.split("\n", maxsplit=1)[0])
     parser.add_argument("--self-test", action="store_true")
+    parser.add_argument("--left-over", action="store_true", help="the files of proofs that are of no function; the status is 1 where there is one")
     parser.add_argument("name", metavar="NAME", nargs="?", help="a crate, or the last parts of a function's path")
     words = parser.parse_args()
     if words.self_test:
         end_self_test("where.py", self_test())
+    if words.left_over:
+        left = repository().left_over()
+        print(*(f"crates/{file}: a proof of no function" for file in left), f"{len(left)} files of proofs are of no function", sep="\n")
+        sys.exit(1 if left else 0)
     if not words.name:
         parser.error("a crate or a function is wanted")
     told = repository().told(words.name)

@@ -185,13 +185,10 @@ NO_WORDS_SAID = b"mountctl: import takes files, or --pid and processes, or no wo
 
 
 def check_words(mountctl, text):
-    """Words after `import` that name no tables are refused; but for its help, which is the program's."""
+    """Words after `import` that name no tables are refused; helps.py asks for its help."""
     for words in NO_WORDS:
         found = run(mountctl, text, "import", *words)
         check(f"import {' '.join(words)}", found == (2, b"", NO_WORDS_SAID), repr(found))
-    for option in "-h", "--help":
-        found, wanted = run(mountctl, text, "import", option), run(mountctl, b"", "--help")
-        check(f"import {option}", found == wanted and wanted[0] == 0 and b"import" in wanted[1], repr(found))
 
 
 def check_lines(mountctl):

@@ -115,9 +115,13 @@ _mountctl()
     if ((${#words[@]} == 0)); then
         mapfile -t COMPREPLY < <(
             _mountctl_sockets "$current"
-            compgen -W "-e -h --help -q -V --version --wait what-if import explain reach origin holders page ${MOUNTD_SOCKET:+$(_mountctl_words)}" -- "$current"
+            compgen -W "-e -h --help -q -V --version --wait what-if import explain help reach origin holders page ${MOUNTD_SOCKET:+$(_mountctl_words)}" -- "$current"
         )
         compopt -o filenames 2> /dev/null
+        return
+    fi
+    if [[ ${words[0]} == help ]]; then
+        mapfile -t COMPREPLY < <(((${#words[@]} == 1)) && compgen -W "$(_mountctl_words) import explain help" -- "$current")
         return
     fi
     if [[ ${words[0]} == explain ]]; then

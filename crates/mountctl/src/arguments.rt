@@ -1,9 +1,11 @@
 //! What the arguments of a request to a server say.
 
+use crate::client_words::{IN_PLACE_OF_LINES, IN_PLACE_OF_SOCKETS};
 use crate::messages::NAME;
 use crate::task::begins_words;
 use clap::{Arg, ArgAction, ArgMatches, Command, Error, value_parser};
 use mt_arguments::program::{OUT_OF_MEMORY, VERSION};
+use mt_help::page::Usage;
 use mt_protocol::help::lines;
 use std::alloc::{AllocError, Global};
 use std::env::VarError;
@@ -13,60 +15,65 @@ use std::{env, fs};
 /// The variable of the environment that names the socket where no argument does.
 const SOCKET_VARIABLE: &str = "MOUNTD_SOCKET";
 
-/// What may stand in the place of a line, for the help, behind the lines.
-const TASKS: &str = "
-
-In the place of WORD..:
-  -                        sends the lines of standard input, one after another, but for comments
-  monitor NS|all [--json] [--time] [--name NS=NAME]..
-                           tells each change as it comes, in words or as JSON, and when it came
-  mirror NS K              follows K posts of a namespace, and shows the table that they lead to
-  tree [NS [PATH]|all] [--ascii|--json] [--name NS=NAME]..
-                           draws the mounts of a namespace, of a part of it, or of all, each below its parent
-  show NS --json           prints the mounts of a namespace as JSON
-  find NS PATH --json      prints the mount on which a path ends as JSON
-  dot [NS [PATH]|all] [--name NS=NAME]..
-                           draws the same and peer groups as a graph for Graphviz
-  spaces [--json] [--name NS=NAME]..
-                           lists the namespaces, each with its name and the number of its mounts
-  what-if FILE.. -- LINE..
-                           makes the namespaces of an import in a new server, and tells what a line changes there;
-                           further lines may stand in front of it, each behind --
-  reach NS PATH [--json]   says to which mounts a mount made there comes, by which group, and why not to others
-  origin NS PATH [--json]  says where the mount there comes from, and what takes it away
-  holders SOURCE|MAJ:MIN|NS PATH [--json]
-                           names the mounts that still show a filesystem, or the directory there
-  page [TITLE]             plays the lines of standard input, and prints what they do as a page for a browser;
-                           without SOCKET, also where MOUNTD_SOCKET is set, in a new server of its own
-
-In the place of SOCKET WORD..:
-  what-if [OPTION].. TABLE.. -- LINE [-- LINE]..
-                           tells what lines would change in the namespaces of tables, with no server: each TABLE is a file, or
-                           with --pid a process; --all stands for each mount namespace of this machine. A LINE is one of
-                           mount, umount, unshare, nsenter, pivot_root or of a session; - stands for those of standard input.
-                           --each tells what each line changes, --json prints objects, and with --fail-if-elsewhere the
-                           status is 4 where a namespace changes that no line names
-  import                   reads the lines of a mountinfo, and prints a script that makes its namespace
-  import FILE..            reads those of several processes, and prints a script that makes all their namespaces
-  import --pid PID..       reads those of these processes
-  reach TABLE.. -- NS PATH [--json]
-                           the same of tables: files with the lines of a mountinfo, --pid PID.., or --all for each
-                           mount namespace of this machine; NS is a file's name, a process or the number of a table
-  origin TABLE.. -- NS PATH [--json]
-                           where the mount there comes from
-  holders TABLE.. -- SOURCE|MAJ:MIN|NS PATH [--json]
-                           what still shows it
-  explain REFUSAL|ERRNO    says what the refusal of this name is, and what Linux says in its place;
-                           of an error of Linux, by its name or number, which refusals stand behind it
-
+/// What the environment says, for the help.
+const ENVIRONMENT: &str = "
 Environment:
   MOUNTD_SOCKET            the socket of the server, where the first word is none: one that begins a line, or what may
                            stand in its place, is no socket (./show is), nor are letters that are no file's name";
 
+/// The column of a line in which it is said what something does, and how long that is at most that stands in front of it there.
+const COLUMN: usize = 27;
+
+const WIDEST: usize = 25;
+
+/// Appends so many spaces. Fails for want of memory alone.
+fn push_spaces(text: &mut String, count: usize) -> Result<(), AllocError> {
+    for _space in 0..count {
+        text.push(' ')?;
+    }
+    Ok(())
+}
+
+/// Appends how something is written and what it does: beside that, or below where it is long. Fails for want of memory alone.
+fn push_usage(text: &mut String, usage: Usage) -> Result<(), AllocError> {
+    text.push_str("  ")?;
+    text.push_str(usage.words)?;
+    let mut width = usage.words.len().saturating_add(2);
+    for line in usage.says.lines() {
+        if width > WIDEST {
+            text.push('\n')?;
+            width = 0;
+        }
+        push_spaces(text, COLUMN.saturating_sub(width))?;
+        text.push_str(line)?;
+        width = COLUMN;
+    }
+    text.push('\n')
+}
+
+/// Appends a title, and how what stands below it is written. Fails for want of memory alone.
+fn push_usages(text: &mut String, title: &str, usages: &[Usage]) -> Result<(), AllocError> {
+    text.push_str(title)?;
+    for usage in usages {
+        push_usage(text, *usage)?;
+    }
+    Ok(())
+}
+
 /// The lines of a session, and what may stand in their place.
 pub(crate) fn usage(alloc: Global) -> Result<String, AllocError> {
     let mut text = lines(alloc)?;
-    text.push_str(TASKS)?;
+    push_usages(
+        &mut text,
+        "\n\nIn the place of WORD..:\n",
+        &IN_PLACE_OF_LINES,
+    )?;
+    push_usages(
+        &mut text,
+        "\nIn the place of SOCKET WORD..:\n",
+        &IN_PLACE_OF_SOCKETS,
+    )?;
+    text.push_str(ENVIRONMENT)?;
     Ok(text)
 }
 

@@ -7,15 +7,17 @@ use crate::kept::{Kept, ask_kept};
 use crate::questions::{
     Answer, AnswerForm, Question, filesystem_answer, form_of_words, path_answer,
 };
+use crate::server_tables::{rows_of, watched_tables};
 use crate::what_if::line_of;
 use mt_client::relay::print_text;
-use mt_info::read::read_row;
+use mt_events::mirror::Mirror;
+use mt_info::print::push_number;
 use mt_lines::line::LineReader;
 use mt_lines::stream::{Input, Output};
-use mt_lines::words::{Pieces, number, words};
+use mt_lines::words::number;
+use mt_mounts::mount::SpaceId;
 use mt_questions::seeing::{gathered, path_of_word};
 use mt_questions::table::{NamedSpace, SeenTables};
-use mt_reach::row::SeenRow;
 use mt_reach::text::SeenText;
 use mt_skel::fault::Fault as Refusal;
 use std::alloc::Global;
@@ -39,63 +41,36 @@ pub(crate) fn asked_by<'a>(question: Question, words: &[&'a str]) -> Option<Aske
     }
 }
 
-/// What is no table of a server is a connection fault, but for want of memory.
-fn fault_of_row(fault: Refusal) -> Fault {
-    match fault {
-        Refusal::NoMemory => Fault::NoMemory,
-        _ => Fault::Connection,
-    }
+/// A namespace, which is called by its number.
+fn numbered(alloc: Global, space: SpaceId) -> Result<NamedSpace, Fault> {
+    let mut name = Vec::new(alloc);
+    push_number(&mut name, space)?;
+    Ok(NamedSpace {
+        space,
+        name: SeenText::new(name),
+    })
 }
 
-/// The rows of a server, and its namespaces.
-#[derive(Drop)]
-struct Gathering {
-    rows: Vec<SeenRow>,
-    names: Vec<NamedSpace>,
+/// The namespaces of tables.
+fn names_of(alloc: Global, tables: &[Mirror]) -> Result<Vec<NamedSpace>, Fault> {
+    let mut names = Vec::new(alloc);
+    for table in tables {
+        names.push(numbered(alloc, table.space())?)?;
+    }
+    Ok(names)
 }
 
-impl Gathering {
-    /// Enters a line of what a watcher found: the heading of a namespace, or a row of the last one.
-    fn enter(&mut self, alloc: Global, line: &[u8]) -> Result<(), Refusal> {
-        if let Some(heading) = line.strip_prefix(b"space ") {
-            let Some(word) = words(heading).next() else {
-                return Err(Refusal::BadLine);
-            };
-            let Some(space) = number(word) else {
-                return Err(Refusal::BadLine);
-            };
-            let name = SeenText::of(alloc, word)?;
-            self.names.push(NamedSpace { space, name })?;
-            return Ok(());
-        }
-        let Some(last) = self.names.as_slice().last() else {
-            return Ok(());
-        };
-        let row = read_row(alloc, line)?;
-        self.rows.push(SeenRow::of(last.space, &row, alloc)?)?;
-        Ok(())
-    }
-}
-
-/// The tables that a watcher of all namespaces found.
-fn found_tables(alloc: Global, found: &[u8]) -> Result<SeenTables, Refusal> {
-    let mut all = Gathering {
-        rows: Vec::new(alloc),
-        names: Vec::new(alloc),
-    };
-    for line in Pieces::new(b'\n', found) {
-        if !line.is_empty() {
-            all.enter(alloc, line)?;
-        }
-    }
-    let Gathering { rows, names } = all;
-    match gathered(alloc, rows)? {
-        Some(rows) => Ok(SeenTables {
+/// The rows of all tables of a server, and its namespaces.
+fn seen_of(alloc: Global, tables: &[Mirror]) -> Result<SeenTables, Fault> {
+    let names = names_of(alloc, tables)?;
+    match gathered(alloc, rows_of(alloc, tables)?) {
+        Ok(Some(rows)) => Ok(SeenTables {
             rows,
             names,
             complete: true,
         }),
-        None => Err(Refusal::BadLine),
+        Ok(None) => Err(Fault::Connection),
+        Err(fault) => Err(Fault::of_line(fault)),
     }
 }
 
@@ -105,11 +80,10 @@ fn answer_of(
     form: AnswerForm,
     question: Question,
     asked: Asked<'_>,
-    found: &[u8],
+    seen: &SeenTables,
 ) -> Result<Answer, Refusal> {
-    let seen = found_tables(alloc, found)?;
     match asked {
-        Asked::Of(word) => filesystem_answer(alloc, form, &seen, word),
+        Asked::Of(word) => filesystem_answer(alloc, form, seen, word),
         Asked::At(space, path) => {
             let (Some(space), Some(path)) = (
                 number(space.as_bytes()),
@@ -117,7 +91,7 @@ fn answer_of(
             ) else {
                 return Err(Refusal::BadLine);
             };
-            match path_answer(alloc, form, question, &seen, space, &path)? {
+            match path_answer(alloc, form, question, seen, space, &path)? {
                 Some(answer) => Ok(answer),
                 None => Err(Refusal::BadLine),
             }
@@ -146,16 +120,15 @@ pub(crate) fn answer_question<R: Input + Drop, W: Output, O: Output>(
             return Ok(false);
         }
     }
-    let mut found = Kept::new(alloc);
-    if !ask_kept(alloc, lines, writer, b"watch all", &mut found)? {
-        print_text(out, found.text())?;
+    let Some(tables) = watched_tables(alloc, lines, writer, out)? else {
         return Ok(false);
-    }
-    match answer_of(alloc, form, question, asked, found.text()) {
+    };
+    let seen = seen_of(alloc, tables.as_slice())?;
+    match answer_of(alloc, form, question, asked, &seen) {
         Ok(answer) => {
             print_text(out, answer.text.as_slice())?;
             Ok(answer.holds)
         }
-        Err(fault) => Err(fault_of_row(fault)),
+        Err(fault) => Err(Fault::of_line(fault)),
     }
 }

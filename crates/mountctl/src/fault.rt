@@ -3,6 +3,7 @@
 use mt_arguments::program::{OUT_OF_MEMORY, WRITE_FAULT};
 use mt_client::fault::ClientFault;
 use mt_lines::line::ReadFault;
+use mt_skel::fault::Fault as Refusal;
 use std::alloc::{AllocError, AllocFailed};
 
 /// What is said where there is no whole answer. Behind it stand the socket's path and the reason.
@@ -37,6 +38,14 @@ impl Fault {
         match fault {
             ReadFault::NoMemory => Fault::NoMemory,
             ReadFault::Device | ReadFault::Interrupted | ReadFault::Endless => Fault::Input,
+        }
+    }
+
+    /// What it is that a line of an answer is refused by its reader: no answer of a server, but for want of memory.
+    pub(crate) fn of_line(fault: Refusal) -> Fault {
+        match fault {
+            Refusal::NoMemory => Fault::NoMemory,
+            _ => Fault::Connection,
         }
     }
 }

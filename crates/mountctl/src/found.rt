@@ -5,16 +5,16 @@ ghost use Rattle.mt_lines.specs.Reading.{fault_of};
 use crate::fault::Fault;
 use crate::kept::{Kept, ask_kept};
 use crate::lines::tell_bad;
+use crate::server_tables::shown_table;
 use crate::what_if::line_of;
 use mt_client::relay::print_text;
-use mt_info::read::read_row;
 use mt_info::row::Row;
 use mt_lines::line::LineReader;
 use mt_lines::stream::{Input, Output};
-use mt_lines::words::{Pieces, number, words};
+use mt_lines::words::{number, words};
+use mt_mounts::mount::{MountId, SpaceId};
 use mt_render::objects::place_line;
 use mt_skel::escape::unescape;
-use mt_skel::fault::Fault as Refusal;
 use std::alloc::Global;
 use std::io::Eprint;
 
@@ -32,14 +32,6 @@ pub(crate) enum Look {
     Gone,
 }
 
-/// What is no line of an answer is a connection fault, but for want of memory.
-pub(crate) fn fault_of_line(fault: Refusal) -> Fault {
-    match fault {
-        Refusal::NoMemory => Fault::NoMemory,
-        _ => Fault::Connection,
-    }
-}
-
 /// The mount on which a path ends and the directory, as an answer says them.
 pub(crate) fn place_in(answer: &[u8]) -> Option<(&[u8], &[u8])> {
     let mut words = words(answer.strip_prefix(b"ok ")?.strip_suffix(b"\n")?);
@@ -49,37 +41,39 @@ pub(crate) fn place_in(answer: &[u8]) -> Option<(&[u8], &[u8])> {
     Some((id, directory))
 }
 
-/// The row of a mount among the lines of an answer, if it is there.
-fn row_in(alloc: Global, answer: &[u8], id: &[u8]) -> Result<Option<Row>, Fault> {
-    for line in Pieces::new(b'\n', answer) {
-        if words(line).next() == Some(id) {
-            return match read_row(alloc, line) {
-                Ok(row) => Ok(Some(row)),
-                Err(fault) => Err(fault_of_line(fault)),
-            };
-        }
-    }
-    Ok(None)
-}
-
 /// Prints where a path ends.
 fn print_place<O: Output>(
     alloc: Global,
-    space: &str,
+    space: SpaceId,
     directory: &[u8],
     row: &Row,
     out: &mut O,
 ) -> Result<(), Fault> {
-    let Some(space) = number(space.as_bytes()) else {
-        return Err(Fault::Connection);
-    };
     let directory = match unescape(alloc, directory) {
         Ok(directory) => directory,
-        Err(fault) => return Err(fault_of_line(fault)),
+        Err(fault) => return Err(Fault::of_line(fault)),
     };
     let line = place_line(alloc, space, directory.as_slice(), row)?;
     print_text(out, line.as_slice())?;
     Ok(())
+}
+
+/// Prints where a path ends, if the row of its mount is among these: whether it is.
+fn print_among<O: Output>(
+    alloc: Global,
+    space: SpaceId,
+    directory: &[u8],
+    rows: &[Row],
+    id: MountId,
+    out: &mut O,
+) -> Result<bool, Fault> {
+    for row in rows {
+        if row.id == id {
+            print_place(alloc, space, directory, row, out)?;
+            return Ok(true);
+        }
+    }
+    Ok(false)
 }
 
 /// Looks once for a path of a namespace by the line that asks for it, and for the row of the mount on which it ends.
@@ -102,14 +96,15 @@ fn look_once<R: Input + Drop, W: Output, O: Output>(
     let Some((id, directory)) = place_in(found.text()) else {
         return Err(Fault::Connection);
     };
-    let mut shown = Kept::new(alloc);
-    let show = line_of(alloc, &["show", space])?;
-    let _shown = ask_kept(alloc, lines, writer, show.as_slice(), &mut shown)?;
-    let Some(row) = row_in(alloc, shown.text(), id)? else {
-        return Ok(Look::Gone);
+    let (Some(id), Some(space)) = (number(id), number(space.as_bytes())) else {
+        return Err(Fault::Connection);
     };
-    print_place(alloc, space, directory, &row, out)?;
-    Ok(Look::Found)
+    let table = shown_table(alloc, space, lines, writer)?;
+    if print_among(alloc, space, directory, table.rows(), id, out)? {
+        Ok(Look::Found)
+    } else {
+        Ok(Look::Gone)
+    }
 }
 
 /// Prints where a path of a namespace ends as JSON: false where it is refused, which is printed.

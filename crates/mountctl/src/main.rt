@@ -6,11 +6,13 @@ ghost use Rattle.mt_lines.specs.Reading.{fault_of};
 
 mod arguments;
 mod asked;
+mod client_words;
 mod connection;
 mod explain;
 mod fault;
 mod foretold;
 mod found;
+mod help;
 mod import;
 mod kept;
 mod lines;
@@ -26,6 +28,7 @@ mod page;
 mod page_task;
 mod part;
 mod played;
+mod process_tables;
 mod processes;
 mod provide;
 mod questions;
@@ -33,6 +36,7 @@ mod quiet;
 mod refusals;
 mod screen;
 mod script;
+mod server_tables;
 mod sources;
 mod spaces;
 mod tables;
@@ -46,6 +50,7 @@ use crate::explain::explain;
 use crate::fault::Fault;
 use crate::foretold::run_foretold;
 use crate::found::find_place;
+use crate::help::{has_page, run_help, word_of_help};
 use crate::import::{ImportFault, ROW_LIMIT, import};
 use crate::lines::run_line;
 use crate::marked::Marked;
@@ -83,6 +88,9 @@ pub(crate) const PROGRAM: Program = Program {
 
 /// The word that asks for a page.
 const PAGE: &str = "page";
+
+/// The word that asks for help.
+const HELP: &str = "help";
 
 /// The longest line of an answer, in bytes before its line end.
 pub(crate) const LINE_LIMIT: u32 = 134_217_728;
@@ -264,7 +272,13 @@ fn run_matches(rt: &HostRuntime, matches: &ArgMatches<'_>) -> Result<ExitCode, A
     if first == Some(PAGE) {
         return Ok(run_page(rt, None, behind, 0));
     }
+    if first == Some(HELP) {
+        return Ok(run_help(rt, behind));
+    }
     let words = words_of(rt, first, behind)?;
+    if let Some(word) = word_of_help(words.as_slice()) {
+        return Ok(run_help(rt, &[word]));
+    }
     if words.is_empty() {
         return Ok(PROGRAM.refuse(rt, Lack::Word.message()));
     }
@@ -282,7 +296,7 @@ fn run_arguments(rt: &HostRuntime, arguments: &[&str]) -> Result<ExitCode, Error
     Ok(run_matches(rt, &matches)?)
 }
 
-/// Does what the arguments ask for, where they are those of a request to a server or of the help, or says why not.
+/// Does what the arguments ask for, where they are those of a request to a server, or says why not.
 fn run_or_explain(rt: &HostRuntime, words: &[&str]) -> ExitCode {
     match run_arguments(rt, words) {
         Ok(code) => code,
@@ -295,16 +309,12 @@ fn run(rt: &HostRuntime) -> io::Result<ExitCode> {
     let arguments = read_arguments(rt)?;
     let words = PROGRAM.words(rt.alloc(), arguments.as_slice())?;
     let code = match words.as_slice() {
+        [_, word, "-h" | "--help"] if has_page(word) => run_help(rt, &[*word]),
+        [_, "help", words @ ..] => run_help(rt, words),
         [_, "import"] => run_import(rt),
-        [_, "import", "-h" | "--help"] => run_or_explain(rt, &[NAME, "--help"]),
         [_, "import", words @ ..] => import_files(rt, words),
-        [_, "what-if", "-h" | "--help"] => run_or_explain(rt, &[NAME, "--help"]),
         [_, "what-if", words @ ..] => run_foretold(rt, words),
-        [_, "explain", "-h" | "--help"] => run_or_explain(rt, &[NAME, "--help"]),
         [_, "explain", words @ ..] => explain(rt, words),
-        [_, "reach" | "origin" | "holders", "-h" | "--help"] => {
-            run_or_explain(rt, &[NAME, "--help"])
-        }
         [_, "reach", words @ ..] if words.contains(&"--") => {
             run_question(rt, Question::Reach, words)
         }

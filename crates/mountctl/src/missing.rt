@@ -3,7 +3,6 @@ ghost use Rattle.std.specs.Prelude.{◌≡◌, None, OnOk};
 ghost use Rattle.mt_lines.specs.Reading.{fault_of};
 
 use crate::fault::Fault;
-use crate::found::fault_of_line;
 use crate::kept::{Kept, ask_kept};
 use mt_book::command::Command;
 use mt_info::print::{push_names, push_number};
@@ -99,7 +98,7 @@ fn missing_of<R: Input + Drop, W: Output>(
     };
     let names = match path.to_vec() {
         Ok(names) => names,
-        Err(fault) => return Err(fault_of_line(fault)),
+        Err(fault) => return Err(Fault::of_line(fault)),
     };
     if are_there(alloc, space, names.as_slice(), lines, writer)? {
         return Ok(None);

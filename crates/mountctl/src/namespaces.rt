@@ -3,36 +3,28 @@
 use crate::PROGRAM;
 use crate::fault::Fault;
 use crate::messages::NAME;
-use crate::processes::{ProcessFile, every_process, is_gone, namespace_of, process_name};
+use crate::process_tables::{of_machine, of_processes};
 use crate::tables::{TableFault, read_table};
 use crate::task::WordFault;
 use mt_import::host_mount::HostMount;
-use mt_lines::words::number;
+use mt_mounts::mount::SpaceId;
+use mt_questions::naming::{SpaceAlias, last_name, space_called};
 use mt_questions::table::NamedTable;
 use mt_terminal::message::Shown;
 use mt_what_if::asked::SpaceWord;
 use std::alloc::{AllocError, AllocFailed, Global};
-use std::io::ErrorKind;
 use std::process::ExitCode;
-
-/// A word that names a namespace.
-#[derive(Drop)]
-struct Alias {
-    word: String,
-    /// The place of its table, from 1.
-    space: u64,
-}
 
 /// Tables, each of another mount namespace, and the words that name them.
 #[derive(Drop)]
 pub(crate) struct Namespaces {
     tables: Vec<NamedTable>,
-    aliases: Vec<Alias>,
+    aliases: Vec<SpaceAlias>,
 }
 
 /// Why tables are not there.
 #[derive(Drop)]
-enum Lack {
+pub(crate) enum Lack {
     /// This table cannot be read.
     Table(String, TableFault),
     /// No process with this number runs.
@@ -57,16 +49,8 @@ impl<T: Drop> From<AllocFailed<T>> for Lack {
     }
 }
 
-/// The last name of a path.
-fn last_name(path: &str) -> &str {
-    match path.rsplit_once('/') {
-        Some((_, name)) => name,
-        None => path,
-    }
-}
-
 /// The number of the table at a place, from 1.
-fn number_of(place: usize) -> u64 {
+pub(crate) fn number_of(place: usize) -> SpaceId {
     (place as u64).saturating_add(1)
 }
 
@@ -89,7 +73,7 @@ fn is_same_table(left: &[HostMount], right: &[HostMount]) -> bool {
 
 impl Namespaces {
     /// No tables.
-    fn new(alloc: Global) -> Namespaces {
+    pub(crate) fn new(alloc: Global) -> Namespaces {
         Namespaces {
             tables: Vec::new(alloc),
             aliases: Vec::new(alloc),
@@ -103,32 +87,8 @@ impl Namespaces {
 
     /// The number of the table of a namespace, from 1: the word is the name of its file, with or without folders, the number
     /// of a process in it, or the number of the table. None where it is none of these, or the last name of two files.
-    pub(crate) fn space_named(&self, word: &str) -> Option<u64> {
-        if let Some(alias) = self
-            .aliases
-            .iter()
-            .find(|alias| alias.word.as_str() == word)
-        {
-            return Some(alias.space);
-        }
-        let mut found = None;
-        for alias in &self.aliases {
-            if last_name(alias.word.as_str()) == word {
-                match found {
-                    Some(space) if space != alias.space => return None,
-                    _ => found = Some(alias.space),
-                }
-            }
-        }
-        if found.is_some() {
-            return found;
-        }
-        let space = number(word.as_bytes())?;
-        if space > 0 && space <= self.tables.len() as u64 {
-            Some(space)
-        } else {
-            None
-        }
+    pub(crate) fn space_named(&self, word: &[u8]) -> Option<SpaceId> {
+        space_called(self.tables.as_slice(), self.aliases.as_slice(), word)
     }
 
     /// Adds a word, and the namespace that it names.
@@ -136,10 +96,10 @@ impl Namespaces {
         &self,
         alloc: Global,
         words: &mut Vec<SpaceWord>,
-        word: &str,
+        word: &[u8],
     ) -> Result<(), AllocError> {
         words.push(SpaceWord {
-            word: Vec::from_slice(alloc, word.as_bytes())?,
+            word: Vec::from_slice(alloc, word)?,
             space: self.space_named(word),
         })?;
         Ok(())
@@ -150,16 +110,16 @@ impl Namespaces {
     pub(crate) fn space_words(&self, alloc: Global) -> Result<Vec<SpaceWord>, AllocError> {
         let mut words = Vec::new(alloc);
         for alias in &self.aliases {
-            self.push_word(alloc, &mut words, alias.word.as_str())?;
-            self.push_word(alloc, &mut words, last_name(alias.word.as_str()))?;
+            self.push_word(alloc, &mut words, alias.word.as_slice())?;
+            self.push_word(alloc, &mut words, last_name(alias.word.as_slice()))?;
         }
         Ok(words)
     }
 
     /// Enters a word that names a namespace.
-    fn name(&mut self, alloc: Global, word: &str, space: u64) -> Result<(), Lack> {
-        let word = String::from_str(alloc, word)?;
-        self.aliases.push(Alias { word, space })?;
+    pub(crate) fn name(&mut self, alloc: Global, word: &str, space: SpaceId) -> Result<(), Lack> {
+        let word = Vec::from_slice(alloc, word.as_bytes())?;
+        self.aliases.push(SpaceAlias { word, space })?;
         Ok(())
     }
 
@@ -171,7 +131,7 @@ impl Namespaces {
     }
 
     /// Enters a table under a word and a name.
-    fn enter(
+    pub(crate) fn enter(
         &mut self,
         alloc: Global,
         word: &str,
@@ -184,7 +144,7 @@ impl Namespaces {
     }
 
     /// Says that what a word names is the namespace of the table at a place, and enters the word for that.
-    fn join(&mut self, rt: &HostRuntime, word: &str, place: usize) -> Result<(), Lack> {
+    pub(crate) fn join(&mut self, rt: &HostRuntime, word: &str, place: usize) -> Result<(), Lack> {
         if let Some(table) = self.tables.get(place) {
             let (first, second) = (Shown(table.name.as_slice()), Shown(word.as_bytes()));
             let _ = eprintln!(rt; "{NAME}: {second} and {first} are one namespace");
@@ -194,17 +154,17 @@ impl Namespaces {
 }
 
 /// What people call the file of a word: its last name, or the whole word where another one of the words has the same.
-fn file_name<'a>(word: &'a str, words: &[&'a str]) -> &'a str {
-    let name = last_name(word);
+fn file_name<'a>(word: &'a str, words: &[&'a str]) -> &'a [u8] {
+    let name = last_name(word.as_bytes());
     let alike = words
         .iter()
-        .filter(|other| last_name(other) == name)
+        .filter(|other| last_name(other.as_bytes()) == name)
         .count();
-    if alike > 1 { word } else { name }
+    if alike > 1 { word.as_bytes() } else { name }
 }
 
 /// The table of a file.
-fn table_at(rt: &HostRuntime, path: &str) -> Result<Vec<HostMount>, Lack> {
+pub(crate) fn table_at(rt: &HostRuntime, path: &str) -> Result<Vec<HostMount>, Lack> {
     match read_table(rt, path) {
         Ok(rows) => Ok(rows),
         Err(TableFault::NoMemory) => Err(Lack::NoMemory),
@@ -225,141 +185,10 @@ fn of_files(rt: &HostRuntime, words: &[&str]) -> Result<Namespaces, Lack> {
             Some(place) => all.join(rt, word, place)?,
             None => {
                 let mut name = Vec::new(alloc);
-                name.extend_from_slice(file_name(word, words).as_bytes())?;
+                name.extend_from_slice(file_name(word, words))?;
                 all.enter(alloc, word, name, rows)?;
             }
         }
-    }
-    Ok(all)
-}
-
-/// A mount namespace that was met: what the system calls it, and the place of its table.
-#[derive(Drop)]
-struct Met {
-    namespace: String,
-    place: usize,
-}
-
-/// The place of the table of a namespace that was met.
-fn met_place(met: &[Met], namespace: &str) -> Option<usize> {
-    let one = met.iter().find(|one| one.namespace.as_str() == namespace)?;
-    Some(one.place)
-}
-
-/// The table of a process.
-fn process_table(rt: &HostRuntime, process: &str) -> Result<Vec<HostMount>, Lack> {
-    let Ok(path) = ProcessFile::Mounts.of(rt.alloc(), process) else {
-        return Err(Lack::NoMemory);
-    };
-    match table_at(rt, path.as_str()) {
-        Err(Lack::Table(_, TableFault::Open(ErrorKind::NotFound) | TableFault::Read)) => {
-            Err(Lack::Process(String::from_str(rt.alloc(), process)?))
-        }
-        table => table,
-    }
-}
-
-/// Enters the table of a process, whose namespace was not met before.
-fn enter_process(
-    rt: &HostRuntime,
-    process: &str,
-    namespace: String,
-    rows: Vec<HostMount>,
-    met: &mut Vec<Met>,
-    all: &mut Namespaces,
-) -> Result<(), Lack> {
-    let Ok(name) = process_name(rt, process) else {
-        return Err(Lack::NoMemory);
-    };
-    let place = all.tables.len();
-    met.push(Met { namespace, place })?;
-    all.enter(rt.alloc(), process, name, rows)
-}
-
-/// Enters the table of a process, or says that it is that of another one.
-fn add_process(
-    rt: &HostRuntime,
-    process: &str,
-    met: &mut Vec<Met>,
-    all: &mut Namespaces,
-) -> Result<(), Lack> {
-    if number(process.as_bytes()).is_none() {
-        return Err(Lack::Words);
-    }
-    let Ok(namespace) = namespace_of(rt, process) else {
-        return Err(Lack::Process(String::from_str(rt.alloc(), process)?));
-    };
-    match met_place(met.as_slice(), namespace.as_str()) {
-        Some(place) => all.join(rt, process, place),
-        None => {
-            let rows = process_table(rt, process)?;
-            enter_process(rt, process, namespace, rows, met, all)
-        }
-    }
-}
-
-/// The tables of processes.
-fn of_processes(rt: &HostRuntime, words: &[&str]) -> Result<Namespaces, Lack> {
-    let mut all = Namespaces::new(rt.alloc());
-    let mut met = Vec::new(rt.alloc());
-    for word in words {
-        add_process(rt, word, &mut met, &mut all)?;
-    }
-    Ok(all)
-}
-
-/// Whether a table has a mount at the root: that of a process whose root is another one has none.
-fn has_root(rows: &[HostMount]) -> bool {
-    rows.iter()
-        .any(|row| row.point.as_slice() == b"/".as_slice())
-}
-
-/// Enters a process of this machine, and its table where it is the first one of its namespace that shows all of it: false
-/// where the process may not be looked at.
-fn look_at(
-    rt: &HostRuntime,
-    process: &str,
-    met: &mut Vec<Met>,
-    all: &mut Namespaces,
-) -> Result<bool, Lack> {
-    let namespace = match namespace_of(rt, process) {
-        Ok(namespace) => namespace,
-        Err(error) => return Ok(is_gone(&error)),
-    };
-    if let Some(place) = met_place(met.as_slice(), namespace.as_str()) {
-        all.name(rt.alloc(), process, number_of(place))?;
-        return Ok(true);
-    }
-    let rows = match process_table(rt, process) {
-        Ok(rows) => rows,
-        Err(Lack::Process(_)) => return Ok(true),
-        Err(Lack::Table(_, _)) => return Ok(false),
-        Err(lack) => return Err(lack),
-    };
-    match namespace_of(rt, process) {
-        Ok(later) if later == namespace && has_root(rows.as_slice()) => {
-            enter_process(rt, process, namespace, rows, met, all)?;
-            Ok(true)
-        }
-        _ => Ok(true),
-    }
-}
-
-/// The table of each mount namespace of this machine. Says how many processes may not be looked at.
-fn of_machine(rt: &HostRuntime) -> Result<Namespaces, Lack> {
-    let Ok(processes) = every_process(rt) else {
-        return Err(Lack::Processes);
-    };
-    let mut all = Namespaces::new(rt.alloc());
-    let mut met = Vec::new(rt.alloc());
-    let mut hidden = 0u64;
-    for process in &processes {
-        if !look_at(rt, process.as_str(), &mut met, &mut all)? {
-            hidden = hidden.saturating_add(1);
-        }
-    }
-    if hidden > 0 {
-        let _ = eprintln!(rt; "{NAME}: processes that may not be looked at: {hidden}");
     }
     Ok(all)
 }

@@ -3,17 +3,18 @@ ghost use Rattle.std.specs.Prelude.{◌≡◌, None, OnOk};
 ghost use Rattle.mt_lines.specs.Reading.{fault_of};
 
 use crate::fault::Fault;
-use crate::found::{Look, MOST_TRIES, fault_of_line, place_in};
+use crate::found::{Look, MOST_TRIES, place_in};
 use crate::kept::{Kept, ask_kept};
 use crate::lines::tell_bad;
+use crate::server_tables::shown_table;
 use crate::what_if::line_of;
 use mt_client::relay::print_text;
 use mt_events::mirror::Mirror;
-use mt_info::read::read_row;
 use mt_info::table::Table;
 use mt_lines::line::LineReader;
 use mt_lines::stream::{Input, Output};
 use mt_lines::words::{Pieces, number};
+use mt_mounts::mount::{MountId, SpaceId};
 use mt_render::drawing::{Drawing, drawing_text};
 use mt_render::named::SpaceName;
 use mt_render::part::part_below;
@@ -55,52 +56,15 @@ fn names_of(alloc: Global, path: &str) -> Result<Names, Fault> {
     Ok(names)
 }
 
-/// The table that an answer tells.
-fn table_in(alloc: Global, answer: &[u8]) -> Result<Table, Fault> {
-    let mut rows = Vec::new(alloc);
-    let mut lines = Pieces::new(b'\n', answer);
-    let _told = lines.next();
-    for line in lines {
-        if !line.is_empty() {
-            match read_row(alloc, line) {
-                Ok(row) => rows.push(row)?,
-                Err(fault) => return Err(fault_of_line(fault)),
-            }
-        }
-    }
-    Table::from_rows(rows).ok_or(Fault::Connection)
-}
-
-/// The table of a namespace, as the server shows it.
-fn shown_table<R: Input + Drop, W: Output>(
-    alloc: Global,
-    space: &str,
-    lines: &mut LineReader<R>,
-    writer: &mut W,
-) -> Result<Table, Fault>
-    requires fresh { fault_of lines.old ≡ None }
-    ensures fresh { OnOk result (fault_of lines.new ≡ None) }
-{
-    let mut shown = Kept::new(alloc);
-    let show = line_of(alloc, &["show", space])?;
-    if ask_kept(alloc, lines, writer, show.as_slice(), &mut shown)? {
-        table_in(alloc, shown.text())
-    } else {
-        table_in(alloc, b"")
-    }
-}
-
 /// Prints the part of a table to which the path leads that ends on a mount: false where the mount is not in the table.
 fn print_part<O: Output>(
     alloc: Global,
     part: Part<'_, '_>,
+    space: SpaceId,
     table: &Table,
-    top: u64,
+    top: MountId,
     out: &mut O,
 ) -> Result<bool, Fault> {
-    let Some(space) = number(part.space.as_bytes()) else {
-        return Err(Fault::Connection);
-    };
     let names = names_of(alloc, part.path)?;
     let Some(found) = part_below(table, top, &names)? else {
         return Ok(false);
@@ -132,11 +96,11 @@ fn look_once<R: Input + Drop, W: Output, O: Output>(
     let Some((id, _directory)) = place_in(found.text()) else {
         return Err(Fault::Connection);
     };
-    let Some(top) = number(id) else {
+    let (Some(top), Some(space)) = (number(id), number(part.space.as_bytes())) else {
         return Err(Fault::Connection);
     };
-    let table = shown_table(alloc, part.space, lines, writer)?;
-    if print_part(alloc, part, &table, top, out)? {
+    let table = shown_table(alloc, space, lines, writer)?;
+    if print_part(alloc, part, space, &table, top, out)? {
         Ok(Look::Found)
     } else {
         Ok(Look::Gone)

@@ -4,9 +4,8 @@ use crate::PROGRAM;
 use crate::fault::Fault;
 use crate::messages::NAME;
 use crate::namespaces::{Namespaces, named_tables};
-use crate::screen::standard_output;
+use crate::screen::print_out;
 use crate::task::{WordFault, parted};
-use mt_lines::stream::send;
 use mt_questions::holders::{Holder, holders_of_device, holders_of_directory, holders_of_source};
 use mt_questions::holders_text::{directory_title, holders_text};
 use mt_questions::misfit::{LineAt, SeeingFault};
@@ -68,7 +67,7 @@ fn seen_of(rt: &HostRuntime, all: &Namespaces) -> Result<SeenTables, ExitCode> {
 
 /// The number of a namespace, or the status.
 fn space_of(rt: &HostRuntime, all: &Namespaces, word: &str) -> Result<u64, ExitCode> {
-    match all.space_named(word) {
+    match all.space_named(word.as_bytes()) {
         Some(space) => Ok(space),
         None => {
             let word = Shown(word.as_bytes());
@@ -92,15 +91,6 @@ fn path_of(rt: &HostRuntime, word: &str) -> Result<Path, ExitCode> {
             Err(ExitCode::from(2))
         }
         Err(_) => Err(PROGRAM.fail(rt, Fault::NoMemory.message())),
-    }
-}
-
-/// Prints a text, and answers a status.
-fn print(rt: &HostRuntime, text: &[u8], status: u8) -> ExitCode {
-    let mut out = standard_output(rt);
-    match send(&mut out, text) {
-        Ok(()) => ExitCode::from(status),
-        Err(_) => PROGRAM.fail(rt, Fault::Output.message()),
     }
 }
 
@@ -257,7 +247,7 @@ pub(crate) fn path_answer(
 fn print_answer(rt: &HostRuntime, answered: Result<Option<Answer>, Refusal>) -> ExitCode {
     match answered {
         Ok(Some(answer)) => {
-            print(
+            print_out(
                 rt,
                 answer.text.as_slice(),
                 if answer.holds { 0u8 } else { 1u8 },

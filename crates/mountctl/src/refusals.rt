@@ -3,29 +3,25 @@ ghost use Rattle.std.specs.Prelude.{◌≡◌, None, OnOk};
 ghost use Rattle.mt_lines.specs.Reading.{fault_of};
 
 use crate::fault::Fault;
-use crate::found::fault_of_line;
-use crate::kept::{Kept, ask_kept};
 use crate::messages::tell_lines;
 use crate::missing::{Missing, missing_in};
+use crate::quiet::Quiet;
+use crate::server_tables::{push_rows, rows_of, shown_table, watched_tables};
 use mt_book::command::Command;
-use mt_info::print::push_number;
-use mt_info::read::read_row;
-use mt_info::row::Row;
+use mt_client::ask::ask_line;
 use mt_lines::line::LineReader;
 use mt_lines::stream::{Input, Output};
-use mt_lines::words::{Pieces, number, words};
 use mt_mounts::mount::SpaceId;
 use mt_protocol::refusal::refusal_named;
-use mt_protocol::verb::Verb;
 use mt_reach::row::SeenRow;
 use mt_reach::rows::SeenRows;
 use mt_refused::asked::{asked_space, asked_tree};
 use mt_refused::missing::missing_text;
 use mt_refused::text::refused_text;
 use mt_refused::titles::Titles;
-use mt_requests::request::{Request, read_request};
+use mt_requests::request::{Query, Request, read_request};
 use mt_skel::fault::Fault as Refusal;
-use std::alloc::{AllocError, Global};
+use std::alloc::Global;
 use std::io::Eprint;
 
 /// The refusal that an answer is, if it is one.
@@ -68,43 +64,12 @@ fn question_of(refusal: Refusal, command: &Command) -> Option<Question> {
 fn command_of(alloc: Global, line: &[u8], refusal: Refusal) -> Result<Option<Command>, Fault> {
     match (read_request(alloc, line), refusal) {
         (Ok(Request::Run(command)), _) => Ok(Some(command)),
-        (Ok(Request::Find { space, path }), Refusal::NoEntry) => {
+        (Ok(Request::Ask(Query::Find { space, path })), Refusal::NoEntry) => {
             Ok(Some(Command::Unmount { space, path }))
         }
         (Err(Refusal::NoMemory), _) => Err(Fault::NoMemory),
         _ => Ok(None),
     }
-}
-
-/// The number of a namespace, as the heading of its rows says it. None where a line is no heading.
-fn space_in(line: &[u8]) -> Option<SpaceId> {
-    number(words(line.strip_prefix(b"space ")?).next()?)
-}
-
-/// The row of a line, if it is one.
-fn row_in(alloc: Global, line: &[u8]) -> Result<Option<Row>, Fault> {
-    match read_row(alloc, line) {
-        Ok(row) => Ok(Some(row)),
-        Err(Refusal::NoMemory) => Err(Fault::NoMemory),
-        Err(_) => Ok(None),
-    }
-}
-
-/// The rows among the lines of an answer, by their order there: those of the namespace of this number, up to the first heading.
-fn rows_in(alloc: Global, space: SpaceId, answer: &[u8]) -> Result<Vec<SeenRow>, Fault> {
-    let mut rows = Vec::new(alloc);
-    let mut space = space;
-    for line in Pieces::new(b'\n', answer) {
-        if let Some(next) = space_in(line) {
-            space = next;
-        } else if let Some(row) = row_in(alloc, line)? {
-            match SeenRow::of(space, &row, alloc) {
-                Ok(row) => rows.push(row)?,
-                Err(fault) => return Err(fault_of_line(fault)),
-            }
-        }
-    }
-    Ok(rows)
 }
 
 /// The rows of all namespaces, or none where the server tells them not, as where the session has a watcher already.
@@ -116,13 +81,11 @@ fn all_rows<R: Input + Drop, W: Output>(
     requires fresh { fault_of lines.old ≡ None }
     ensures fresh { OnOk result (fault_of lines.new ≡ None) }
 {
-    let mut opening = Kept::new(alloc);
-    if !ask_kept(alloc, lines, writer, b"watch all", &mut opening)? {
+    let Some(tables) = watched_tables(alloc, lines, writer, &mut Quiet)? else {
         return Ok(None);
-    }
-    let mut closed = Kept::new(alloc);
-    let _closed = ask_kept(alloc, lines, writer, b"close", &mut closed)?;
-    let rows = rows_in(alloc, 0, opening.text())?;
+    };
+    let _closed = ask_line(alloc, lines, writer, b"close", &mut Quiet)?;
+    let rows = rows_of(alloc, tables.as_slice())?;
     Ok(Some(rows))
 }
 
@@ -136,19 +99,10 @@ fn own_rows<R: Input + Drop, W: Output>(
     requires fresh { fault_of lines.old ≡ None }
     ensures fresh { OnOk result (fault_of lines.new ≡ None) }
 {
-    let mut table = Kept::new(alloc);
-    let show = show_line(alloc, space)?;
-    let _shown = ask_kept(alloc, lines, writer, show.as_slice(), &mut table)?;
-    rows_in(alloc, space, table.text())
-}
-
-/// The line that asks for the table of a namespace. Fails for want of memory alone.
-fn show_line(alloc: Global, space: SpaceId) -> Result<Vec<u8>, AllocError> {
-    let mut line = Vec::new(alloc);
-    line.extend_from_slice(Verb::Show.word())?;
-    line.extend_from_slice(b" ")?;
-    push_number(&mut line, space)?;
-    Ok(line)
+    let table = shown_table(alloc, space, lines, writer)?;
+    let mut rows = Vec::new(alloc);
+    push_rows(alloc, &mut rows, space, &table)?;
+    Ok(rows)
 }
 
 /// The rows that a question asks for; those of the command's own namespace where all are not to be had.
@@ -238,7 +192,7 @@ pub(crate) fn tell_reason_of<E: Eprint, R: Input + Drop, W: Output>(
     match text_by_rows(alloc, rows, &command, refusal, missing) {
         Ok(Some(text)) => tell_lines(rt, number, text.as_slice()),
         Ok(None) => {}
-        Err(fault) => return Err(fault_of_line(fault)),
+        Err(fault) => return Err(Fault::of_line(fault)),
     }
     Ok(())
 }

@@ -2,12 +2,15 @@
 ghost use Rattle.std.specs.Prelude.{◌≡◌, length, IfOk};
 ghost use Rattle.mountctl.specs.Screens.{shown_lines};
 
+use crate::PROGRAM;
+use crate::fault::Fault;
 use mt_lines::stream::{Output, StreamFault, Writing, send};
 use mt_lines::words::Pieces;
 use mt_terminal::terminal::terminal_text;
 use std::alloc::{AllocError, Global};
 use std::io;
 use std::io::{IsTerminal, Printer};
+use std::process::ExitCode;
 
 /// An output of whole lines, which may be a terminal.
 #[derive(Drop)]
@@ -23,6 +26,15 @@ pub(crate) fn standard_output(rt: &HostRuntime) -> Screen<Writing<Printer<'_, Ho
         alloc: rt.alloc(),
         is_terminal: rt.stdout().is_terminal(),
         out: Writing::new(io::writer(rt)),
+    }
+}
+
+/// Prints a text, and answers a status, or says that the text did not go out.
+pub(crate) fn print_out(rt: &HostRuntime, text: &[u8], status: u8) -> ExitCode {
+    let mut out = standard_output(rt);
+    match send(&mut out, text) {
+        Ok(()) => ExitCode::from(status),
+        Err(_) => PROGRAM.fail(rt, Fault::Output.message()),
     }
 }
 

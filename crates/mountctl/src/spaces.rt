@@ -3,43 +3,28 @@ ghost use Rattle.std.specs.Prelude.{◌≡◌, None};
 ghost use Rattle.mt_lines.specs.Reading.{fault_of};
 
 use crate::fault::Fault;
-use crate::kept::{Kept, ask_kept};
+use crate::server_tables::watched_tables;
 use mt_client::relay::print_text;
+use mt_events::mirror::Mirror;
 use mt_lines::line::LineReader;
 use mt_lines::stream::{Input, Output};
-use mt_lines::words::{Pieces, number, words};
 use mt_render::named::{SpaceName, name_in};
 use mt_render::spaces::space_line;
 use mt_render::telling::Telling;
 use std::alloc::{AllocError, Global};
 
-/// The number of a namespace and that of its mounts, as the heading of its rows says them. None where a line is no heading.
-fn heading_in(line: &[u8]) -> Option<(u64, u64)> {
-    let mut words = words(line.strip_prefix(b"space ")?);
-    let (Some(space), Some(_), Some(count), None) = (
-        words.next(),
-        words.next(),
-        words.next(),
-        words.next(),
-    ) else {
-        return None;
-    };
-    Some((number(space)?, number(count)?))
-}
-
-/// The lines of the namespaces that a watcher found.
+/// The lines of the namespaces of tables.
 fn listed(
     alloc: Global,
     telling: Telling,
     names: &[SpaceName<'_>],
-    found: &[u8],
+    tables: &[Mirror],
 ) -> Result<Vec<u8>, AllocError> {
     let mut text = Vec::new(alloc);
-    for line in Pieces::new(b'\n', found) {
-        if let Some((space, mounts)) = heading_in(line) {
-            let line = space_line(alloc, telling, space, name_in(names, space), mounts)?;
-            text.extend_from_slice(&line)?;
-        }
+    for table in tables {
+        let (space, mounts) = (table.space(), table.table().rows().len() as u64);
+        let line = space_line(alloc, telling, space, name_in(names, space), mounts)?;
+        text.extend_from_slice(&line)?;
     }
     Ok(text)
 }
@@ -56,12 +41,10 @@ pub(crate) fn list_spaces<R: Input + Drop, W: Output, O: Output>(
 ) -> Result<bool, Fault>
     requires fresh { fault_of lines.old ≡ None }
 {
-    let mut kept = Kept::new(alloc);
-    let told = ask_kept(alloc, lines, writer, b"watch all", &mut kept)?;
-    if told {
-        print_text(out, listed(alloc, telling, names, kept.text())?.as_slice())?;
-    } else {
-        print_text(out, kept.text())?;
-    }
-    Ok(told)
+    let Some(tables) = watched_tables(alloc, lines, writer, out)? else {
+        return Ok(false);
+    };
+    let text = listed(alloc, telling, names, tables.as_slice())?;
+    print_text(out, text.as_slice())?;
+    Ok(true)
 }

@@ -1,6 +1,7 @@
 //! What the words behind the socket ask for.
 
 use crate::asked::asked_by;
+use crate::client_words::{IN_PLACE_OF_LINES, has_usage};
 use crate::marked::Marks;
 use crate::options::{Chosen, Options, chosen_in};
 use crate::questions::Question;
@@ -11,14 +12,9 @@ use mt_protocol::verb::Verb;
 use mt_render::drawing::Drawing;
 use mt_render::telling::Telling;
 
-/// The first words of what may stand in the place of a line.
-const TASK_WORDS: [&str; 10] = [
-    "-", "monitor", "mirror", "tree", "dot", "spaces", "what-if", "reach", "origin", "holders",
-];
-
 /// Whether a word begins a line of a session, or what may stand in its place.
 pub(crate) fn begins_words(word: &str) -> bool {
-    form_of(word.as_bytes()) != Form::Never || TASK_WORDS.contains(&word)
+    form_of(word.as_bytes()) != Form::Never || has_usage(&IN_PLACE_OF_LINES, word)
 }
 
 /// What the words behind the socket ask for.
@@ -104,6 +100,8 @@ pub(crate) enum WordFault {
     Page,
     /// Behind `explain`, which stands in the place of a socket.
     Explain,
+    /// Behind `help`.
+    Help,
     /// Behind `reach`.
     Reach,
     /// Behind `origin`.
@@ -139,6 +137,7 @@ impl WordFault {
                 "holders takes tables, and behind -- a source, a device, or a namespace and a path; behind a socket those alone"
             }
             WordFault::Explain => "explain takes the name of a refusal, or an errno",
+            WordFault::Help => "help takes a word, or none",
         }
     }
 }

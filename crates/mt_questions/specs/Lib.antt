@@ -1,4 +1,5 @@
 pub mod Tables
+pub mod Naming
 pub mod Seeing
 pub mod Fates
 pub mod Copies

@@ -3,8 +3,8 @@ ghost use Rattle.std.specs.Prelude.{◌≡◌, ◌++◌, codes, OnOk};
 ghost use Rattle.std.specs.List.{flat_map};
 ghost use Rattle.mt_questions.specs.Json.{items_json, list_json, under_name, why_json, elsewhere_json, joining_json, how_json, ends_json, share_json, join_json, reason_json, apart_json};
 
+use crate::copy_json::push_spot;
 use crate::json_values::{push_named, push_named_bool, push_named_number};
-use crate::reach_json::push_spot;
 use crate::remedy::{ApartMount, Elsewhere, Join, Joining};
 use crate::table::SeenTables;
 use crate::wording::{push_after, push_between};

@@ -1,4 +1,4 @@
-//! The word that was meant: a verb, a refusal or an error of Linux.
+//! The word that was meant: a verb, a refusal, an error of Linux, or one of others.
 
 use mt_protocol::errno::ERRNOS;
 use mt_protocol::refusal::REFUSALS;
@@ -75,5 +75,22 @@ pub fn nearest_explained(alloc: Global, word: &[u8]) -> Result<Option<&'static [
     }
     let refusal = nearest_refusal(alloc, word)?;
     let nearest = nearer(refusal, nearest_errno(alloc, word)?);
+    Ok(nearest.map(|near| near.meant))
+}
+
+/// The one of these words that is nearest to a word, if one is near: at most two letters are put in, left out or exchanged. Of those
+/// that are as near it is the first. Fails for want of memory alone.
+pub fn nearest_word(
+    alloc: Global,
+    words: &[&'static [u8]],
+    word: &[u8],
+) -> Result<Option<&'static [u8]>, AllocError> {
+    if word.len() > MOST_LETTERS {
+        return Ok(None);
+    }
+    let mut nearest = None;
+    for meant in words {
+        nearest = nearer(nearest, near_to(alloc, *meant, word)?);
+    }
     Ok(nearest.map(|near| near.meant))
 }

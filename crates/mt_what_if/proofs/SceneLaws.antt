@@ -1,5 +1,5 @@
 -- The world of tables.
-use Rattle.std.proofs.Common.{◌≡◌, List, [], Option, refl, subst, sym}
+use Rattle.std.proofs.Common.{◌≡◌, List, [], map, Option, refl, ap, subst, sym}
 use Rattle.mt_propagate.specs.World.{WorldView}
 use Rattle.mt_propagate.specs.WellFormed.{IsWellFormed}
 use Rattle.mt_world.specs.declared.misfit.Misfit.{Misfit}
@@ -11,15 +11,16 @@ use Rattle.mt_what_if.specs.Scenes.{IsWorldOfTables}
 -- a world that was made of rows, and no command was tried on it yet
 pub begun_world :
     (rows given : List TableRow) (w : WorldView) (t : TrialView) (left private : List (Option Misfit)) → given ≡ rows → IsWellFormed w → IsMade w given left private
-    → KeepsPlain w given left → t ≡ record { start = w; commands = [] } → IsWorldOfTables rows t
+    → KeepsPlain w given left → t ≡ record { start = w; commands = []; names = map (λ (r : TableRow). r.device) given; given = []; refused = [] } → IsWorldOfTables rows t
 begun_world rows given w t left private e h m k same =
-    let fresh : TrialView = record { start = w; commands = [] } in
+    let fresh : TrialView = record { start = w; commands = []; names = map (λ (r : TableRow). r.device) given; given = []; refused = [] } in
     let q : IsWorldOfTables rows fresh = record {
       well_formed = h;
       left = left;
       private = private;
       made = subst (λ (r : List TableRow). IsMade w r left private) e m;
       plain = subst (λ (r : List TableRow). KeepsPlain w r left) e k;
-      fresh = refl;
+      named = ap (map (λ (r : TableRow). r.device)) e;
+      fresh = (refl, refl, refl);
     } in
     subst (IsWorldOfTables rows) (sym same) q

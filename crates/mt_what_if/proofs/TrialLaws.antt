@@ -1,5 +1,5 @@
 -- The world after one more command.
-use Rattle.std.proofs.Common.{◌≡◌, Bool, true, false, if◌then◌else◌, List, [], ◌∷◌, ◌++◌, Result, Ok, Err, refl, ap, sym, subst, ◌∙◌}
+use Rattle.std.proofs.Common.{◌≡◌, ℕ, Bool, true, false, if◌then◌else◌, List, [], ◌∷◌, ◌++◌, Result, Ok, Err, refl, ap, sym, subst, ◌∙◌}
 use Rattle.mt_skel.specs.declared.fault.Fault.{Fault}
 use Rattle.mt_skel.specs.declared.fault.Fault.TheVariants.{TooMany}
 use Rattle.mt_propagate.specs.World.{WorldView}
@@ -7,7 +7,7 @@ use Rattle.mt_propagate.specs.WellFormed.{IsWellFormed}
 use Rattle.mt_book.specs.Step.{step, next_world, world_or, after_from}
 use Rattle.mt_book.specs.declared.command.Command.{Command}
 use Rattle.mt_book.specs.declared.command.Reply.{Reply}
-use Rattle.mt_what_if.specs.Trials.{IsTrial, has_numbers, tried}
+use Rattle.mt_what_if.specs.Trials.{TrialView, Ended, IsTrial, world_after, has_numbers, tried, names_made, attempt, attempt_as, all_done, stopped, then_tried}
 
 pub after_one_more : (w : WorldView) (cs : List Command) (c : Command) → after_from w (cs ++ c ∷ []) ≡ next_world (after_from w cs) c
 after_one_more w [] c = refl
@@ -39,7 +39,39 @@ tried_on w v u cs ds c d r t e h same more = record {
   leads = leads_on w v u cs c r t.leads e ∙ sym (ap (after_from w) (more ∙ ap (λ (x : Command). cs ++ x ∷ []) same));
 }
 
--- what it leads to is the world after it
-pub tried_after :
-    (w v u : WorldView) (cs ds : List Command) (c : Command) (r : Reply) → v ≡ after_from w cs → tried v c ≡ Ok (u, r) → u ≡ after_from w ds → tried (after_from w cs) c ≡ Ok (after_from w ds, r)
-tried_after w v u cs ds c r now e later = ap (λ (x : WorldView). tried x c) (sym now) ∙ e ∙ ap (λ (x : WorldView). Ok (x, r)) later
+-- a command that is done is accepted
+pub attempt_done :
+    (t s : TrialView) (w v : WorldView) (cs : List Command) (ns : List (List ℕ)) (c d : Command) (r : Reply)
+    → s ≡ t → w ≡ world_after s → tried w c ≡ Ok (v, r) → d ≡ c → cs ≡ s.commands ++ d ∷ [] → ns ≡ s.names ++ names_made c
+    → attempt t c ≡ all_done (record s { commands = cs; names = ns })
+unfolding attempt
+attempt_done t s w v cs ns c d r same e h copy more named =
+    ap (λ (x : TrialView). attempt_as x c (tried (world_after x) c)) (sym same)
+    ∙ ap (λ (x : WorldView). attempt_as s c (tried x c)) (sym e) ∙ ap (attempt_as s c) h
+    ∙ ap (λ (xs : List Command). all_done (record s { commands = xs; names = s.names ++ names_made c })) (sym (more ∙ ap (λ (x : Command). s.commands ++ x ∷ []) copy))
+    ∙ ap (λ (xs : List (List ℕ)). all_done (record s { commands = cs; names = xs })) (sym named)
+
+-- one that is refused is the one that is refused
+pub attempt_refused :
+    (t s : TrialView) (w : WorldView) (cs rs : List Command) (c d : Command) (f : Fault)
+    → s ≡ t → w ≡ world_after s → tried w c ≡ Err f → cs ≡ s.commands → d ≡ c → rs ≡ s.refused ++ d ∷ []
+    → attempt t c ≡ stopped (record s { commands = cs; refused = rs }) f
+unfolding attempt
+attempt_refused t s w cs rs c d f same e h back copy more =
+    ap (λ (x : TrialView). attempt_as x c (tried (world_after x) c)) (sym same)
+    ∙ ap (λ (x : WorldView). attempt_as s c (tried x c)) (sym e) ∙ ap (attempt_as s c) h
+    ∙ ap (λ (xs : List Command). stopped (record s { refused = xs }) f) (sym (more ∙ ap (λ (x : Command). s.refused ++ x ∷ []) copy))
+    ∙ ap (λ (xs : List Command). stopped (record s { commands = xs; refused = rs }) f) (sym back)
+
+-- behind what is done more is tried
+pub then_more : (e : Ended) (more : TrialView → Ended) (u : TrialView) → e ≡ all_done u → then_tried e more ≡ more u
+unfolding then_tried
+then_more e more u h = ap (λ (x : Ended). then_tried x more) h
+
+pub then_ended : (e x : Ended) (more : TrialView → Ended) (u : TrialView) → e ≡ all_done u → more u ≡ x → then_tried e more ≡ x
+then_ended e x more u h m = then_more e more u h ∙ m
+
+-- and behind what is refused it is not
+pub then_stopped : (e : Ended) (more : TrialView → Ended) (u : TrialView) (f : Fault) → e ≡ stopped u f → then_tried e more ≡ stopped u f
+unfolding then_tried
+then_stopped e more u f h = ap (λ (x : Ended). then_tried x more) h

@@ -4,8 +4,6 @@ use Rattle.std.specs.Prelude.{◌≡◌, ◌⊎◌, ℕ, ◌+◌, Bool, not, if�
 use Rattle.std.specs.List.{filter}
 use Rattle.mt_skel.specs.declared.fault.Fault.{Fault}
 use Rattle.mt_propagate.specs.World.{WorldView}
-use Rattle.mt_book.specs.Step.{after_from}
-use Rattle.mt_book.specs.declared.command.Command.{Command}
 use Rattle.mt_render.specs.declared.telling.Telling.{Telling}
 use Rattle.mt_render.specs.declared.telling.Telling.TheVariants.{Words, Json}
 use Rattle.mt_what_if.specs.Difference.{difference_text, changes_elsewhere}
@@ -14,7 +12,9 @@ use Rattle.mt_what_if.specs.Json.{elsewhere_object}
 use Rattle.mt_what_if.specs.LinesTold.{tried_text}
 use Rattle.mt_what_if.specs.Naming.{numbers_of, spaces_told}
 use Rattle.mt_what_if.specs.KnownSpaces.{TitledSpace, is_unnamed}
+use Rattle.mt_what_if.specs.Taken.{taken_told}
 use Rattle.mt_what_if.specs.Told.{events_text}
+use Rattle.mt_what_if.specs.Trials.{TrialView, world_after, for_next}
 use Rattle.mt_what_if.specs.Tried.{IsLineTried}
 use Rattle.mt_what_if.specs.declared.foretelling.Question.{Question}
 use Rattle.mt_what_if.specs.declared.asked.AskedLine.{AskedLine}
@@ -59,19 +59,19 @@ leaks q w v = not (nat_eq (length (changed_spaces (spaces_told q.names.now q.lin
 abbrev pub ending_text : Question → WorldView → WorldView → List ℕ
 ending_text q w v = (if q.manner.each then [] else total_text q w v) ++ leak_text q w v
 
--- a line was tried, and this is told of it
+-- what a line changes, where that is told of each line
 abbrev pub changes_if_each : Question → WorldView → WorldView → WorldView → List ℕ
 changes_if_each q start w v = if q.manner.each then question_changes q (numbers_of start) w v else []
 
-pub record IsForetold (q : Question) (number : ℕ) (line : AskedLine) (start : WorldView) (cs ds : List Command) (outcome : Outcome) (text : List ℕ) : Type 0 where
-  pub taken : List ℕ
-  pub told : text ≡ tried_text q.manner.telling number line.words.now taken outcome (changes_if_each q start (after_from start cs) (after_from start ds))
-  pub tried : outcome ≡ Done → IsLineTried q.tables.now start line cs ds
+-- what comes of a line, and what is told of it: what it was given is taken to be there
+pub record IsForetold (q : Question) (number : ℕ) (line : AskedLine) (t u : TrialView) (outcome : Outcome) (text : List ℕ) : Type 0 where
+  pub tried : IsLineTried q.tables.now line (for_next t) (record { trial = u; outcome = outcome })
+  pub told : text ≡ tried_text q.manner.telling number line.words.now (taken_told u.given) outcome (changes_if_each q t.start (world_after t) (world_after u))
 
--- lines were tried in turn, up to one that is refused, and this is told of them
-abbrev pub AreForetold : Question → ℕ → List AskedLine → WorldView → List Command → List Command → Outcome → List ℕ → Type 0
-AreForetold q number [] start cs ds outcome text = (ds ≡ cs) × (outcome ≡ Done) × (text ≡ [])
-AreForetold q number (line ∷ lines) start cs ds outcome text =
-    ((fault : Fault) × (outcome ≡ Refused fault) × IsForetold q number line start cs ds outcome text)
-    ⊎ ((mid : List Command) × (first : List ℕ) × (rest : List ℕ) × (text ≡ first ++ rest) × IsForetold q number line start cs mid Done first
-    × AreForetold q (number + 1) lines start mid ds outcome rest)
+-- lines are tried in turn, up to one that is refused, and this is told of them
+abbrev pub AreForetold : Question → ℕ → List AskedLine → TrialView → TrialView → Outcome → List ℕ → Type 0
+AreForetold q number [] t u outcome text = (u ≡ t) × (outcome ≡ Done) × (text ≡ [])
+AreForetold q number (line ∷ lines) t u outcome text =
+    ((fault : Fault) × (outcome ≡ Refused fault) × IsForetold q number line t u outcome text)
+    ⊎ ((mid : TrialView) × (first : List ℕ) × (rest : List ℕ) × (text ≡ first ++ rest) × IsForetold q number line t mid Done first
+    × AreForetold q (number + 1) lines mid u outcome rest)

@@ -18,6 +18,8 @@ pub mod Asked
 pub mod Sources
 pub mod Unmounts
 pub mod Scripts
+pub mod Provided
+pub mod Taken
 pub mod Tried
 pub mod LinesTold
 pub mod Foretelling

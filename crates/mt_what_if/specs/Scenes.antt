@@ -1,6 +1,6 @@
 -- The world of tables, on which lines are tried.
 -- A word with no source is this project's rule.
-use Rattle.std.specs.Prelude.{◌≡◌, ℕ, ◌+◌, false, List, [], ◌∷◌, Option}
+use Rattle.std.specs.Prelude.{◌≡◌, ℕ, ◌+◌, false, List, [], ◌∷◌, map, Option}
 use Rattle.mt_propagate.specs.WellFormed.{IsWellFormed}
 use Rattle.mt_questions.specs.Tables.{ToldTable}
 use Rattle.mt_world.specs.declared.misfit.Misfit.{Misfit}
@@ -14,11 +14,13 @@ abbrev pub called_from : ℕ → List ToldTable → List TitledSpace
 called_from n [] = []
 called_from n (t ∷ tables) = record { number = n; name = t.name; is_named = false; is_new = false } ∷ called_from (n + 1) tables
 
--- no line was tried yet on the world of these rows: those that are kept are told by it, and of plain tables all are kept
+-- no line was tried yet on the world of these rows: those that are kept are told by it, and of plain tables all are kept; its filesystems are
+-- known by the devices of the rows
 pub record IsWorldOfTables (rows : List TableRow) (t : TrialView) : Type 0 where
   pub well_formed : IsWellFormed t.start
   pub left : List (Option Misfit)
   pub private : List (Option Misfit)
   pub made : IsMade t.start rows left private
   pub plain : KeepsPlain t.start rows left
-  pub fresh : t.commands ≡ []
+  pub named : t.names ≡ map (λ (r : TableRow). r.device) rows
+  pub fresh : (t.commands ≡ []) × (t.given ≡ []) × (t.refused ≡ [])

@@ -1,7 +1,7 @@
 -- The lines of a session that lines ask for (mount(8)).
 -- A word with no source is this project's rule.
-use Rattle.std.specs.Prelude.{◌≡◌, ⊤, ℕ, Bool, false, nat_eq, length, ◌==◌, ◌&&◌, if◌then◌else◌, List, [], Option, None, Some, Result, Ok, Err, codes, decimal}
-use Rattle.std.specs.List.{filter, join_with_byte, starts_with}
+use Rattle.std.specs.Prelude.{◌≡◌, ℕ, Bool, true, false, nat_eq, length, ◌==◌, ◌&&◌, if◌then◌else◌, List, [], Option, None, Some, Result, Ok, Err, codes, decimal}
+use Rattle.std.specs.List.{filter, find, join_with_byte, starts_with}
 use Rattle.std.specs.Option.{is_some, option_and_then, option_map_or}
 use Rattle.mt_lines.specs.Words.{pieces}
 use Rattle.mt_skel.specs.Names.{is_name}
@@ -11,6 +11,7 @@ use Rattle.mt_mounts.specs.Walk.{walk}
 use Rattle.mt_mounts.specs.declared.mount.Mount.{Mount}
 use Rattle.mt_mounts.specs.declared.mount.Place.{Place}
 use Rattle.mt_propagate.specs.World.{WorldView}
+use Rattle.mt_info.specs.declared.row.Row.{Row}
 use Rattle.mt_info.specs.RowLine.{option_words}
 use Rattle.mt_forms.specs.Scripts.{script_text}
 use Rattle.mt_forms.specs.declared.operation.Operation.{Operation}
@@ -63,21 +64,35 @@ unmount_text w space target lazy plain =
     if is_at_path w space target then plain
     else option_map_or (unmount_line lazy space) (last_of_source target (rows_if_there w space)) plain
 
--- there is such a line
-abbrev pub IsUnmount : List ℕ → List ℕ → Type 0
-IsUnmount text script = (script ≡ text) × (nat_eq (length script) 0 ≡ false)
+-- an unmount of several mounts is of the tree or the filesystem of the one that it names (umount(8), -R and -A)
+abbrev pub has_id : ℕ → Row → Bool
+has_id i r = r.id == i
+
+abbrev pub row_at_path : WorldView → ℕ → List ℕ → Option Row
+row_at_path w space target = option_and_then (λ i. find (has_id i) (rows_if_there w space)) (mount_ended w space target)
+
+abbrev pub row_named : WorldView → ℕ → List ℕ → Option Row
+row_named w space target = if is_at_path w space target then row_at_path w space target else last_of_source target (rows_if_there w space)
+
+-- the line of an unmount of one mount; there is none where no mount is named
+abbrev pub unmount_line_text : WorldView → AskedLine → List ℕ → Bool → List ℕ → List ℕ
+unmount_line_text w line target lazy fs = unmount_text w line.space target lazy (script_text (operation.Umount target lazy One) (decimal line.space) fs [])
 
 -- the lines of a session that a line asks for in a world, given the filesystem that it mounts; which mounts an unmount of several is of is left open
 abbrev pub IsAskedScript : Operation → AskedLine → List ℕ → WorldView → List ℕ → Type 0
 IsAskedScript (operation.Line verb words) line fs w script = script ≡ line.own.items
-IsAskedScript (operation.Umount target lazy One) line fs w script =
-    IsUnmount (unmount_text w line.space target lazy (script_text (operation.Umount target lazy One) (decimal line.space) fs [])) script
-IsAskedScript (operation.Umount target lazy reach) line fs w script = ⊤
+IsAskedScript (operation.Umount target lazy One) line fs w script = (script ≡ unmount_line_text w line target lazy fs) × (nat_eq (length script) 0 ≡ false)
+IsAskedScript (operation.Umount target lazy reach) line fs w script = (r : Row) × (row_named w line.space target ≡ Some r)
 IsAskedScript asked line fs w script = script ≡ script_text asked (decimal line.space) fs (options_in w line.space asked)
 
 abbrev pub IsScriptWith : List ℕ → WorldView → AskedLine → List ℕ → Type 0
 IsScriptWith fs w line script = IsAskedScript line.asked.operation line fs w script
 
--- that is the one of its source
-abbrev pub IsScriptOf : List ToldTable → WorldView → AskedLine → List ℕ → Type 0
-IsScriptOf tables w line script = IsScriptWith (filesystem_in line.asked.operation tables) w line script
+-- an unmount names no mount, and then there are none
+abbrev pub AsksForNone : Operation → AskedLine → List ℕ → WorldView → Type 0
+AsksForNone (operation.Umount target lazy One) line fs w = nat_eq (length (unmount_line_text w line target lazy fs)) 0 ≡ true
+AsksForNone (operation.Umount target lazy reach) line fs w = row_named w line.space target ≡ None
+AsksForNone asked line fs w = ⊥
+
+abbrev pub HasNoScript : List ℕ → WorldView → AskedLine → Type 0
+HasNoScript fs w line = AsksForNone line.asked.operation line fs w

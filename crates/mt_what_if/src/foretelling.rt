@@ -14,8 +14,10 @@ use crate::line_told::{Tried, push_tried};
 use crate::naming::{numbers_of, spaces_told};
 use crate::numbers::Numbers;
 use crate::scene::Scene;
+use crate::taken::taken_told;
 use crate::told::push_events_text;
-use crate::trying::Outcome;
+use crate::trial::Trial;
+use crate::trying::{Outcome, try_line};
 use mt_propagate::world::World;
 use mt_questions::table::NamedTable;
 use mt_render::telling::Telling;
@@ -104,27 +106,28 @@ fn push_changes(
 /// Tries a line, and appends what is told of it.
 fn foretell_line(
     alloc: Global,
-    scene: &mut Scene,
+    trial: &mut Trial,
     question: &Question<'_, '_>,
     number: u64,
     line: &AskedLine<'_>,
     text: &mut Vec<u8>,
 ) -> Result<Outcome, Fault>
-    ensures start { scene.new.trial.start ≡ scene.old.trial.start }
-    ensures told { IfOk result (λ outcome. (told : List ℕ) × (text.new.items ≡ text.old.items ++ told) × IsForetold question.now number line.now scene.old.trial.start scene.old.trial.commands scene.new.trial.commands outcome told) }
+    ensures start { trial.new.start ≡ trial.old.start }
+    ensures told { IfOk result (λ outcome. (told : List ℕ) × (text.new.items ≡ text.old.items ++ told) × IsForetold question.now number line.now trial.old trial.new outcome told) }
     ensures memory { IsOkUnless result Fault.NoMemory }
 {
-    let before = scene.trial.world().copy()?;
-    let mut taken = Vec::new(alloc);
-    let outcome = scene.try_line(alloc, question.tables, &mut taken, line)?;
+    let before = trial.world().copy()?;
+    trial.begin_line();
+    let outcome = try_line(trial, alloc, question.tables, line)?;
     let mut changes = Vec::new(alloc);
     push_if_each(
         &mut changes,
         question,
-        scene.trial.start(),
+        trial.start(),
         &before,
-        scene.trial.world(),
+        trial.world(),
     )?;
+    let taken = taken_told(alloc, trial.given())?;
     let tried = Tried {
         telling: question.manner.telling,
         number,
@@ -158,17 +161,17 @@ fn push_if_each(
 /// Tries lines in turn, up to one that is refused, and appends what is told of each.
 fn foretell_lines(
     alloc: Global,
-    scene: &mut Scene,
+    trial: &mut Trial,
     question: &Question<'_, '_>,
     text: &mut Vec<u8>,
 ) -> Result<Outcome, Fault>
-    ensures start { scene.new.trial.start ≡ scene.old.trial.start }
-    ensures told { IfOk result (λ outcome. (told : List ℕ) × (text.new.items ≡ text.old.items ++ told) × AreForetold question.now 1 question.now.lines.now scene.old.trial.start scene.old.trial.commands scene.new.trial.commands outcome told) }
+    ensures start { trial.new.start ≡ trial.old.start }
+    ensures told { IfOk result (λ outcome. (told : List ℕ) × (text.new.items ≡ text.old.items ++ told) × AreForetold question.now 1 question.now.lines.now trial.old trial.new outcome told) }
     ensures memory { IsOkUnless result Fault.NoMemory }
 {
     'lines: for (before, line) in question.lines.iter().enumerate() {
         let number = before as u64 + 1;
-        let outcome = foretell_line(alloc, scene, question, number, line, text)?;
+        let outcome = foretell_line(alloc, trial, question, number, line, text)?;
         match outcome {
             Outcome::Done => {}
             Outcome::Refused(fault) => return Ok(Outcome::Refused(fault)),
@@ -256,12 +259,12 @@ pub fn foretell(
     question: &Question<'_, '_>,
 ) -> Result<Foretold, Fault>
     ensures start { scene.new.trial.start ≡ scene.old.trial.start }
-    ensures told { IfOk result (λ a. (told : List ℕ) × (a.text.items ≡ told ++ ending_text question.now scene.old.trial.start (world_after scene.new.trial)) × AreForetold question.now 1 question.now.lines.now scene.old.trial.start scene.old.trial.commands scene.new.trial.commands a.outcome told) }
+    ensures told { IfOk result (λ a. (told : List ℕ) × (a.text.items ≡ told ++ ending_text question.now scene.old.trial.start (world_after scene.new.trial)) × AreForetold question.now 1 question.now.lines.now scene.old.trial scene.new.trial a.outcome told) }
     ensures elsewhere { IfOk result (λ a. a.leaks ≡ leaks question.now scene.old.trial.start (world_after scene.new.trial)) }
     ensures memory { IsOkUnless result Fault.NoMemory }
 {
     let mut text = Vec::new(alloc);
-    let outcome = foretell_lines(alloc, scene, question, &mut text)?;
+    let outcome = foretell_lines(alloc, &mut scene.trial, question, &mut text)?;
     let (before, after) = (scene.trial.start(), scene.trial.world());
     push_total(&mut text, question, before, after)?;
     let leaks = push_last(&mut text, question, before, after)?;

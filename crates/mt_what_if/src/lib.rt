@@ -20,6 +20,7 @@ mod script;
 mod sources;
 mod space;
 mod table_row;
+mod taken;
 pub mod told;
 pub mod trial;
 pub mod trying;

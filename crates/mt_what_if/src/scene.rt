@@ -1,5 +1,5 @@
 //! The world of tables, on which lines are tried.
-ghost use Rattle.std.specs.Prelude.{◌≡◌, [], IfOk, IsOkUnless};
+ghost use Rattle.std.specs.Prelude.{◌≡◌, [], map, IfOk, IsOkUnless};
 ghost use Rattle.mt_propagate.specs.World.{world_view};
 ghost use Rattle.mt_propagate.specs.WellFormed.{IsWellFormed};
 ghost use Rattle.mt_what_if.specs.Gathered.{rows_gathered};
@@ -21,16 +21,11 @@ use std::alloc::{AllocError, Global};
 pub struct Scene {
     /// The world, and what was tried on it.
     pub trial: Trial,
-    /// The names of its filesystems: the devices of the tables, and those that were made.
-    pub filesystems: Vec<Label>,
 }
 
 impl Drop for Scene {
     fn drop(self) {
-        let Scene {
-            trial: _trial,
-            filesystems: _filesystems,
-        } = self;
+        let Scene { trial: _trial } = self;
     }
 }
 
@@ -73,20 +68,14 @@ fn push_missed(
     Ok(())
 }
 
-/// Whether a name is among these.
-fn has_label(labels: &[Label], label: &Label) -> bool {
-    labels.iter().any(|other| other.bytes() == label.bytes())
-}
-
-/// The devices of rows, each once.
+/// The devices of rows, by which the filesystems of their world are known.
 fn devices_of(alloc: Global, rows: &[TableRow]) -> Result<Vec<Label>, Fault>
+    ensures devices { IfOk result (λ devices. devices.items ≡ map (λ row. row.device) rows.now) }
     ensures memory { IsOkUnless result Fault.NoMemory }
 {
     let mut devices = Vec::new(alloc);
-    for row in rows {
-        if !has_label(&devices, &row.device) {
-            devices.push(row.device.copy()?)?;
-        }
+    'rows: for row in rows {
+        devices.push(row.device.copy()?)?;
     }
     Ok(devices)
 }
@@ -102,15 +91,15 @@ fn names_of(alloc: Global, tables: &[NamedTable]) -> Result<Vec<KnownSpace>, All
     Ok(spaces)
 }
 
-/// The scene of the world of tables, which has the filesystems of these rows.
+/// The scene of the world of tables, of which these are the rows.
 fn scene_of(alloc: Global, rows: &[TableRow], world: &World) -> Result<Scene, Fault>
     requires { IsWellFormed (world_view world.now) }
-    ensures trial { IfOk result (λ scene. scene.trial ≡ record { start = world_view world.now; commands = [] }) }
+    ensures trial { IfOk result (λ scene. scene.trial ≡ record { start = world_view world.now; commands = []; names = map (λ row. row.device) rows.now; given = []; refused = [] }) }
     ensures memory { IsOkUnless result Fault.NoMemory }
 {
+    let names = devices_of(alloc, rows)?;
     Ok(Scene {
-        trial: Trial::new(alloc, world)?,
-        filesystems: devices_of(alloc, rows)?,
+        trial: Trial::new(alloc, world, names)?,
     })
 }
 

@@ -1,11 +1,11 @@
 //! The lines of a session that a line asks for.
-ghost use Rattle.std.specs.Prelude.{◌≡◌, IfOk, IsOkUnless, decimal};
+ghost use Rattle.std.specs.Prelude.{◌≡◌, ◌≢◌, nat_eq, length, true, false, IfOk, IfErr, IsOkUnless, decimal};
 ghost use Rattle.mt_propagate.specs.World.{world_view};
 ghost use Rattle.mt_propagate.specs.WellFormed.{IsWellFormed};
 ghost use Rattle.mt_forms.specs.Scripts.{script_text};
 ghost use Rattle.mt_what_if.specs.Difference.{rows_if_there};
 ghost use Rattle.std.specs.Option.{option_map_or};
-ghost use Rattle.mt_what_if.specs.Scripts.{options_at, options_in, is_at_path, unmount_text, IsUnmount, IsScriptWith};
+ghost use Rattle.mt_what_if.specs.Scripts.{options_at, options_in, is_at_path, unmount_text, IsScriptWith, HasNoScript};
 ghost use Rattle.mt_what_if.specs.Unmounts.{last_of_source, unmount_line};
 
 use crate::asked::{AskedLine, number_text};
@@ -123,7 +123,8 @@ fn unmount_text(
     source_script(alloc, world, space, target, lazy, plain)
 }
 
-/// The line of a session that an unmount of one mount asks for. Refused as `NotMountRoot` where there is none, and as `NoMemory`.
+/// The line of a session that an unmount of one mount asks for, given that of its path. Refused as `NotMountRoot` where there is
+/// none, and as `NoMemory`.
 fn unmount_script(
     alloc: Global,
     world: &World,
@@ -133,7 +134,8 @@ fn unmount_script(
     plain: Vec<u8>,
 ) -> Result<Vec<u8>, Fault>
     requires { IsWellFormed (world_view world.now) }
-    ensures { IfOk result (λ script. IsUnmount (unmount_text (world_view world.now) line.now.space target.now lazy plain.items) script.items) }
+    ensures script { IfOk result (λ script. (script.items ≡ unmount_text (world_view world.now) line.now.space target.now lazy plain.items) × (nat_eq (length script.items) 0 ≡ false)) }
+    ensures none { IfErr result (λ fault. fault ≢ Fault.NoMemory → (nat_eq (length (unmount_text (world_view world.now) line.now.space target.now lazy plain.items)) 0 ≡ true) × (fault ≡ Fault.NotMountRoot)) }
 {
     let script = unmount_text(alloc, world, line.space, target, lazy, plain)?;
     if script.is_empty() {
@@ -151,7 +153,8 @@ pub(crate) fn script_with(
     filesystem: &[u8],
 ) -> Result<Vec<u8>, Fault>
     requires { IsWellFormed (world_view world.now) }
-    ensures { IfOk result (λ script. IsScriptWith filesystem.now (world_view world.now) line.now script.items) }
+    ensures script { IfOk result (λ script. IsScriptWith filesystem.now (world_view world.now) line.now script.items) }
+    ensures none { IfErr result (λ fault. fault ≢ Fault.NoMemory → HasNoScript filesystem.now (world_view world.now) line.now × (fault ≡ Fault.NotMountRoot)) }
 {
     match &line.asked.operation {
         Operation::Line { .. } => Ok(Vec::from_slice(alloc, &line.own)?),
@@ -168,9 +171,8 @@ pub(crate) fn script_with(
             lazy,
             reach,
         } => {
-            let names = names_of(alloc, target.bytes())?;
             let target = target.bytes();
-            unmount_lines(alloc, world, line.space, target, &names, *lazy, *reach)
+            unmount_lines(alloc, world, line.space, target, *lazy, *reach)
         }
         Operation::Bind { .. }
         | Operation::Move { .. }

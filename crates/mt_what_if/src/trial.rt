@@ -1,14 +1,16 @@
 //! Commands, tried one after another on a world.
-ghost use Rattle.std.specs.Prelude.{◌≡◌, ◌≢◌, [], ◌∷◌, ◌++◌, IfOk, IfErr, OnErr, Ok, Err, IsOkUnless};
+ghost use Rattle.std.specs.Prelude.{◌≡◌, ◌≢◌, List, [], ◌∷◌, ◌++◌, IfOk, OnOk, IfErr, OnErr, Ok, Err, IsOkUnless};
 ghost use Rattle.mt_propagate.specs.World.{world_view};
 ghost use Rattle.mt_propagate.specs.WellFormed.{IsWellFormed};
-ghost use Rattle.mt_what_if.specs.Trials.{last_space, has_numbers, tried, world_after};
+ghost use Rattle.mt_book.specs.declared.command.Command.{Command as CommandOf};
+ghost use Rattle.mt_what_if.specs.Trials.{last_space, has_numbers, tried, world_after, names_made, for_next, attempt, give, give_all, all_done, stopped};
 
 use mt_book::command::{Command, Reply};
 use mt_book::step::step;
 use mt_mounts::mount::SpaceId;
 use mt_propagate::world::World;
 use mt_skel::fault::Fault;
+use mt_skel::name::Label;
 use std::alloc::Global;
 use std::marker::Model;
 
@@ -20,6 +22,9 @@ pub struct Trial {
     start: World,
     world: World,
     commands: Vec<Command>,
+    names: Vec<Label>,
+    given: Vec<Command>,
+    refused: Vec<Command>,
 }
 
 impl Model for Trial {
@@ -28,7 +33,7 @@ impl Model for Trial {
 
     ghost Value = { TrialView };
 
-    ghost view = { λ t. record { start = world_view t.start; commands = t.commands.items } };
+    ghost view = { λ t. record { start = world_view t.start; commands = t.commands.items; names = t.names.items; given = t.given.items; refused = t.refused.items } };
 
     ghost invariant = { λ t. IsTrial (world_view t.start) (world_view t.world) t.commands.items };
 }
@@ -39,6 +44,9 @@ impl Drop for Trial {
             start: _start,
             world: _world,
             commands: _commands,
+            names: _names,
+            given: _given,
+            refused: _refused,
         } = self;
     }
 }
@@ -73,11 +81,33 @@ fn try_step(world: &mut World, command: &Command) -> Result<Reply, Fault>
     step(world, command)
 }
 
+/// Adds the name of the filesystem that a command makes, if it makes one.
+fn push_made_name(names: &mut Vec<Label>, command: &Command) -> Result<(), Fault>
+    ensures names { OnOk result (names.new.items ≡ names.old.items ++ names_made command.now) }
+    ensures memory { IsOkUnless result Fault.NoMemory }
+{
+    match command {
+        Command::MakeFs { name, .. } => {
+            names.push(name.copy()?)?;
+            Ok(())
+        }
+        _ => Ok(()),
+    }
+}
+
+/// Takes the last of these commands away again.
+fn take_back(commands: &mut Vec<Command>)
+    ensures { (cs : List CommandOf) (c : CommandOf) → commands.old.items ≡ cs ++ c ∷ [] → commands.new.items ≡ cs }
+{
+    let _last = commands.pop();
+}
+
 impl Trial {
-    /// A world that is equal to this one, on which no command was tried yet. Refused as `NoMemory` alone.
-    pub fn new(alloc: Global, world: &World) -> Result<Trial, Fault>
+    /// A world that is equal to this one, on which no command was tried yet, and names that its filesystems go by. Refused as
+    /// `NoMemory` alone.
+    pub fn new(alloc: Global, world: &World, names: Vec<Label>) -> Result<Trial, Fault>
         requires { IsWellFormed (world_view world.now) }
-        ensures trial { IfOk result (λ trial. trial ≡ record { start = world_view world.now; commands = [] }) }
+        ensures trial { IfOk result (λ trial. trial ≡ record { start = world_view world.now; commands = []; names = names.items; given = []; refused = [] }) }
         ensures memory { IsOkUnless result Fault.NoMemory }
     {
         let start = world.copy()?;
@@ -86,6 +116,9 @@ impl Trial {
             start,
             world: now,
             commands: Vec::new(alloc),
+            names,
+            given: Vec::new(alloc),
+            refused: Vec::new(alloc),
         })
     }
 
@@ -112,22 +145,74 @@ impl Trial {
         self.commands.as_slice()
     }
 
+    /// The names that its filesystems are known by: those of the beginning, and those that commands made.
+    pub fn names(&self) -> &[Label]
+        ensures { result.now ≡ self.now.names }
+    {
+        self.names.as_slice()
+    }
+
+    /// The commands that the line was given which is tried.
+    pub fn given(&self) -> &[Command]
+        ensures { result.now ≡ self.now.given }
+    {
+        self.given.as_slice()
+    }
+
+    /// The command for which that line is refused, if there is one.
+    pub fn refused(&self) -> &[Command]
+        ensures { result.now ≡ self.now.refused }
+    {
+        self.refused.as_slice()
+    }
+
+    /// Another line begins: it was given nothing yet, and is not refused.
+    pub fn begin_line(&mut self)
+        ensures { self.new ≡ for_next self.old }
+    {
+        self.given.clear();
+        self.refused.clear();
+    }
+
     /// Tries one more command: it is done, or refused as the command's own refusals say, as `TooMany` where numbers run out, and as
     /// `NoMemory`.
-    pub fn run(&mut self, command: &Command) -> Result<Reply, Fault>
-        ensures accepted { IfOk result (λ reply. self.new ≡ record self.old { commands = self.old.commands ++ command.now ∷ [] }) }
-        ensures done { IfOk result (λ reply. tried (world_after self.old) command.now ≡ Ok (world_after self.new, reply)) }
-        ensures refused { IfErr result (λ fault. fault ≢ Fault.NoMemory → tried (world_after self.old) command.now ≡ Err fault) }
-        ensures unchanged { OnErr result (self.new ≡ self.old) }
+    pub fn run(&mut self, command: &Command) -> Result<(), Fault>
+        ensures start { self.new.start ≡ self.old.start }
+        ensures done { OnOk result (attempt self.old command.now ≡ all_done self.new) }
+        ensures refused { IfErr result (λ fault. fault ≢ Fault.NoMemory → attempt self.old command.now ≡ stopped self.new fault) }
     {
         let copy = command.copy()?;
         self.commands.push(copy)?;
         match try_step(&mut self.world, command) {
-            Ok(reply) => Ok(reply),
+            Ok(_reply) => push_made_name(&mut self.names, command),
             Err(fault) => {
-                let _refused = self.commands.pop();
+                take_back(&mut self.commands);
+                self.refused.push(command.copy()?)?;
                 Err(fault)
             }
         }
     }
+
+    /// Tries a command as one that the line is given. Refused as [`run`](Trial::run) is.
+    pub fn give(&mut self, command: &Command) -> Result<(), Fault>
+        ensures start { self.new.start ≡ self.old.start }
+        ensures done { OnOk result (give self.old command.now ≡ all_done self.new) }
+        ensures refused { IfErr result (λ fault. fault ≢ Fault.NoMemory → give self.old command.now ≡ stopped self.new fault) }
+    {
+        self.run(command)?;
+        self.given.push(command.copy()?)?;
+        Ok(())
+    }
+}
+
+/// Tries these commands in turn, as such that the line is given. Refused as the first one that is refused.
+pub(crate) fn give_all(trial: &mut Trial, commands: &[Command]) -> Result<(), Fault>
+    ensures start { trial.new.start ≡ trial.old.start }
+    ensures done { OnOk result (give_all trial.old commands.now ≡ all_done trial.new) }
+    ensures refused { IfErr result (λ fault. fault ≢ Fault.NoMemory → give_all trial.old commands.now ≡ stopped trial.new fault) }
+{
+    'commands: for command in commands {
+        trial.give(command)?;
+    }
+    Ok(())
 }

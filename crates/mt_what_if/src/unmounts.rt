@@ -1,11 +1,15 @@
 //! Unmounts that a table has to tell: of all mounts below a path, of all mounts of a filesystem, and by a source.
-ghost use Rattle.std.specs.Prelude.{◌≡◌, ◌++◌, None, Some, OnOk, MatchOption};
+ghost use Rattle.std.specs.Prelude.{◌≡◌, ◌≢◌, ◌++◌, None, Some, OnOk, IfOk, IfErr, MatchOption};
+ghost use Rattle.std.specs.List.{find};
+ghost use Rattle.mt_info.specs.declared.row.Row.{Row};
 ghost use Rattle.mt_propagate.specs.World.{world_view};
 ghost use Rattle.mt_propagate.specs.WellFormed.{IsWellFormed};
+ghost use Rattle.mt_what_if.specs.Difference.{rows_if_there};
+ghost use Rattle.mt_what_if.specs.Scripts.{names_of, has_id, row_at_path, row_named};
 ghost use Rattle.mt_what_if.specs.Unmounts.{unmount_verb, unmount_line, is_of_source, last_of_source};
 
 use crate::difference::rows_if_there;
-use crate::walking::mount_at;
+use crate::walking::{mount_at, names_of};
 use mt_forms::operation::Reach;
 use mt_forms::word::is_rooted;
 use mt_info::print::{push_number, push_path};
@@ -16,9 +20,23 @@ use mt_skel::fault::Fault;
 use mt_skel::name::Name;
 use std::alloc::{AllocError, Global};
 
+/// Whether a row is that of a mount.
+fn has_id(id: MountId, row: &Row) -> bool
+    ensures { result ≡ has_id id row.now }
+{
+    row.id == id
+}
+
 /// The row of a mount, by its number.
-fn row_of(rows: &[Row], id: MountId) -> Option<&Row> {
-    rows.iter().find(|row| row.id == id)
+fn row_of(rows: &[Row], id: MountId) -> Option<&Row>
+    ensures { MatchOption result (find (has_id id) rows.now ≡ None) (λ row. find (has_id id) rows.now ≡ Some row.now) }
+{
+    'rows: for row in rows {
+        if has_id(id, row) {
+            return Some(row);
+        }
+    }
+    None
 }
 
 /// Whether a mount has a source.
@@ -134,41 +152,62 @@ fn lines_of(
     Ok(text)
 }
 
-/// The mount that an unmount names: that at a path, or else the last one of a source.
-fn named_row<'a>(
+/// The mount at a path, if that leads to its root.
+fn row_at_path<'a>(
     world: &World,
     rows: &'a [Row],
     space: SpaceId,
     target: &[u8],
     path: &[Name],
 ) -> Option<&'a Row>
-    requires { IsWellFormed (world_view world.now) }
+    requires well_formed { IsWellFormed (world_view world.now) }
+    requires rows { rows.entry.now ≡ rows_if_there (world_view world.now) space }
+    requires path { path.now ≡ names_of target.now }
+    ensures { MatchOption result (row_at_path (world_view world.now) space target.now ≡ None) (λ row. row_at_path (world_view world.now) space target.now ≡ Some row.now) }
 {
-    if is_rooted(target) {
-        if let Some(id) = mount_at(world, space, path) {
-            return row_of(rows, id);
-        }
+    let id = mount_at(world, space, path)?;
+    row_of(rows, id)
+}
+
+/// The mount that an unmount names: that at a path, or else the last one of a source.
+fn row_named<'a>(
+    world: &World,
+    rows: &'a [Row],
+    space: SpaceId,
+    target: &[u8],
+    path: &[Name],
+) -> Option<&'a Row>
+    requires well_formed { IsWellFormed (world_view world.now) }
+    requires rows { rows.entry.now ≡ rows_if_there (world_view world.now) space }
+    requires path { path.now ≡ names_of target.now }
+    ensures { MatchOption result (row_named (world_view world.now) space target.now ≡ None) (λ row. row_named (world_view world.now) space target.now ≡ Some row.now) }
+{
+    if is_rooted(target) && mount_at(world, space, path).is_some() {
+        row_at_path(world, rows, space, target, path)
+    } else {
+        last_of_source(rows, target)
     }
-    last_of_source(rows, target)
 }
 
 /// The lines of a session that an unmount of several mounts asks for (umount(8)): of the mount at a path, or of the last one of a
-/// source, with `-R` after all mounts below it, and with `-A` with all mounts of its filesystem in the namespace. The names are those
-/// of the path. Refused as `NotMountRoot` where nothing is mounted, and as `NoMemory`.
+/// source, with `-R` after all mounts below it, and with `-A` with all mounts of its filesystem in the namespace. Refused as
+/// `NotMountRoot` where it names no mount, and as `NoMemory`.
 pub(crate) fn unmount_lines(
     alloc: Global,
     world: &World,
     space: SpaceId,
     target: &[u8],
-    path: &[Name],
     lazy: bool,
     reach: Reach,
 ) -> Result<Vec<u8>, Fault>
     requires { IsWellFormed (world_view world.now) }
+    ensures named { IfOk result (λ script. (r : Row) × (row_named (world_view world.now) space target.now ≡ Some r)) }
+    ensures none { IfErr result (λ fault. fault ≢ Fault.NoMemory → (row_named (world_view world.now) space target.now ≡ None) × (fault ≡ Fault.NotMountRoot)) }
 {
+    let path = names_of(alloc, target)?;
     let table = rows_if_there(world, space)?;
     let rows = table.rows();
-    let Some(row) = named_row(world, rows, space, target, path) else {
+    let Some(row) = row_named(world, rows, space, target, &path) else {
         return Err(Fault::NotMountRoot);
     };
     let ids = ids_of(alloc, rows, row, reach)?;

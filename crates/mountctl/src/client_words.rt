@@ -1,0 +1,112 @@
+//! The words of the client's own tasks, and how they are written.
+
+use mt_help::page::Usage;
+
+/// What may stand in the place of a line.
+pub(crate) const IN_PLACE_OF_LINES: [Usage; 13] = [
+    Usage {
+        words: "-",
+        says: "sends the lines of standard input, one after another, but for comments",
+    },
+    Usage {
+        words: "monitor NS|all [--json] [--time] [--name NS=NAME]..",
+        says: "tells each change as it comes, in words or as JSON, and when it came",
+    },
+    Usage {
+        words: "mirror NS K",
+        says: "follows K posts of a namespace, and shows the table that they lead to",
+    },
+    Usage {
+        words: "tree [NS [PATH]|all] [--ascii|--json] [--name NS=NAME]..",
+        says: "draws the mounts of a namespace, of a part of it, or of all, each below its parent",
+    },
+    Usage {
+        words: "show NS --json",
+        says: "prints the mounts of a namespace as JSON",
+    },
+    Usage {
+        words: "find NS PATH --json",
+        says: "prints the mount on which a path ends as JSON",
+    },
+    Usage {
+        words: "dot [NS [PATH]|all] [--name NS=NAME]..",
+        says: "draws the mounts of a namespace, of a part of it, or of all, and peer groups as a graph for Graphviz",
+    },
+    Usage {
+        words: "spaces [--json] [--name NS=NAME]..",
+        says: "lists the namespaces, each with its name and the number of its mounts",
+    },
+    Usage {
+        words: "what-if FILE.. -- LINE..",
+        says: "makes the namespaces of an import in a new server, and tells what a line changes there;\nfurther lines may stand in front of it, each behind --",
+    },
+    Usage {
+        words: "reach NS PATH [--json]",
+        says: "says to which mounts a mount made there comes, by which group, and why not to others",
+    },
+    Usage {
+        words: "origin NS PATH [--json]",
+        says: "says where the mount there comes from, and what takes it away",
+    },
+    Usage {
+        words: "holders SOURCE|MAJ:MIN|NS PATH [--json]",
+        says: "names the mounts that still show a filesystem, or the directory there",
+    },
+    Usage {
+        words: "page [TITLE]",
+        says: "plays the lines of standard input, and prints what they do as a page for a browser;\nwithout SOCKET, also where MOUNTD_SOCKET is set, in a new server of its own",
+    },
+];
+
+/// What may stand in the place of a socket and a line.
+pub(crate) const IN_PLACE_OF_SOCKETS: [Usage; 9] = [
+    Usage {
+        words: "what-if [OPTION].. TABLE.. -- LINE [-- LINE]..",
+        says: "tells what lines would change in the namespaces of tables, with no server: each TABLE is a file, or\nwith --pid a process; --all stands for each mount namespace of this machine. A LINE is one of\nmount, umount, unshare, nsenter, pivot_root or of a session; - stands for those of standard input.\n--each tells what each line changes, --json prints objects, and with --fail-if-elsewhere the\nstatus is 4 where a namespace changes that no line names",
+    },
+    Usage {
+        words: "import",
+        says: "reads the lines of a mountinfo, and prints a script that makes its namespace",
+    },
+    Usage {
+        words: "import FILE..",
+        says: "reads those of several processes, and prints a script that makes all their namespaces",
+    },
+    Usage {
+        words: "import --pid PID..",
+        says: "reads those of these processes",
+    },
+    Usage {
+        words: "reach TABLE.. -- NS PATH [--json]",
+        says: "the same of tables: files with the lines of a mountinfo, --pid PID.., or --all for each\nmount namespace of this machine; NS is a file's name, a process or the number of a table",
+    },
+    Usage {
+        words: "origin TABLE.. -- NS PATH [--json]",
+        says: "where the mount there comes from",
+    },
+    Usage {
+        words: "holders TABLE.. -- SOURCE|MAJ:MIN|NS PATH [--json]",
+        says: "what still shows it",
+    },
+    Usage {
+        words: "explain REFUSAL|ERRNO",
+        says: "says what the refusal of this name is, and what Linux says in its place;\nof an error of Linux, by its name or number, which refusals stand behind it",
+    },
+    Usage {
+        words: "help [WORD]",
+        says: "lists the words; of one it says how it is written, what it does and what it may be refused as, with an\nexample, as --help behind the word does",
+    },
+];
+
+/// The word that a usage begins with.
+pub(crate) fn word_of(usage: Usage) -> &'static str {
+    match usage.words.split_once(' ') {
+        Some((word, _)) => word,
+        None => usage.words,
+    }
+}
+
+/// Whether one of these usages begins with a word.
+pub(crate) fn has_usage(usages: &[Usage], word: &str) -> bool {
+    usages.iter().any(|usage| word_of(*usage) == word)
+}

@@ -1,0 +1,73 @@
+//! The page of each line of a session.
+ghost use Rattle.std.specs.Prelude.{◌≡◌, IfOk};
+ghost use Rattle.mt_help.specs.Lines.{answer_said, note_of, IsVerbPage};
+
+use crate::example::example_of;
+use crate::page::{Usage, page_text};
+use crate::refusals::{refusals_of, said_by};
+use mt_protocol::form::Form;
+use mt_protocol::verb::Verb;
+use std::alloc::{AllocError, Global};
+
+/// What a line is answered that is not refused, in words.
+pub fn answer_said(form: Form) -> &'static str
+    ensures { result.now ≡ answer_said form }
+{
+    match form {
+        Form::Done => "ok",
+        Form::Number => "ok, and the number of what is made",
+        Form::Place => "ok, the number of the mount, and the directory of its filesystem",
+        Form::Table => "ok, the count of the rows and the number of the last change, and the rows",
+        Form::Opening =>
+            "ok and a count of lines, and as many: of each namespace a heading and its rows",
+        Form::Posts => "ok and a count of posts, and their lines",
+        Form::Followed =>
+            "the lines of posts as they come, and then ok and how many posts they are",
+        Form::Never => "",
+    }
+}
+
+/// What else a line with a verb may be refused as.
+pub fn note_of(verb: Verb) -> &'static str
+    ensures { result.now ≡ note_of verb }
+{
+    match verb {
+        Verb::Quit | Verb::Stop => "A line of a wrong form is refused as BadLine or TooLong.",
+        Verb::Show | Verb::Find | Verb::Watch | Verb::Take | Verb::Follow | Verb::Close => {
+            "A line of a wrong form is refused as BadLine, TooLong or BadPath, and any may be as NoMemory."
+        }
+        Verb::Mkfs
+        | Verb::Mkdir
+        | Verb::Newns
+        | Verb::Copyns
+        | Verb::Dropns
+        | Verb::Mount
+        | Verb::Bind
+        | Verb::Rbind
+        | Verb::Move
+        | Verb::Pivot
+        | Verb::Umount
+        | Verb::Detach
+        | Verb::Setattr
+        | Verb::Opentree
+        | Verb::Newtree
+        | Verb::Movetree => {
+            "A line of a wrong form is refused as BadLine, TooLong or BadPath, and any command may be as JournalFull, Stopped or NoMemory."
+        }
+    }
+}
+
+/// The page of the lines with a verb, where they are written in these ways. Fails for want of memory alone.
+pub fn verb_page(alloc: Global, verb: Verb, usages: &[Usage]) -> Result<Vec<u8>, AllocError>
+    ensures { IfOk result (λ text. IsVerbPage verb usages.now text.items) }
+{
+    let said = said_by(alloc, refusals_of(verb))?;
+    page_text(
+        alloc,
+        usages,
+        answer_said(verb.form()),
+        example_of(verb),
+        said.as_slice(),
+        note_of(verb),
+    )
+}

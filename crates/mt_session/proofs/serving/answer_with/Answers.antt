@@ -1,8 +1,0 @@
-use Rattle.mt_session.proofs.SessionLaws.{whole_uncut, uncut_cause, uncut_run}
-use Rattle.mt_session.proofs.serving.answer_with.Goals as goal
-
-pub returns-in-Ok-clause-cut : goal.returns-in-Ok-clause-cut
-returns-in-Ok-clause-cut g c t = uncut_cause c.args.end _ _ (whole_uncut c.args.end c.requires) (c.in-Ok.ensures.counted t)
-
-pub returns-in-Ok-clause-cut_run : goal.returns-in-Ok-clause-cut_run
-returns-in-Ok-clause-cut_run g c t none = uncut_run c.args.end _ (whole_uncut c.args.end c.requires) (c.in-Ok.ensures.served t none)
