@@ -1,0 +1,9 @@
+pub mod Cuts
+pub mod Outside
+pub mod Arguments
+pub mod Strings
+pub mod Descriptors
+pub mod Results
+pub mod Lines
+pub mod Printed
+pub mod Laws

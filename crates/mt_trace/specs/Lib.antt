@@ -1,0 +1,3 @@
+pub mod Flags
+pub mod CallNames
+pub mod SystemCalls

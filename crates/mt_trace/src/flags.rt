@@ -1,0 +1,44 @@
+//! The flags of a call, as strace has them.
+ghost use Rattle.std.specs.Prelude.{◌≡◌};
+ghost use Rattle.mt_trace.specs.Flags.{flags_of, has_flag};
+
+use mt_lines::words::Pieces;
+use std::marker::Model;
+
+/// The flags of a call: words between strokes. `0` is none.
+#[derive(Drop)]
+pub struct Flags<'a> {
+    text: &'a [u8],
+}
+
+impl<'a> Model for Flags<'a> {
+    ghost use Rattle.std.specs.Prelude.{ℕ, List};
+    ghost use Rattle.mt_trace.specs.Flags.{flags_of};
+
+    ghost Value = { List (List ℕ) };
+
+    ghost view = { λ f. flags_of f.text.now };
+}
+
+impl<'a> Flags<'a> {
+    /// The flags of an argument.
+    pub fn new(text: &'a [u8]) -> Flags<'a>
+        ensures { result ≡ flags_of text.entry.now }
+    {
+        Flags { text }
+    }
+
+    /// The words of the flags.
+    pub fn words(&self) -> Pieces<'a>
+        ensures { result ≡ self.entry.now }
+    {
+        Pieces::new(b'|', self.text)
+    }
+
+    /// Whether a flag is given.
+    pub fn has(&self, flag: &[u8]) -> bool
+        ensures { result ≡ has_flag flag.now self.now }
+    {
+        self.words().any(|word| word == flag)
+    }
+}

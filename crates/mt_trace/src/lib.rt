@@ -1,0 +1,9 @@
+//! What a program does to mounts, followed along what strace(1) wrote of it.
+//!
+//! [`system_call`] says what a call asks of the system, by its name ([`call_name`]) and its arguments; [`flags`] has the words
+//! of flags.
+#![tactic(auto)]
+
+pub mod call_name;
+pub mod flags;
+pub mod system_call;
