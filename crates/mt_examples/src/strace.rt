@@ -22,11 +22,11 @@ const CALLS: [(&[u8], &[u8]); 16] = [
     ),
     (b"[pid  4242] getpid() = 4242", b"4242|getpid|=4242"),
     (b"chdir(\"/\") = 0", b"-|chdir|\"/\"|=0"),
+    (b"7 17:42:01.123456 chdir(\"/\") = 0", b"7|chdir|\"/\"|=0"),
     (
-        b"7 17:42:01.123456 chdir(\"/\") = 0",
-        b"7|chdir|\"/\"|=0",
+        b"7 1764406000.123456 chroot(\".\") = 0",
+        b"7|chroot|\".\"|=0",
     ),
-    (b"7 1764406000.123456 chroot(\".\") = 0", b"7|chroot|\".\"|=0"),
     (b"     0.000123 chroot(\".\") = 0", b"-|chroot|\".\"|=0"),
     (
         b"7 openat(AT_FDCWD</tmp>, \"a, b) = 1\", O_RDONLY) = 3</tmp/a, b\\51>",
@@ -57,7 +57,10 @@ const CALLS: [(&[u8], &[u8]); 16] = [
         b"7 mount(\"a\", \"b\", 0x0, MS_MOVE, NULL) = -1 EINVAL (Invalid argument) (DELAYED)",
         b"7|mount|\"a\"|\"b\"|0x0|MS_MOVE|NULL|EINVAL",
     ),
-    (b"7 fstat(3</a/b>, {st_mode=S_IFREG|0644, st_size=1/2, ...}) = 0", b"7|fstat|3</a/b>|{st_mode=S_IFREG|0644, st_size=1/2, ...}|=0"),
+    (
+        b"7 fstat(3</a/b>, {st_mode=S_IFREG|0644, st_size=1/2, ...}) = 0",
+        b"7|fstat|3</a/b>|{st_mode=S_IFREG|0644, st_size=1/2, ...}|=0",
+    ),
 ];
 
 /// Lines that are none of strace's, and why.
@@ -85,8 +88,8 @@ const BAD: [(&[u8], Unread); 14] = [
 ];
 
 /// Appends what is shown of a result.
-fn push_result(text: &mut Vec<u8>, result: CallResult<'_>) -> Result<(), Fail> {
-    match result {
+fn push_result(text: &mut Vec<u8>, outcome: CallResult<'_>) -> Result<(), Fail> {
+    match outcome {
         CallResult::Returned {
             value,
             path,
@@ -104,7 +107,10 @@ fn push_result(text: &mut Vec<u8>, result: CallResult<'_>) -> Result<(), Fail> {
             }
             text.extend_from_slice(notes.bytes())?;
         }
-        CallResult::Failed { error, notes: _notes } => text.extend_from_slice(error.bytes())?,
+        CallResult::Failed {
+            error,
+            notes: _notes,
+        } => text.extend_from_slice(error.bytes())?,
         CallResult::Unknown => text.push(b'?')?,
     }
     Ok(())
@@ -127,7 +133,7 @@ fn shown(alloc: Global, call: TracedCall<'_>) -> Result<Vec<u8>, Fail> {
         process,
         name,
         arguments,
-        result,
+        result: outcome,
     } = call;
     let mut text = Vec::new(alloc);
     push_number(&mut text, process, b"")?;
@@ -139,7 +145,7 @@ fn shown(alloc: Global, call: TracedCall<'_>) -> Result<Vec<u8>, Fail> {
         text.extend_from_slice(argument)?;
     }
     text.push(b'|')?;
-    push_result(&mut text, result)?;
+    push_result(&mut text, outcome)?;
     Ok(text)
 }
 
@@ -247,14 +253,23 @@ fn interrupted_calls_are_joined(rt: HostRuntime) -> Result<(), Fail> {
     )?;
     let shown = shown_line(alloc, read_call(Some(7), text.as_slice()))?;
     assert!(rt; shown.as_slice() == b"7|readlinkat|AT_FDCWD</>|\"a\"|\"b\"|128|=1".as_slice());
-    let text = joined(alloc, b"7 vfork( <unfinished ...>", b"7 <... vfork resumed>) = 8")?;
+    let text = joined(
+        alloc,
+        b"7 vfork( <unfinished ...>",
+        b"7 <... vfork resumed>) = 8",
+    )?;
     let shown = shown_line(alloc, read_call(None, text.as_slice()))?;
     assert!(rt; shown.as_slice() == b"-|vfork|=8".as_slice());
     Ok(())
 }
 
 /// Whether an argument is a string of these bytes.
-fn is_string(alloc: Global, argument: &[u8], bytes: &[u8], is_whole: bool) -> Result<bool, AllocError> {
+fn is_string(
+    alloc: Global,
+    argument: &[u8],
+    bytes: &[u8],
+    is_whole: bool,
+) -> Result<bool, AllocError> {
     match read_string(alloc, argument)? {
         Some(string) => Ok(string.bytes.as_slice() == bytes && string.is_whole == is_whole),
         None => Ok(false),
@@ -267,9 +282,30 @@ fn strings_are_without_escapes(rt: HostRuntime) -> Result<(), Fail> {
     assert!(rt; is_string(alloc, b"\"/a b\"", b"/a b", true)?);
     assert!(rt; is_string(alloc, b"\"\"", b"", true)?);
     assert!(rt; is_string(alloc, b"\"/a\"...", b"/a", false)?);
-    assert!(rt; is_string(alloc, b"\"\\\"\\\\\\n\\t\\r\\v\\f\"", b"\"\\\n\t\r\x0b\x0c", true)?);
-    assert!(rt; is_string(alloc, b"\"\\1a\\12\\3031\\xc3\\7\"", b"\x01a\x0a\xc31\xc3\x07", true)?);
-    for wrong in [b"NULL".as_slice(), b"\"a", b"\"\\q\"", b"\"\\400\"", b"\"\\x9\"", b"\"a\"b\""] {
+    assert!(rt;
+        is_string(
+            alloc,
+            b"\"\\\"\\\\\\n\\t\\r\\v\\f\"",
+            b"\"\\\n\t\r\x0b\x0c",
+            true
+        )?
+    );
+    assert!(rt;
+        is_string(
+            alloc,
+            b"\"\\1a\\12\\3031\\xc3\\7\"",
+            b"\x01a\x0a\xc31\xc3\x07",
+            true
+        )?
+    );
+    for wrong in [
+        b"NULL".as_slice(),
+        b"\"a",
+        b"\"\\q\"",
+        b"\"\\400\"",
+        b"\"\\x9\"",
+        b"\"a\"b\"",
+    ] {
         assert!(rt; read_string(alloc, wrong)?.is_none(), "{wrong:?}");
     }
     assert!(rt; unescaped_bytes(alloc, b"/a\\74\\76")?.is_some());

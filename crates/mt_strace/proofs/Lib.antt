@@ -1,3 +1,10 @@
 pub mod CutLaws
 pub mod OutsideLaws
 pub mod StepLaws
+pub mod EndLaws
+pub mod DigitLaws
+pub mod StringLaws
+pub mod DescriptorLaws
+pub mod ArgumentLaws
+pub mod ResultLaws
+pub mod CallLaws

@@ -1,5 +1,5 @@
 -- Bytes of a string, step by step.
-use Rattle.std.proofs.Common.{◌≡◌, ℕ, List, [], ◌∷◌, ◌++◌, Option, Some, None, refl, sym, ap, append_assoc}
+use Rattle.std.proofs.Common.{◌≡◌, ℕ, List, [], ◌++◌, Option, Some, None, refl, sym, ap, append_assoc}
 use Rattle.mt_strace.specs.Strings.{onto_bytes}
 
 -- bytes before what a text gives

@@ -16,8 +16,8 @@ arguments_of text = if length (without_spaces text) == 0 then [] else arguments_
 
 -- what stands between a bracket that a text begins with and the one that closes it
 abbrev pub between_brackets : ℕ → ℕ → List ℕ → Option (List ℕ)
-between_brackets open close [] = None
-between_brackets open close (b ∷ text) = if b == open then option_map (λ p. p.0) (cut_outside close text) else None
+between_brackets opening closing [] = None
+between_brackets opening closing (b ∷ text) = if b == opening then option_map (λ p. p.0) (cut_outside closing text) else None
 
 -- the fields of a structure `{..}`, whatever stands behind it
 abbrev pub fields_of : List ℕ → Option (List (List ℕ))

@@ -1,18 +1,19 @@
 -- What is read of a normal form is what it is of.
 -- A word with no source is this project's rule.
-use Rattle.std.specs.Prelude.{◌≡◌, ℕ, ◌<◌, ◌≤◌, ◌^◌, Bool, true, List, length, Option, None, Some, codes}
-use Rattle.std.specs.List.{list_all, All}
+use Rattle.std.specs.Prelude.{◌≡◌, ℕ, nat_lt, ◌<◌, ◌≤◌, ◌^◌, true, List, length, None, Some, codes}
+use Rattle.std.specs.List.{list_all}
 use Rattle.mt_strace.specs.declared.call.TracedCall.{TracedCall}
 use Rattle.mt_strace.specs.declared.descriptor.Descriptor.{Descriptor}
 use Rattle.mt_strace.specs.declared.line.StraceLine.TheVariants as line
 use Rattle.mt_strace.specs.Descriptors.{descriptor_of}
 use Rattle.mt_strace.specs.Lines.{strace_line_of, is_call_name}
-use Rattle.mt_strace.specs.Printed.{lacks, c_string_text, descriptor_text, call_text, is_argument, IsDescriptor, IsResult}
+use Rattle.mt_strace.specs.Printed.{lacks, c_string_text, descriptor_text, body_text, call_text, is_argument, IsDescriptor, IsResult}
 use Rattle.mt_strace.specs.Strings.{string_of, stripped_end}
 
 -- the string of bytes is read as these bytes, all of them, and is an argument
 abbrev pub StringsAreRead : Type 0
-StringsAreRead = (bytes : List ℕ) → All (λ b. b < 256) bytes → (string_of (c_string_text bytes) ≡ Some (record { bytes = bytes; is_whole = true })) × (is_argument (c_string_text bytes) ≡ true)
+StringsAreRead =
+    (bytes : List ℕ) → list_all (λ b. nat_lt b 256) bytes ≡ true → (string_of (c_string_text bytes) ≡ Some (record { bytes = bytes; is_whole = true })) × (is_argument (c_string_text bytes) ≡ true)
 
 -- the text of a descriptor is read as that descriptor, and is an argument
 abbrev pub DescriptorsAreRead : Type 0
@@ -28,8 +29,8 @@ pub record IsCall (process : ℕ) (c : TracedCall) : Type 0 where
   pub result : IsResult c.result
   pub bytes : lacks 0 (call_text process c) ≡ true
   pub short : length (call_text process c) ≤ 65536
-  pub whole : stripped_end (codes " <unfinished ...>") (call_text process c) ≡ None
-  pub kept : stripped_end (codes " <detached ...>") (call_text process c) ≡ None
+  pub whole : stripped_end (codes " <unfinished ...>") (body_text c) ≡ None
+  pub kept : stripped_end (codes " <detached ...>") (body_text c) ≡ None
 
 -- the line of such a call is read as that call
 abbrev pub CallsAreRead : Type 0

@@ -1,10 +1,8 @@
 -- What a line of strace's output says (strace(1), "Filtering" and "Tracing").
 -- A word with no source is this project's rule.
-use Rattle.std.specs.Prelude.{ℕ, nat_le, nat_lt, nat_eq, Bool, false, ◌==◌, ◌&&◌, ◌||◌, not, if◌then◌else◌, List, [], ◌∷◌, length, Option, None, Some, Result, Ok, Err, codes}
+use Rattle.std.specs.Prelude.{ℕ, nat_le, nat_lt, nat_eq, Bool, false, ◌==◌, ◌&&◌, ◌||◌, if◌then◌else◌, List, [], ◌∷◌, length, Option, None, Some, Result, Ok, Err, codes}
 use Rattle.std.specs.List.{list_all, list_any, starts_with, ends_with}
-use Rattle.std.specs.Option.{option_map, option_map_or, option_and_then}
 use Rattle.std.specs.Str.{bytes_eq}
-use Rattle.mt_strace.specs.declared.call.TracedCall.{TracedCall}
 use Rattle.mt_strace.specs.declared.line.StraceLine.{StraceLine}
 use Rattle.mt_strace.specs.declared.line.StraceLine.TheVariants as line
 use Rattle.mt_strace.specs.declared.result.CallResult.{CallResult}

@@ -1,6 +1,6 @@
 -- What stands in the text of a call outside of strings, paths of descriptors, comments and brackets (strace(1)).
 -- A word with no source is this project's rule.
-use Rattle.std.specs.Prelude.{ℕ, suc, nat_lt, ◌+◌, ◌-◌, Bool, true, false, ◌==◌, ◌&&◌, ◌||◌, if◌then◌else◌, List, [], ◌∷◌, length, drop, Option, None, Some, slice_index_or}
+use Rattle.std.specs.Prelude.{ℕ, nat_lt, ◌+◌, ◌-◌, Bool, true, false, ◌==◌, ◌&&◌, ◌||◌, if◌then◌else◌, List, [], ◌∷◌, length, drop, Option, None, Some, slice_index_or}
 use Rattle.std.specs.List.{onto_first}
 use Rattle.mt_strace.specs.declared.scan.Scan.{Scan}
 use Rattle.mt_strace.specs.declared.scan.Within.{Within}

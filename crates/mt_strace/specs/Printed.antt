@@ -59,13 +59,16 @@ value_text None = codes "0x0"
 value_text (Some n) = decimal n
 
 abbrev pub result_text : CallResult → List ℕ
-result_text (outcome.Returned value path is_deleted notes) = value_text value ++ descriptor_path_text path is_deleted ++ notes
+result_text (outcome.Returned value path is_deleted notes) = value_text value ++ (descriptor_path_text path is_deleted ++ notes)
 result_text (outcome.Failed error notes) = codes "-1 " ++ notes
 result_text outcome.Unknown = codes "?"
 
--- a call of a process
+-- a call, and a line with it, which has its process in front
+abbrev pub body_text : TracedCall → List ℕ
+body_text c = c.name ++ 40 ∷ (arguments_text c.arguments ++ (codes ") = " ++ result_text c.result))
+
 abbrev pub call_text : ℕ → TracedCall → List ℕ
-call_text process c = decimal process ++ 32 ∷ c.name ++ 40 ∷ arguments_text c.arguments ++ codes ") = " ++ result_text c.result
+call_text process c = decimal process ++ 32 ∷ body_text c
 
 -- an argument: not empty, no space in front, and no comma and no bracket that closes it outside; it ends outside
 abbrev pub passes : Scan → List ℕ → Bool

@@ -1,6 +1,6 @@
 -- The strings of strace, which has them as C has them (strace(1), -s and -x).
 -- A word with no source is this project's rule.
-use Rattle.std.specs.Prelude.{ℕ, nat_eq, nat_le, nat_lt, ◌+◌, ◌-◌, ◌*◌, Bool, true, false, ◌==◌, ◌&&◌, ◌||◌, if◌then◌else◌, List, [], ◌∷◌, ◌++◌, length, take, Option, None, Some, codes}
+use Rattle.std.specs.Prelude.{ℕ, nat_eq, nat_le, nat_lt, ◌+◌, ◌-◌, ◌*◌, Bool, true, false, ◌==◌, ◌&&◌, if◌then◌else◌, List, [], ◌∷◌, ◌++◌, length, take, Option, None, Some, codes}
 use Rattle.std.specs.List.{ends_with}
 use Rattle.std.specs.Option.{option_and_then, option_map}
 use Rattle.mt_strace.specs.declared.string.Escape.{Escape}

@@ -83,14 +83,14 @@ impl<'a> Iterator for Arguments<'a> {
 }
 
 /// What stands between a bracket that a text begins with and the one that closes it.
-fn between_brackets(open: u8, close: u8, text: &[u8]) -> Option<&[u8]>
-    ensures { option_copied result ≡ between_brackets open close text.now }
+fn between_brackets(opening: u8, closing: u8, text: &[u8]) -> Option<&[u8]>
+    ensures { option_copied result ≡ between_brackets opening closing text.now }
 {
     let (first, behind) = text.split_first()?;
-    if *first != open {
+    if *first != opening {
         return None;
     }
-    let (inside, _behind) = cut_outside(close, behind)?;
+    let (inside, _behind) = cut_outside(closing, behind)?;
     Some(inside)
 }
 

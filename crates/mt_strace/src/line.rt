@@ -59,10 +59,7 @@ pub enum StraceLine<'a> {
 }
 
 /// A process and what stands behind it, or the whole text if none is named.
-fn with_process<'a>(
-    text: &'a [u8],
-    found: Option<(u64, &'a [u8])>,
-) -> (Option<u64>, &'a [u8])
+fn with_process<'a>(text: &'a [u8], found: Option<(u64, &'a [u8])>) -> (Option<u64>, &'a [u8])
     ensures { (result.0, result.1.now) ≡ with_process text.now (option_map (λ (n, behind). (n, behind.now)) found.entry) }
 {
     match found {
@@ -99,7 +96,8 @@ fn is_time_point(byte: u8) -> bool
 fn are_of_time(word: &[u8]) -> bool
     ensures { result ≡ list_all (λ d. is_digit d || is_time_point d) word.now }
 {
-    word.iter().all(|byte| is_digit(*byte) || is_time_point(*byte))
+    word.iter()
+        .all(|byte| is_digit(*byte) || is_time_point(*byte))
 }
 
 /// Whether one of these bytes is a colon or a dot.

@@ -172,6 +172,7 @@ impl Scan {
 }
 
 /// The place of the first of a byte that stands outside.
+#[tactic(auto, using(crate::proofs::OutsideLaws::one_passed, crate::proofs::OutsideLaws::one_cut, crate::proofs::OutsideLaws::none_cut))]
 pub(crate) fn first_outside(separator: u8, text: &[u8]) -> Option<usize>
     ensures { MatchOption result (pieces_outside separator text.now ≡ text.now ∷ [])
         (λ k. (k < length text.now)
@@ -188,6 +189,7 @@ pub(crate) fn first_outside(separator: u8, text: &[u8]) -> Option<usize>
 }
 
 /// A text cut at the first of a byte that stands outside: what stands before it and behind it. `None` if there is none.
+#[tactic(auto, using(crate::proofs::OutsideLaws::cut_at_place, crate::proofs::OutsideLaws::cut_nowhere))]
 pub(crate) fn cut_outside(separator: u8, text: &[u8]) -> Option<(&[u8], &[u8])>
     ensures { option_map (λ (front, behind). (front.now, behind.now)) result ≡ cut_outside separator text.now }
 {

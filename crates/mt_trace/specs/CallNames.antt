@@ -1,6 +1,7 @@
 -- The system calls that change what a process sees of mounts, or where it stands (syscalls(2)).
 -- A word with no source is this project's rule.
-use Rattle.std.specs.Prelude.{ℕ, List, [], ◌∷◌, Option, codes}
+use Rattle.std.specs.Prelude.{ℕ, List, [], ◌∷◌, ◌++◌, Option, codes}
+use Rattle.std.specs.List.{flat_map}
 use Rattle.std.specs.Str.{bytes_eq}
 use Rattle.mt_forms.specs.Lookup.{looked_up}
 use Rattle.mt_trace.specs.declared.call_name.CallName.{CallName}
@@ -22,3 +23,11 @@ call_names =
 
 unfoldable pub call_named : List ℕ → Option CallName
 call_named word = looked_up (λ row. bytes_eq row.0 word) (λ row. row.1) call_names
+
+-- the names that strace is given after `-e trace=`, with commas between them (strace(1))
+abbrev pub names_listed : List (List ℕ × CallName) → List ℕ
+names_listed [] = []
+names_listed (row ∷ rows) = row.0 ++ flat_map (λ next. 44 ∷ next.0) rows
+
+unfoldable pub call_list : List ℕ
+call_list = names_listed call_names

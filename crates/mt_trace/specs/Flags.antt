@@ -1,7 +1,7 @@
 -- The flags of a call, as strace has them: words between strokes (strace(1)).
 -- A word with no source is this project's rule.
-use Rattle.std.specs.Prelude.{ℕ, Bool, ◌||◌, List, codes}
-use Rattle.std.specs.List.{list_all, list_any}
+use Rattle.std.specs.Prelude.{ℕ, Bool, List}
+use Rattle.std.specs.List.{list_any}
 use Rattle.std.specs.Str.{bytes_eq}
 use Rattle.mt_lines.specs.Words.{pieces}
 
@@ -12,10 +12,3 @@ flags_of text = pieces 124 text
 -- a flag is given
 abbrev pub has_flag : List ℕ → List (List ℕ) → Bool
 has_flag flag flags = list_any (λ word. bytes_eq word flag) flags
-
--- each flag is one of these, or 0, which is none
-abbrev pub is_flag_among : List (List ℕ) → List ℕ → Bool
-is_flag_among known word = bytes_eq word (codes "0") || list_any (λ flag. bytes_eq flag word) known
-
-abbrev pub are_flags_among : List (List ℕ) → List (List ℕ) → Bool
-are_flags_among known flags = list_all (is_flag_among known) flags

@@ -1,3 +1,4 @@
 pub mod Flags
 pub mod CallNames
 pub mod SystemCalls
+pub mod ProcessSpaces

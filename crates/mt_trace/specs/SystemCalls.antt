@@ -1,6 +1,6 @@
 -- What is asked of the system by a call, from the arguments that strace tells (the pages of the calls in section 2).
 -- A word with no source is this project's rule.
-use Rattle.std.specs.Prelude.{ℕ, nat_eq, Bool, ◌||◌, if◌then◌else◌, List, [], ◌∷◌, Option, None, Some, codes}
+use Rattle.std.specs.Prelude.{ℕ, nat_eq, if◌then◌else◌, List, [], ◌∷◌, Option, None, Some, codes}
 use Rattle.std.specs.List.{starts_with}
 use Rattle.std.specs.Option.{option_and_then, option_map}
 use Rattle.mt_lines.specs.Words.{number_in_text}
@@ -19,7 +19,7 @@ no_flags = flags_of (codes "0")
 
 -- mount(2), umount(2), pivot_root(2)
 abbrev pub mount_call : List (List ℕ) → Option SystemCall
-mount_call (source ∷ target ∷ kind ∷ flags ∷ data ∷ []) = Some (call.Mount source target kind (flags_of flags) data)
+mount_call (source ∷ target ∷ kind ∷ flags ∷ options ∷ []) = Some (call.Mount source target kind (flags_of flags) options)
 mount_call arguments = None
 
 abbrev pub umount_call : List (List ℕ) → Option SystemCall

@@ -1,8 +1,11 @@
 //! The names of the system calls that are followed.
-ghost use Rattle.std.specs.Prelude.{◌≡◌};
+ghost use Rattle.std.specs.Prelude.{◌≡◌, ◌∷◌, ◌++◌, map, IfOk, OnOk};
+ghost use Rattle.std.specs.List.{flat_map};
 ghost use Rattle.std.specs.Str.{bytes_eq};
 ghost use Rattle.mt_forms.specs.Lookup.{looked_up};
-ghost use Rattle.mt_trace.specs.CallNames.{call_named};
+ghost use Rattle.mt_trace.specs.CallNames.{call_named, names_listed, call_list};
+
+use std::alloc::{AllocError, Global};
 
 /// A system call that changes what a process sees of mounts, or where it stands.
 #[derive(Clone, Copy, PartialEq, Eq, Debug)]
@@ -242,4 +245,37 @@ pub fn call_named(word: &[u8]) -> Option<CallName>
     ensures { result ≡ call_named word.now }
 {
     call_among(word, &CALLS)
+}
+
+/// Appends the names of these calls, each after a comma.
+fn push_calls(text: &mut Vec<u8>, rows: &[CallRow]) -> Result<(), AllocError>
+    ensures { OnOk result (text.new.items ≡ text.old.items ++ flat_map (λ row. 44 ∷ row.name.now) rows.now) }
+{
+    'rows: for row in rows {
+        text.push(b',')?;
+        text.extend_from_slice(row.name)?;
+    }
+    Ok(())
+}
+
+/// The names of these calls, with commas between them.
+fn names_listed(alloc: Global, rows: &[CallRow]) -> Result<Vec<u8>, AllocError>
+    ensures { IfOk result (λ text. text.items ≡ names_listed (map (λ row. (row.name.now, row.call)) rows.now)) }
+{
+    let mut text = Vec::new(alloc);
+    let Some((first, others)) = rows.split_first() else {
+        return Ok(text);
+    };
+    text.extend_from_slice(first.name)?;
+    push_calls(&mut text, others)?;
+    Ok(text)
+}
+
+/// The names of all calls that are followed, with commas between them, as strace takes them after `-e trace=`. Fails for want of
+/// memory alone.
+#[tactic(auto, unfolding(crate::specs::CallNames::call_list))]
+pub fn call_list(alloc: Global) -> Result<Vec<u8>, AllocError>
+    ensures { IfOk result (λ text. text.items ≡ call_list) }
+{
+    names_listed(alloc, &CALLS)
 }

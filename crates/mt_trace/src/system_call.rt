@@ -19,7 +19,7 @@ pub enum SystemCall<'a> {
         target: Excerpt<'a>,
         kind: Excerpt<'a>,
         flags: Flags<'a>,
-        data: Excerpt<'a>,
+        options: Excerpt<'a>,
     },
     /// Unmounts a filesystem: umount(2).
     Umount {
@@ -55,7 +55,9 @@ pub enum SystemCall<'a> {
         flags: Flags<'a>,
     },
     /// Begins a new filesystem: fsopen(2).
-    Fsopen { kind: Excerpt<'a> },
+    Fsopen {
+        kind: Excerpt<'a>,
+    },
     /// Says more of it, or makes it: fsconfig(2).
     Fsconfig {
         context: Descriptor<'a>,
@@ -69,9 +71,13 @@ pub enum SystemCall<'a> {
         attributes: Flags<'a>,
     },
     /// Makes a process: clone(2), fork(2).
-    Clone { flags: Flags<'a> },
+    Clone {
+        flags: Flags<'a>,
+    },
     /// Gives the process namespaces, and tables of its own: unshare(2).
-    Unshare { flags: Flags<'a> },
+    Unshare {
+        flags: Flags<'a>,
+    },
     /// Enters a namespace: setns(2).
     Setns {
         space: Descriptor<'a>,
@@ -83,11 +89,17 @@ pub enum SystemCall<'a> {
         path: Excerpt<'a>,
     },
     /// Changes the current directory: chdir(2).
-    Chdir { path: Excerpt<'a> },
+    Chdir {
+        path: Excerpt<'a>,
+    },
     /// Changes it to an open one: fchdir(2).
-    Fchdir { at: Descriptor<'a> },
+    Fchdir {
+        at: Descriptor<'a>,
+    },
     /// Changes the root directory: chroot(2).
-    Chroot { path: Excerpt<'a> },
+    Chroot {
+        path: Excerpt<'a>,
+    },
     /// Opens a file: open(2), openat2(2).
     Open {
         at: Option<Descriptor<'a>>,
@@ -95,7 +107,9 @@ pub enum SystemCall<'a> {
         flags: Flags<'a>,
     },
     /// Closes a descriptor: close(2).
-    Close { at: Descriptor<'a> },
+    Close {
+        at: Descriptor<'a>,
+    },
     /// Closes all from one to another: close_range(2).
     CloseRange {
         first: u64,
@@ -103,7 +117,9 @@ pub enum SystemCall<'a> {
         flags: Flags<'a>,
     },
     /// Copies a descriptor to the number that is returned: dup(2), fcntl(2).
-    Dup { at: Descriptor<'a> },
+    Dup {
+        at: Descriptor<'a>,
+    },
     /// Makes or reads a symbolic link: symlink(2), readlink(2).
     Link {
         at: Option<Descriptor<'a>>,
@@ -126,7 +142,14 @@ fn mount_call<'a>(arguments: Arguments<'a>) -> Option<SystemCall<'a>>
     ensures { result ≡ mount_call arguments.entry }
 {
     let mut arguments = arguments;
-    let (Some(source), Some(target), Some(kind), Some(flags), Some(data), None) = (arguments.next(), arguments.next(), arguments.next(), arguments.next(), arguments.next(), arguments.next()) else {
+    let (Some(source), Some(target), Some(kind), Some(flags), Some(options), None) = (
+        arguments.next(),
+        arguments.next(),
+        arguments.next(),
+        arguments.next(),
+        arguments.next(),
+        arguments.next(),
+    ) else {
         return None;
     };
     Some(SystemCall::Mount {
@@ -134,7 +157,7 @@ fn mount_call<'a>(arguments: Arguments<'a>) -> Option<SystemCall<'a>>
         target: Excerpt::new(target),
         kind: Excerpt::new(kind),
         flags: Flags::new(flags),
-        data: Excerpt::new(data),
+        options: Excerpt::new(options),
     })
 }
 
@@ -157,7 +180,8 @@ fn umount2_call<'a>(arguments: Arguments<'a>) -> Option<SystemCall<'a>>
     ensures { result ≡ umount2_call arguments.entry }
 {
     let mut arguments = arguments;
-    let (Some(path), Some(flags), None) = (arguments.next(), arguments.next(), arguments.next()) else {
+    let (Some(path), Some(flags), None) = (arguments.next(), arguments.next(), arguments.next())
+    else {
         return None;
     };
     Some(SystemCall::Umount {
@@ -207,7 +231,14 @@ fn mount_setattr_call<'a>(arguments: Arguments<'a>) -> Option<SystemCall<'a>>
     ensures { result ≡ mount_setattr_call arguments.entry }
 {
     let mut arguments = arguments;
-    let (Some(at), Some(path), Some(flags), Some(attributes), Some(_size), None) = (arguments.next(), arguments.next(), arguments.next(), arguments.next(), arguments.next(), arguments.next()) else {
+    let (Some(at), Some(path), Some(flags), Some(attributes), Some(_size), None) = (
+        arguments.next(),
+        arguments.next(),
+        arguments.next(),
+        arguments.next(),
+        arguments.next(),
+        arguments.next(),
+    ) else {
         return None;
     };
     let at = read_descriptor(at)?;
@@ -219,7 +250,12 @@ fn open_tree_call<'a>(arguments: Arguments<'a>) -> Option<SystemCall<'a>>
     ensures { result ≡ open_tree_call arguments.entry }
 {
     let mut arguments = arguments;
-    let (Some(at), Some(path), Some(flags), None) = (arguments.next(), arguments.next(), arguments.next(), arguments.next()) else {
+    let (Some(at), Some(path), Some(flags), None) = (
+        arguments.next(),
+        arguments.next(),
+        arguments.next(),
+        arguments.next(),
+    ) else {
         return None;
     };
     Some(SystemCall::OpenTree {
@@ -234,7 +270,14 @@ fn move_mount_call<'a>(arguments: Arguments<'a>) -> Option<SystemCall<'a>>
     ensures { result ≡ move_mount_call arguments.entry }
 {
     let mut arguments = arguments;
-    let (Some(from), Some(source), Some(to), Some(target), Some(flags), None) = (arguments.next(), arguments.next(), arguments.next(), arguments.next(), arguments.next(), arguments.next()) else {
+    let (Some(from), Some(source), Some(to), Some(target), Some(flags), None) = (
+        arguments.next(),
+        arguments.next(),
+        arguments.next(),
+        arguments.next(),
+        arguments.next(),
+        arguments.next(),
+    ) else {
         return None;
     };
     let from = read_descriptor(from)?;
@@ -253,7 +296,8 @@ fn fsopen_call<'a>(arguments: Arguments<'a>) -> Option<SystemCall<'a>>
     ensures { result ≡ fsopen_call arguments.entry }
 {
     let mut arguments = arguments;
-    let (Some(kind), Some(_flags), None) = (arguments.next(), arguments.next(), arguments.next()) else {
+    let (Some(kind), Some(_flags), None) = (arguments.next(), arguments.next(), arguments.next())
+    else {
         return None;
     };
     Some(SystemCall::Fsopen {
@@ -266,7 +310,14 @@ fn fsconfig_call<'a>(arguments: Arguments<'a>) -> Option<SystemCall<'a>>
     ensures { result ≡ fsconfig_call arguments.entry }
 {
     let mut arguments = arguments;
-    let (Some(context), Some(command), Some(key), Some(value), Some(_aux), None) = (arguments.next(), arguments.next(), arguments.next(), arguments.next(), arguments.next(), arguments.next()) else {
+    let (Some(context), Some(command), Some(key), Some(value), Some(_aux), None) = (
+        arguments.next(),
+        arguments.next(),
+        arguments.next(),
+        arguments.next(),
+        arguments.next(),
+        arguments.next(),
+    ) else {
         return None;
     };
     Some(SystemCall::Fsconfig {
@@ -282,7 +333,12 @@ fn fsmount_call<'a>(arguments: Arguments<'a>) -> Option<SystemCall<'a>>
     ensures { result ≡ fsmount_call arguments.entry }
 {
     let mut arguments = arguments;
-    let (Some(context), Some(_flags), Some(attributes), None) = (arguments.next(), arguments.next(), arguments.next(), arguments.next()) else {
+    let (Some(context), Some(_flags), Some(attributes), None) = (
+        arguments.next(),
+        arguments.next(),
+        arguments.next(),
+        arguments.next(),
+    ) else {
         return None;
     };
     Some(SystemCall::Fsmount {
@@ -330,7 +386,8 @@ fn setns_call<'a>(arguments: Arguments<'a>) -> Option<SystemCall<'a>>
     ensures { result ≡ setns_call arguments.entry }
 {
     let mut arguments = arguments;
-    let (Some(space), Some(kinds), None) = (arguments.next(), arguments.next(), arguments.next()) else {
+    let (Some(space), Some(kinds), None) = (arguments.next(), arguments.next(), arguments.next())
+    else {
         return None;
     };
     Some(SystemCall::Setns {
@@ -344,7 +401,12 @@ fn execve_call<'a>(arguments: Arguments<'a>) -> Option<SystemCall<'a>>
     ensures { result ≡ execve_call arguments.entry }
 {
     let mut arguments = arguments;
-    let (Some(path), Some(_words), Some(_environment), None) = (arguments.next(), arguments.next(), arguments.next(), arguments.next()) else {
+    let (Some(path), Some(_words), Some(_environment), None) = (
+        arguments.next(),
+        arguments.next(),
+        arguments.next(),
+        arguments.next(),
+    ) else {
         return None;
     };
     Some(SystemCall::Execve {
@@ -358,7 +420,14 @@ fn execveat_call<'a>(arguments: Arguments<'a>) -> Option<SystemCall<'a>>
     ensures { result ≡ execveat_call arguments.entry }
 {
     let mut arguments = arguments;
-    let (Some(at), Some(path), Some(_words), Some(_environment), Some(_flags), None) = (arguments.next(), arguments.next(), arguments.next(), arguments.next(), arguments.next(), arguments.next()) else {
+    let (Some(at), Some(path), Some(_words), Some(_environment), Some(_flags), None) = (
+        arguments.next(),
+        arguments.next(),
+        arguments.next(),
+        arguments.next(),
+        arguments.next(),
+        arguments.next(),
+    ) else {
         return None;
     };
     Some(SystemCall::Execve {
@@ -426,7 +495,8 @@ fn openat_call<'a>(arguments: Arguments<'a>) -> Option<SystemCall<'a>>
     ensures { result ≡ openat_call arguments.entry }
 {
     let mut arguments = arguments;
-    let (Some(at), Some(path), Some(flags)) = (arguments.next(), arguments.next(), arguments.next()) else {
+    let (Some(at), Some(path), Some(flags)) = (arguments.next(), arguments.next(), arguments.next())
+    else {
         return None;
     };
     Some(SystemCall::Open {
@@ -441,7 +511,13 @@ fn openat2_call<'a>(arguments: Arguments<'a>) -> Option<SystemCall<'a>>
     ensures { result ≡ openat2_call arguments.entry }
 {
     let mut arguments = arguments;
-    let (Some(at), Some(path), Some(how), Some(_size), None) = (arguments.next(), arguments.next(), arguments.next(), arguments.next(), arguments.next()) else {
+    let (Some(at), Some(path), Some(how), Some(_size), None) = (
+        arguments.next(),
+        arguments.next(),
+        arguments.next(),
+        arguments.next(),
+        arguments.next(),
+    ) else {
         return None;
     };
     let at = read_descriptor(at)?;
@@ -458,7 +534,8 @@ fn creat_call<'a>(arguments: Arguments<'a>) -> Option<SystemCall<'a>>
     ensures { result ≡ creat_call arguments.entry }
 {
     let mut arguments = arguments;
-    let (Some(path), Some(_mode), None) = (arguments.next(), arguments.next(), arguments.next()) else {
+    let (Some(path), Some(_mode), None) = (arguments.next(), arguments.next(), arguments.next())
+    else {
         return None;
     };
     Some(SystemCall::Open {
@@ -486,7 +563,12 @@ fn close_range_call<'a>(arguments: Arguments<'a>) -> Option<SystemCall<'a>>
     ensures { result ≡ close_range_call arguments.entry }
 {
     let mut arguments = arguments;
-    let (Some(first), Some(last), Some(flags), None) = (arguments.next(), arguments.next(), arguments.next(), arguments.next()) else {
+    let (Some(first), Some(last), Some(flags), None) = (
+        arguments.next(),
+        arguments.next(),
+        arguments.next(),
+        arguments.next(),
+    ) else {
         return None;
     };
     Some(SystemCall::CloseRange {
@@ -531,7 +613,8 @@ fn symlink_call<'a>(arguments: Arguments<'a>) -> Option<SystemCall<'a>>
     ensures { result ≡ symlink_call arguments.entry }
 {
     let mut arguments = arguments;
-    let (Some(target), Some(path), None) = (arguments.next(), arguments.next(), arguments.next()) else {
+    let (Some(target), Some(path), None) = (arguments.next(), arguments.next(), arguments.next())
+    else {
         return None;
     };
     Some(SystemCall::Link {
@@ -546,7 +629,12 @@ fn symlinkat_call<'a>(arguments: Arguments<'a>) -> Option<SystemCall<'a>>
     ensures { result ≡ symlinkat_call arguments.entry }
 {
     let mut arguments = arguments;
-    let (Some(target), Some(at), Some(path), None) = (arguments.next(), arguments.next(), arguments.next(), arguments.next()) else {
+    let (Some(target), Some(at), Some(path), None) = (
+        arguments.next(),
+        arguments.next(),
+        arguments.next(),
+        arguments.next(),
+    ) else {
         return None;
     };
     Some(SystemCall::Link {
@@ -561,7 +649,12 @@ fn readlink_call<'a>(arguments: Arguments<'a>) -> Option<SystemCall<'a>>
     ensures { result ≡ readlink_call arguments.entry }
 {
     let mut arguments = arguments;
-    let (Some(path), Some(target), Some(_size), None) = (arguments.next(), arguments.next(), arguments.next(), arguments.next()) else {
+    let (Some(path), Some(target), Some(_size), None) = (
+        arguments.next(),
+        arguments.next(),
+        arguments.next(),
+        arguments.next(),
+    ) else {
         return None;
     };
     Some(SystemCall::Link {
@@ -576,7 +669,13 @@ fn readlinkat_call<'a>(arguments: Arguments<'a>) -> Option<SystemCall<'a>>
     ensures { result ≡ readlinkat_call arguments.entry }
 {
     let mut arguments = arguments;
-    let (Some(at), Some(path), Some(target), Some(_size), None) = (arguments.next(), arguments.next(), arguments.next(), arguments.next(), arguments.next()) else {
+    let (Some(at), Some(path), Some(target), Some(_size), None) = (
+        arguments.next(),
+        arguments.next(),
+        arguments.next(),
+        arguments.next(),
+        arguments.next(),
+    ) else {
         return None;
     };
     Some(SystemCall::Link {
