@@ -1,4 +1,4 @@
-use Rattle.std.proofs.Common.{◌≡◌, [], ap, ◌∙◌, arith}
+use Rattle.std.proofs.Common.{[], ap, ◌∙◌, arith}
 use Rattle.mt_strace.specs.declared.scan.Scan.{Scan}
 use Rattle.mt_strace.specs.Outside.{scan_start, pieces_from}
 use Rattle.mt_strace.proofs.OutsideLaws.{onto_all, onto_nothing}
