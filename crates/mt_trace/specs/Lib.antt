@@ -2,3 +2,4 @@ pub mod Flags
 pub mod CallNames
 pub mod SystemCalls
 pub mod ProcessSpaces
+pub mod MountFlags

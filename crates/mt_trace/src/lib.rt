@@ -6,5 +6,6 @@
 
 pub mod call_name;
 pub mod flags;
+pub mod mount_flags;
 pub mod process_spaces;
 pub mod system_call;
