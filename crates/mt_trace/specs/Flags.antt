@@ -1,6 +1,6 @@
 -- The flags of a call, as strace has them: words between strokes (strace(1)).
 -- A word with no source is this project's rule.
-use Rattle.std.specs.Prelude.{ℕ, Bool, List}
+use Rattle.std.specs.Prelude.{ℕ, Bool, List, codes}
 use Rattle.std.specs.List.{list_any}
 use Rattle.std.specs.Str.{bytes_eq}
 use Rattle.mt_lines.specs.Words.{pieces}
@@ -8,6 +8,10 @@ use Rattle.mt_lines.specs.Words.{pieces}
 -- the words of flags
 abbrev pub flags_of : List ℕ → List (List ℕ)
 flags_of text = pieces 124 text
+
+-- flags of a call that has none
+abbrev pub no_flags : List (List ℕ)
+no_flags = flags_of (codes "0")
 
 -- a flag is given
 abbrev pub has_flag : List ℕ → List (List ℕ) → Bool

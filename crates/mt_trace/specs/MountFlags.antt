@@ -8,10 +8,9 @@ use Rattle.mt_peers.specs.declared.state.Kind.TheVariants as kind
 use Rattle.mt_setattr.specs.declared.change.Change.{Change}
 use Rattle.mt_setattr.specs.declared.change.ClrWords.{ClrWords}
 use Rattle.mt_setattr.specs.declared.change.SetWords.{SetWords}
-use Rattle.mt_setattr.specs.Words.{nothing_set}
 use Rattle.mt_trace.specs.declared.mount_flags.MountOperation.{MountOperation}
 use Rattle.mt_trace.specs.declared.mount_flags.MountOperation.TheVariants as operation
-use Rattle.mt_trace.specs.Flags.{has_flag}
+use Rattle.mt_trace.specs.Flags.{no_flags, has_flag}
 
 -- the flags that strace has names for (mount(2)); another one is not known
 abbrev pub mount_flag_words : List (List ℕ)
@@ -71,27 +70,6 @@ kind_by_flags flags =
     else (if has_flag (codes "MS_PRIVATE") flags then Some kind.Private
     else (if has_flag (codes "MS_UNBINDABLE") flags then Some kind.Unbindable else None)))
 
--- the change of a propagation, of one mount or of all below it
-abbrev pub no_clr : ClrWords
-no_clr = record { ro = false; nosuid = false; nodev = false; noexec = false; nosymfollow = false; nodiratime = false; atime = false }
-
-abbrev pub propagation_change : List (List ℕ) → Option Kind → Change
-propagation_change flags made = record { set = nothing_set; clr = no_clr; prop = made; recursive = has_flag (codes "MS_REC") flags }
-
--- what is neither a remount nor a bind
-abbrev pub moved_or_new : List (List ℕ) → Option Kind → MountOperation
-moved_or_new flags (Some made) = operation.Changes (propagation_change flags (Some made))
-moved_or_new flags None = if has_flag (codes "MS_MOVE") flags then operation.Moves else operation.Mounts (set_by_flags flags)
-
--- what a call of mount(2) asks for: of several, the first in the order of the kernel; none if a flag is not known
-abbrev pub known_operation : List (List ℕ) → MountOperation
-known_operation flags =
-    if has_flag (codes "MS_REMOUNT") flags then operation.Changes (remount_change flags)
-    else (if has_flag (codes "MS_BIND") flags then operation.Binds (has_flag (codes "MS_REC") flags) else moved_or_new flags (kind_by_flags flags))
-
-unfoldable pub mount_operation : List (List ℕ) → Option MountOperation
-mount_operation flags = if list_all is_mount_flag flags then Some (known_operation flags) else None
-
 -- what mount_setattr(2) sets and clears
 abbrev pub attribute_set : List (List ℕ) → SetWords
 attribute_set flags = record {
@@ -117,15 +95,34 @@ attribute_clr flags = record {
   atime = has_flag (codes "MOUNT_ATTR__ATIME") flags;
 }
 
+-- the change of a propagation, of one mount or of all below it: no attribute is set or cleared
+abbrev pub propagation_change : List (List ℕ) → Option Kind → Change
+propagation_change flags made =
+    record { set = attribute_set no_flags; clr = attribute_clr no_flags; prop = made; recursive = has_flag (codes "MS_REC") flags }
+
+-- what is neither a remount nor a bind
+abbrev pub moved_or_new : List (List ℕ) → Option Kind → MountOperation
+moved_or_new flags (Some made) = operation.Changes (propagation_change flags (Some made))
+moved_or_new flags None = if has_flag (codes "MS_MOVE") flags then operation.Moves else operation.Mounts (set_by_flags flags)
+
+-- what a call of mount(2) asks for: of several, the first in the order of the kernel; none if a flag is not known
+abbrev pub known_operation : List (List ℕ) → MountOperation
+known_operation flags =
+    if has_flag (codes "MS_REMOUNT") flags then operation.Changes (remount_change flags)
+    else (if has_flag (codes "MS_BIND") flags then operation.Binds (has_flag (codes "MS_REC") flags) else moved_or_new flags (kind_by_flags flags))
+
+unfoldable pub asked_operation : List (List ℕ) → Option MountOperation
+asked_operation flags = if list_all is_mount_flag flags then Some (known_operation flags) else None
+
 -- the words that are known there; mapped IDs are not followed
-abbrev pub attribute_words : List (List ℕ)
-attribute_words =
+abbrev pub followed_attributes : List (List ℕ)
+followed_attributes =
     codes "0" ∷ codes "MOUNT_ATTR_RDONLY" ∷ codes "MOUNT_ATTR_NOSUID" ∷ codes "MOUNT_ATTR_NODEV" ∷ codes "MOUNT_ATTR_NOEXEC"
     ∷ codes "MOUNT_ATTR_NOSYMFOLLOW" ∷ codes "MOUNT_ATTR_NODIRATIME" ∷ codes "MOUNT_ATTR_RELATIME" ∷ codes "MOUNT_ATTR_NOATIME"
     ∷ codes "MOUNT_ATTR_STRICTATIME" ∷ codes "MOUNT_ATTR__ATIME" ∷ []
 
 abbrev pub is_attribute : List ℕ → Bool
-is_attribute word = list_any (λ flag. bytes_eq flag word) attribute_words
+is_attribute word = list_any (λ flag. bytes_eq flag word) followed_attributes
 
 -- the change that a call of mount_setattr(2) asks for, by its flags, what it sets and clears, and the propagation; none if a word
 -- is not known

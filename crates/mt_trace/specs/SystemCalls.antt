@@ -7,15 +7,11 @@ use Rattle.mt_lines.specs.Words.{number_in_text}
 use Rattle.mt_strace.specs.declared.descriptor.Descriptor.{Descriptor}
 use Rattle.mt_strace.specs.Arguments.{fields_of, value_named}
 use Rattle.mt_strace.specs.Descriptors.{descriptor_of}
-use Rattle.mt_trace.specs.Flags.{flags_of}
+use Rattle.mt_trace.specs.Flags.{flags_of, no_flags}
 use Rattle.mt_trace.specs.declared.call_name.CallName.{CallName}
 use Rattle.mt_trace.specs.declared.call_name.CallName.TheVariants as name
 use Rattle.mt_trace.specs.declared.system_call.SystemCall.{SystemCall}
 use Rattle.mt_trace.specs.declared.system_call.SystemCall.TheVariants as call
-
--- flags of a call that has none
-abbrev pub no_flags : List (List ℕ)
-no_flags = flags_of (codes "0")
 
 -- mount(2), umount(2), pivot_root(2)
 abbrev pub mount_call : List (List ℕ) → Option SystemCall

@@ -1,6 +1,6 @@
 //! The flags of a call, as strace has them.
 ghost use Rattle.std.specs.Prelude.{◌≡◌};
-ghost use Rattle.mt_trace.specs.Flags.{flags_of, has_flag};
+ghost use Rattle.mt_trace.specs.Flags.{flags_of, no_flags, has_flag};
 
 use mt_lines::words::Pieces;
 use std::marker::Model;
@@ -41,4 +41,11 @@ impl<'a> Flags<'a> {
     {
         self.words().any(|word| word == flag)
     }
+}
+
+/// Flags of a call that has none.
+pub(crate) fn no_flags<'a>() -> Flags<'a>
+    ensures { result ≡ no_flags }
+{
+    Flags::new(b"0")
 }

@@ -2,9 +2,9 @@
 ghost use Rattle.std.specs.Prelude.{◌≡◌};
 ghost use Rattle.std.specs.List.{list_all, list_any};
 ghost use Rattle.std.specs.Str.{bytes_eq};
-ghost use Rattle.mt_trace.specs.MountFlags.{is_mount_flag, set_by_flags, has_times, remount_set, remount_clr, remount_change, kind_by_flags, no_clr, propagation_change, moved_or_new, known_operation, mount_operation, attribute_set, attribute_clr, is_attribute, attribute_change};
+ghost use Rattle.mt_trace.specs.MountFlags.{is_mount_flag, set_by_flags, has_times, remount_set, remount_clr, remount_change, kind_by_flags, propagation_change, moved_or_new, known_operation, asked_operation, attribute_set, attribute_clr, is_attribute, attribute_change};
 
-use crate::flags::Flags;
+use crate::flags::{Flags, no_flags};
 use mt_peers::state::Kind;
 use mt_setattr::change::{Change, ClrWords, SetWords};
 
@@ -170,28 +170,14 @@ fn kind_by_flags(flags: &Flags<'_>) -> Option<Kind>
     None
 }
 
-/// Nothing is taken away.
-fn no_clr() -> ClrWords
-    ensures { result ≡ no_clr }
-{
-    ClrWords {
-        ro: false,
-        nosuid: false,
-        nodev: false,
-        noexec: false,
-        nosymfollow: false,
-        nodiratime: false,
-        atime: false,
-    }
-}
-
 /// The change of a propagation.
 fn propagation_change(flags: &Flags<'_>, made: Option<Kind>) -> Change
     ensures { result ≡ propagation_change flags.now made }
 {
+    let none = no_flags();
     Change {
-        set: SetWords::new(),
-        clr: no_clr(),
+        set: attribute_set(&none),
+        clr: attribute_clr(&none),
         prop: made,
         recursive: flags.has(b"MS_REC"),
     }
@@ -226,9 +212,9 @@ fn known_operation(flags: &Flags<'_>) -> MountOperation
 
 /// What a call of mount(2) asks for by its flags: of several things, the first in the order of the kernel. `None` if a flag is not
 /// known.
-#[tactic(auto, unfolding(crate::specs::MountFlags::mount_operation))]
-pub fn mount_operation(flags: &Flags<'_>) -> Option<MountOperation>
-    ensures { result ≡ mount_operation flags.now }
+#[tactic(auto, unfolding(crate::specs::MountFlags::asked_operation))]
+pub fn asked_operation(flags: &Flags<'_>) -> Option<MountOperation>
+    ensures { result ≡ asked_operation flags.now }
 {
     if are_mount_flags(flags) {
         Some(known_operation(flags))

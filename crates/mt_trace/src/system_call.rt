@@ -1,9 +1,9 @@
 //! What a call asks of the system.
 ghost use Rattle.std.specs.Prelude.{◌≡◌};
-ghost use Rattle.mt_trace.specs.SystemCalls.{no_flags, mount_call, umount_call, umount2_call, pivot_root_call, setattr_with, mount_setattr_call, open_tree_call, move_mount_call, fsopen_call, fsconfig_call, fsmount_call, clone_call, clone3_call, unshare_call, setns_call, execve_call, execveat_call, chdir_call, fchdir_call, chroot_call, open_call, openat_call, openat2_call, creat_call, close_call, close_range_call, dup_call, fcntl_call, symlink_call, symlinkat_call, readlink_call, readlinkat_call, asked_by_name};
+ghost use Rattle.mt_trace.specs.SystemCalls.{mount_call, umount_call, umount2_call, pivot_root_call, setattr_with, mount_setattr_call, open_tree_call, move_mount_call, fsopen_call, fsconfig_call, fsmount_call, clone_call, clone3_call, unshare_call, setns_call, execve_call, execveat_call, chdir_call, fchdir_call, chroot_call, open_call, openat_call, openat2_call, creat_call, close_call, close_range_call, dup_call, fcntl_call, symlink_call, symlinkat_call, readlink_call, readlinkat_call, asked_by_name};
 
 use crate::call_name::CallName;
-use crate::flags::Flags;
+use crate::flags::{Flags, no_flags};
 use mt_lines::words::number;
 use mt_strace::arguments::{Arguments, fields_of};
 use mt_strace::descriptor::{Descriptor, read_descriptor};
@@ -128,13 +128,6 @@ pub enum SystemCall<'a> {
     },
     /// Nothing that is followed.
     Silent,
-}
-
-/// Flags of a call that has none.
-fn no_flags<'a>() -> Flags<'a>
-    ensures { result ≡ no_flags }
-{
-    Flags::new(b"0")
 }
 
 /// mount(2).
