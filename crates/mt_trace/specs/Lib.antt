@@ -3,3 +3,4 @@ pub mod CallNames
 pub mod SystemCalls
 pub mod ProcessSpaces
 pub mod MountFlags
+pub mod Walks
