@@ -8,5 +8,5 @@ pub mod call_name;
 pub mod flags;
 pub mod mount_flags;
 pub mod process_spaces;
-pub mod spot;
+pub mod standing;
 pub mod system_call;

@@ -8,7 +8,7 @@ use mt_skel::names::Names;
 ///
 /// It stays where it is when mounts come and go. Files are directories, as in an import.
 #[derive(Drop)]
-pub struct Spot {
+pub struct Standing {
     /// The lowest directory that was there when the spot was found.
     pub place: Place,
     /// The names from there down.
@@ -19,7 +19,7 @@ pub struct Spot {
 #[derive(Drop)]
 pub enum Reached {
     /// A directory or a file.
-    Spot(Spot),
+    Standing(Standing),
     /// A file of `/proc/PID/ns`: the kind of the namespace, and its number.
     Space(SpaceKind, u64),
 }
