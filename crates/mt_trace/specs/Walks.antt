@@ -78,18 +78,18 @@ is_gone w s = not (is_some (mount_at w.forest s.place.mount))
 
 -- a path goes on from what its names so far have led to
 abbrev pub goes_on : (Standing → Result Reached Stop) → Bool → Result Reached Stop → Result Reached Stop
-goes_on walk is_last (Ok (reached.Spot s)) = walk s
+goes_on walk is_last (Ok (reached.Standing s)) = walk s
 goes_on walk is_last (Ok (reached.Space kind n)) = if is_last then Ok (reached.Space kind n) else Err stop.BelowSpace
 goes_on walk is_last (Err why) = Err why
 
 -- a name that is neither `.` nor `..`
 abbrev pub named_step : WorldView → Lookup → (Standing → List ℕ → Result Reached Stop) → Bool → Bool → Standing → List ℕ → Result Reached Stop
 named_step w look follow follows is_last s name =
-    option_map_or (λ r. Ok r) (option_map_or (follow s) (Ok (reached.Spot (spot_entered w s name))) (if is_last && not follows then None else look.link s name)) (look.jump s name)
+    option_map_or (λ r. Ok r) (option_map_or (follow s) (Ok (reached.Standing (spot_entered w s name))) (if is_last && not follows then None else look.link s name)) (look.jump s name)
 
 -- the names of a path, one after another; a link at its end is followed unless the call does not
 abbrev pub walked : WorldView → Lookup → (Standing → List ℕ → Result Reached Stop) → Bool → Standing → List (List ℕ) → Result Reached Stop
-walked w look follow follows s [] = if is_gone w s then Err stop.Gone else Ok (reached.Spot s)
+walked w look follow follows s [] = if is_gone w s then Err stop.Gone else Ok (reached.Standing s)
 walked w look follow follows s (name ∷ names) =
     if is_gone w s then Err stop.Gone
     else (if length name == 0 || bytes_eq name (codes ".") then walked w look follow follows s names
