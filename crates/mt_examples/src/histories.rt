@@ -7,8 +7,10 @@ use mt_desk::lines::{Host, Lines, Naming};
 use mt_lines::line::LineReader;
 use mt_lines::memory::{Portions, Sink};
 use mt_session::bell::Bell;
+use mt_session::doorkeeper::NoDoor;
 use mt_session::gate::OpenGate;
 use mt_session::serving::LINE_LIMIT;
+use mt_session::shared_answer::Shared;
 use mt_session::shared_serving::serve_shared;
 use mt_session::shared_session::SharedSession;
 use mt_skel::fault::Fault;
@@ -44,17 +46,16 @@ fn session<J: Naming, R: Wait + Clock>(
     let mut session = SharedSession::new(alloc, witness);
     let mut sink = Sink::new(alloc, 4_096, 4_096)?;
     let mut reader = LineReader::new(alloc, Portions::new(lines, 4_096), LINE_LIMIT)?;
-    let _end = serve_shared(
+    let shared = Shared {
         rt,
-        alloc,
-        1,
-        &mut reader,
-        &mut sink,
         desk,
         bell,
-        &OpenGate,
-        &mut session,
-    );
+        gate: &OpenGate,
+        doorkeeper: &NoDoor,
+        number: 1,
+        alloc,
+    };
+    let _end = serve_shared(shared, &mut session, &mut reader, &mut sink);
     Ok(session.into_witness())
 }
 

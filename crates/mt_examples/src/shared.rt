@@ -8,8 +8,10 @@ use mt_lines::line::LineReader;
 use mt_lines::memory::{Portions, Sink};
 use mt_lines::stream::Cut;
 use mt_session::bell::Bell;
+use mt_session::doorkeeper::NoDoor;
 use mt_session::gate::OpenGate;
 use mt_session::serving::{End, LINE_LIMIT};
+use mt_session::shared_answer::Shared;
 use mt_session::shared_serving::serve_shared;
 use mt_session::shared_session::SharedSession;
 use mt_skel::fault::Fault;
@@ -51,17 +53,16 @@ fn leaves_no_watcher<J: Naming, R: Wait + Clock>(
     let bell = Bell::new();
     let mut sink = Sink::new(alloc, 4_096, BEGUN.len())?;
     let mut lines = LineReader::new(alloc, Portions::new(WATCHES, 4_096), LINE_LIMIT)?;
-    let end = serve_shared(
+    let shared = Shared {
         rt,
+        desk: &desk,
+        bell: &bell,
+        gate: &OpenGate,
+        doorkeeper: &NoDoor,
+        number: 1,
         alloc,
-        1,
-        &mut lines,
-        &mut sink,
-        &desk,
-        &bell,
-        &OpenGate,
-        &mut session,
-    );
+    };
+    let end = serve_shared(shared, &mut session, &mut lines, &mut sink);
     let watchers = all_watchers(alloc, &mut desk.lock(rt))?;
     let cut = end == End::Cut(Cut { sent: 0 });
     Ok(cut && sink.bytes() == BEGUN && watchers.len() == 64)

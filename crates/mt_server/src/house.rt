@@ -7,8 +7,10 @@ use mt_desk::desk::{Desk, DeskWitness};
 use mt_desk::lines::{Host, Naming};
 use mt_lines::line::LineReader;
 use mt_session::bell::Bell;
+use mt_session::doorkeeper::Doorkeeper;
 use mt_session::gate::Gate;
 use mt_session::serving::LINE_LIMIT;
+use mt_session::shared_answer::Shared;
 use mt_session::shared_serving::serve_shared;
 use mt_session::shared_session::SharedSession;
 use mt_skel::fault::Fault;
@@ -58,34 +60,11 @@ pub(crate) struct House<'a, Name: Naming, Moments> {
     latch: Option<UnixStream>,
 }
 
-/// The gate of a server's sessions: that of the premises, and where a session has stopped the desk the server hears of
-/// it before the answer is sent, since an answer that nobody reads may never go out.
-#[derive(Drop)]
-struct Doorkeeper<'a, 'b, Name: Naming, Moments> {
-    house: &'b House<'a, Name, Moments>,
-}
-
-impl<'a, 'b, Name: Naming, Moments: Gate> Gate for Doorkeeper<'a, 'b, Name, Moments> {
-    fn in_lock<R: Wait>(&self, rt: &R, session: u64) {
-        let house = self.house;
-        house.premises.gate.in_lock(rt, session);
-    }
-
-    fn before_answer<R: Wait>(&self, rt: &R, session: u64) {
-        let house = self.house;
-        house.premises.gate.before_answer(rt, session);
-    }
-
-    fn taken<R: Wait>(&self, rt: &R, session: u64) {
-        let house = self.house;
-        house.premises.gate.taken(rt, session);
-    }
-
-    fn stopped<R: Wait>(&self, rt: &R, session: u64) {
-        let house = self.house;
-        house.connections.stop(rt);
-        house.close();
-        house.premises.gate.stopped(rt, session);
+/// It hears of a stop before the answer is sent.
+impl<'a, Name: Naming, Moments: Gate> Doorkeeper for House<'a, Name, Moments> {
+    fn close<R: Wait>(&self, rt: &R) {
+        self.connections.stop(rt);
+        self.shut();
     }
 }
 
@@ -120,7 +99,7 @@ impl<'a, Name: Naming, Moments: Gate> House<'a, Name, Moments> {
 
     /// Lets nobody in any more: an accept of the listener that waits, and each later one, returns. Whether the
     /// system did so.
-    fn close(&self) -> bool {
+    fn shut(&self) -> bool {
         match &self.latch {
             Some(socket) => socket.shutdown(Shutdown::Both).is_ok(),
             None => false,
@@ -147,17 +126,16 @@ impl<'a, Name: Naming, Moments: Gate> House<'a, Name, Moments> {
         };
         let mut writer = PatientWriter::new(rt, stream, self.premises.idle);
         let mut session = SharedSession::new(alloc, self.admit(rt));
-        let _end = serve_shared(
+        let shared = Shared {
             rt,
-            alloc,
+            desk: self.premises.desk,
+            bell: self.premises.bell,
+            gate: self.premises.gate,
+            doorkeeper: self,
             number,
-            &mut lines,
-            &mut writer,
-            self.premises.desk,
-            self.premises.bell,
-            &Doorkeeper { house: self },
-            &mut session,
-        );
+            alloc,
+        };
+        let _end = serve_shared(shared, &mut session, &mut lines, &mut writer);
     }
 
     /// Serves a connection. Where the desk is stopped behind it, by whichever session, the loop that accepts is woken.
@@ -188,7 +166,7 @@ impl<'a, Name: Naming, Moments: Gate> House<'a, Name, Moments> {
     where
         Runtime: Net<Listener = TcpListener, Stream = TcpStream>,
     {
-        if !self.close() {
+        if !self.shut() {
             let _ = UnixStream::connect(rt, self.premises.path);
         }
     }

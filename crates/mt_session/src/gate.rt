@@ -1,4 +1,4 @@
-//! Moments of a session at which a test can hold it, and one at which its server hears of a stop.
+//! Moments of a session at which a test can hold it.
 
 use std::sync::Wait;
 
@@ -12,10 +12,6 @@ pub trait Gate {
 
     /// Posts were taken, and their text was sent.
     fn taken<R: Wait>(&self, rt: &R, session: u64);
-
-    /// A request of the session has stopped the desk, which is not held, and the answer was not sent. Where it is
-    /// not written, nothing is done.
-    fn stopped<R: Wait>(&self, _rt: &R, _session: u64) {}
 }
 
 /// A gate at which nobody is held.

@@ -13,6 +13,7 @@ ghost use Rattle.mt_session.specs.SharedSession.{IsAnsweredAt, IsNotDoneAt, HasL
 ghost use Rattle.mt_session.specs.SharedServing.{HasMet, HasEndedAt, IsPortion, EndsWith, IsPiece};
 
 use crate::bell::Bell;
+use crate::doorkeeper::Doorkeeper;
 use crate::gate::Gate;
 use crate::serving::{End, end_of};
 use crate::session::phase_text;
@@ -27,16 +28,21 @@ use mt_requests::request::Request;
 use mt_skel::fault::Fault;
 use std::alloc::Global;
 use std::sync::{Mutex, Wait};
+use std::time::Clock;
 
 /// What a session shares with the others, and what is its own for all its requests.
 #[derive(Drop)]
-pub struct Shared<'a, J: Naming, G: Gate> {
+pub struct Shared<'a, J: Naming, G: Gate, K: Doorkeeper, R> {
+    /// What it waits by.
+    pub rt: &'a R,
     /// The desk, which is held while a request is done.
     pub desk: &'a Mutex<Desk<J>>,
     /// Where a session that follows rests.
     pub bell: &'a Bell,
     /// What is called at moments of the session.
     pub gate: &'a G,
+    /// Who hears of a stop.
+    pub doorkeeper: &'a K,
     /// The session's number.
     pub number: u64,
     /// What memory for answers comes from.
@@ -98,92 +104,6 @@ impl Piece {
     }
 }
 
-/// Does a request while the desk is held. Refused as `NoMemory` alone.
-fn do_locked<J: Naming, G: Gate, R: Wait>(
-    rt: &R,
-    shared: &Shared<'_, J, G>,
-    session: &mut SharedSession<J>,
-    request: &Request,
-) -> Result<Text, Fault>
-    requires { is_under_lock request.now ≡ true }
-    ensures answered { IfOk result (λ text. IsAnsweredAt session.old request.now text session.new) }
-    ensures memory { IsOkUnless result Fault.NoMemory }
-    ensures undone { OnErr result (IsNotDoneAt session.old request.now session.new) }
-{
-    shared.bell.turns().begin(rt);
-    let mut desk = shared.desk.lock(rt);
-    let answer = session.locked(rt, &mut *desk, request);
-    if answer.is_ok() && matches!(request, Request::Run(_)) {
-        shared.gate.in_lock(rt, shared.number);
-    }
-    drop(desk);
-    shared.bell.turns().end(rt);
-    answer
-}
-
-/// Meets the desk while it is held.
-fn meet<J: Naming, G: Gate, R: Wait>(
-    rt: &R,
-    shared: &Shared<'_, J, G>,
-    session: &mut SharedSession<J>,
-) -> Option<Meeting>
-    ensures met { HasMet session.old.own result session.new.own session.new.sight.seen }
-    ensures sight { SeesOn session.old.sight session.new.sight }
-{
-    shared.bell.turns().begin(rt);
-    let mut desk = shared.desk.lock(rt);
-    let met = session.meet(&mut *desk);
-    drop(desk);
-    shared.bell.turns().end(rt);
-    met
-}
-
-/// Ends the session's watcher, if it has one, while the desk is held, and hands out what was sent to it and not taken.
-fn end_watcher<J: Naming, G: Gate, R: Wait>(
-    rt: &R,
-    shared: &Shared<'_, J, G>,
-    session: &mut SharedSession<J>,
-) -> Option<SharedPosts>
-    ensures none { session.new.own ≡ None }
-    ensures ended { HasEndedAt session.old result session.new.sight }
-{
-    shared.bell.turns().begin(rt);
-    let mut desk = shared.desk.lock(rt);
-    let posts = session.end(rt, &mut *desk);
-    drop(desk);
-    shared.bell.turns().end(rt);
-    posts
-}
-
-/// Closes the session's watcher, if it has one, at the desk after so much of the history as the session has seen then. The
-/// desk is held until it is closed, and not while posts are let go.
-pub fn leave<J: Naming, G: Gate, R: Wait>(
-    rt: &R,
-    shared: &Shared<'_, J, G>,
-    session: &mut SharedSession<J>,
-)
-    ensures none { session.new.own ≡ None }
-    ensures left { HasLeft session.old.own session.new.sight.seen }
-    ensures sight { SeesOn session.old.sight session.new.sight }
-{
-    let _posts = end_watcher(rt, shared, session);
-}
-
-/// Closes the session's watcher: the answer to a `close`, a single piece. The desk is held until the watcher is closed, and
-/// not while its posts are printed.
-pub(crate) fn answer_close<J: Naming, G: Gate, R: Wait>(
-    rt: &R,
-    shared: &Shared<'_, J, G>,
-    session: &mut SharedSession<J>,
-) -> Piece
-    ensures { IsPiece session.old Close [] result.text result.then session.new }
-{
-    let ended = end_watcher(rt, shared, session);
-    let piece = told_end(shared.alloc, ended);
-    shared.gate.before_answer(rt, shared.number);
-    piece
-}
-
 /// Whether a request may give other sessions something to take, or end what they follow.
 fn wakes(request: &Request) -> bool {
     matches!(request, Request::Run(_) | Request::Stop)
@@ -203,31 +123,6 @@ fn told_end(alloc: Global, ended: Option<SharedPosts>) -> Piece
     }
 }
 
-/// Does a request other than `close` while the desk is held: its answer, a single piece.
-pub(crate) fn answer_locked<J: Naming, G: Gate, R: Wait>(
-    rt: &R,
-    shared: &Shared<'_, J, G>,
-    session: &mut SharedSession<J>,
-    request: &Request,
-) -> Piece
-    requires lock { is_under_lock request.now ≡ true }
-    requires other { request.now ≢ Request.Close }
-    ensures { IsPiece session.old request.now [] result.text result.then session.new }
-{
-    let answer = do_locked(rt, shared, session, request);
-    if wakes(request) {
-        shared.bell.ring(rt);
-    }
-    if matches!(request, Request::Stop) {
-        shared.gate.stopped(rt, shared.number);
-    }
-    shared.gate.before_answer(rt, shared.number);
-    match answer {
-        Ok(text) => Piece::last(text, end_of(request)),
-        Err(_) => Piece::last(Text::refusal(Fault::NoMemory), None),
-    }
-}
-
 /// What a session finds that takes posts.
 #[derive(Drop)]
 pub(crate) enum Portion {
@@ -235,48 +130,6 @@ pub(crate) enum Portion {
     Posts(PrintedPosts),
     /// None wait, and the watcher is so far.
     Empty(Phase),
-}
-
-/// Takes up to so many posts, of which none waited at first: the session meets the desk, and takes again if some have
-/// come. Refused as `NoWatcher` where it has none, and as `NoMemory`, where the posts that were taken are lost.
-fn take_met<J: Naming, G: Gate, R: Wait>(
-    rt: &R,
-    shared: &Shared<'_, J, G>,
-    session: &mut SharedSession<J>,
-    most: u64,
-) -> Result<Portion, Fault>
-    requires some { 0 < most }
-    requires running { ForSome session.old.own (λ (w : WatcherView). IsRun w.half.opening w.half.taken) }
-    ensures portion { IsPortion session.old.own most result session.new.own session.new.sight.seen }
-    ensures sight { SeesOn session.old.sight session.new.sight }
-{
-    let Some(meeting) = meet(rt, shared, session) else {
-        return Err(Fault::NoWatcher);
-    };
-    if meeting.posted > meeting.taken {
-        let posts = session.pops(rt, most)?;
-        return Ok(Portion::Posts(posts));
-    }
-    Ok(Portion::Empty(meeting.state))
-}
-
-/// Takes up to so many posts. Refused as `NoWatcher` where the session has none, and as `NoMemory`, where the posts that
-/// were taken are lost.
-pub(crate) fn take_posts<J: Naming, G: Gate, R: Wait>(
-    rt: &R,
-    shared: &Shared<'_, J, G>,
-    session: &mut SharedSession<J>,
-    most: u64,
-) -> Result<Portion, Fault>
-    requires { 0 < most }
-    ensures portion { IsPortion session.old.own most result session.new.own session.new.sight.seen }
-    ensures sight { SeesOn session.old.sight session.new.sight }
-{
-    let printed = session.pops(rt, most)?;
-    if printed.posts == 0 {
-        return take_met(rt, shared, session, most);
-    }
-    Ok(Portion::Posts(printed))
 }
 
 /// The answer to a `take` that took these posts.
@@ -293,19 +146,137 @@ fn took_posts(alloc: Global, printed: &PrintedPosts) -> Piece
     }
 }
 
-/// Takes up to so many posts: the answer to a `take`, a single piece.
-pub(crate) fn answer_take<J: Naming, G: Gate, R: Wait>(
-    rt: &R,
-    shared: &Shared<'_, J, G>,
-    session: &mut SharedSession<J>,
-    most: u64,
-) -> Piece
-    requires { 0 < most }
-    ensures { IsPiece session.old (Take most) [] result.text result.then session.new }
-{
-    match take_posts(rt, shared, session, most) {
-        Ok(Portion::Posts(printed)) => took_posts(shared.alloc, &printed),
-        Ok(Portion::Empty(phase)) => Piece::last(phase_text(0, phase), None),
-        Err(fault) => Piece::refusal(fault),
+impl<'a, J: Naming, G: Gate, K: Doorkeeper, R: Wait + Clock> Shared<'a, J, G, K, R> {
+    /// Does a request while the desk is held. Refused as `NoMemory` alone.
+    fn do_locked(&self, session: &mut SharedSession<J>, request: &Request) -> Result<Text, Fault>
+        requires { is_under_lock request.now ≡ true }
+        ensures answered { IfOk result (λ text. IsAnsweredAt session.old request.now text session.new) }
+        ensures memory { IsOkUnless result Fault.NoMemory }
+        ensures undone { OnErr result (IsNotDoneAt session.old request.now session.new) }
+    {
+        self.bell.turns().begin(self.rt);
+        let mut desk = self.desk.lock(self.rt);
+        let answer = session.locked(self.rt, &mut *desk, request);
+        if answer.is_ok() && matches!(request, Request::Run(_)) {
+            self.gate.in_lock(self.rt, self.number);
+        }
+        drop(desk);
+        self.bell.turns().end(self.rt);
+        answer
+    }
+
+    /// Meets the desk while it is held.
+    fn meet(&self, session: &mut SharedSession<J>) -> Option<Meeting>
+        ensures met { HasMet session.old.own result session.new.own session.new.sight.seen }
+        ensures sight { SeesOn session.old.sight session.new.sight }
+    {
+        self.bell.turns().begin(self.rt);
+        let mut desk = self.desk.lock(self.rt);
+        let met = session.meet(&mut *desk);
+        drop(desk);
+        self.bell.turns().end(self.rt);
+        met
+    }
+
+    /// Ends the session's watcher, if it has one, while the desk is held, and hands out what was sent to it and not taken.
+    fn end_watcher(&self, session: &mut SharedSession<J>) -> Option<SharedPosts>
+        ensures none { session.new.own ≡ None }
+        ensures ended { HasEndedAt session.old result session.new.sight }
+    {
+        self.bell.turns().begin(self.rt);
+        let mut desk = self.desk.lock(self.rt);
+        let posts = session.end(self.rt, &mut *desk);
+        drop(desk);
+        self.bell.turns().end(self.rt);
+        posts
+    }
+
+    /// Closes the session's watcher, if it has one, at the desk after so much of the history as the session has seen then. The
+    /// desk is held until it is closed, and not while posts are let go.
+    pub fn leave(&self, session: &mut SharedSession<J>)
+        ensures none { session.new.own ≡ None }
+        ensures left { HasLeft session.old.own session.new.sight.seen }
+        ensures sight { SeesOn session.old.sight session.new.sight }
+    {
+        let _posts = self.end_watcher(session);
+    }
+
+    /// Closes the session's watcher: the answer to a `close`, a single piece. The desk is held until the watcher is closed, and
+    /// not while its posts are printed.
+    pub(crate) fn answer_close(&self, session: &mut SharedSession<J>) -> Piece
+        ensures { IsPiece session.old Close [] result.text result.then session.new }
+    {
+        let ended = self.end_watcher(session);
+        let piece = told_end(self.alloc, ended);
+        self.gate.before_answer(self.rt, self.number);
+        piece
+    }
+
+    /// Does a request other than `close` while the desk is held: its answer, a single piece.
+    pub(crate) fn answer_locked(&self, session: &mut SharedSession<J>, request: &Request) -> Piece
+        requires lock { is_under_lock request.now ≡ true }
+        requires other { request.now ≢ Request.Close }
+        ensures { IsPiece session.old request.now [] result.text result.then session.new }
+    {
+        let answer = self.do_locked(session, request);
+        if wakes(request) {
+            self.bell.ring(self.rt);
+        }
+        if matches!(request, Request::Stop) {
+            self.doorkeeper.close(self.rt);
+        }
+        self.gate.before_answer(self.rt, self.number);
+        match answer {
+            Ok(text) => Piece::last(text, end_of(request)),
+            Err(_) => Piece::last(Text::refusal(Fault::NoMemory), None),
+        }
+    }
+
+    /// Takes up to so many posts, of which none waited at first: the session meets the desk, and takes again if some have
+    /// come. Refused as `NoWatcher` where it has none, and as `NoMemory`, where the posts that were taken are lost.
+    fn take_met(&self, session: &mut SharedSession<J>, most: u64) -> Result<Portion, Fault>
+        requires some { 0 < most }
+        requires running { ForSome session.old.own (λ (w : WatcherView). IsRun w.half.opening w.half.taken) }
+        ensures portion { IsPortion session.old.own most result session.new.own session.new.sight.seen }
+        ensures sight { SeesOn session.old.sight session.new.sight }
+    {
+        let Some(meeting) = self.meet(session) else {
+            return Err(Fault::NoWatcher);
+        };
+        if meeting.posted > meeting.taken {
+            let posts = session.pops(self.rt, most)?;
+            return Ok(Portion::Posts(posts));
+        }
+        Ok(Portion::Empty(meeting.state))
+    }
+
+    /// Takes up to so many posts. Refused as `NoWatcher` where the session has none, and as `NoMemory`, where the posts that
+    /// were taken are lost.
+    pub(crate) fn take_posts(
+        &self,
+        session: &mut SharedSession<J>,
+        most: u64,
+    ) -> Result<Portion, Fault>
+        requires { 0 < most }
+        ensures portion { IsPortion session.old.own most result session.new.own session.new.sight.seen }
+        ensures sight { SeesOn session.old.sight session.new.sight }
+    {
+        let printed = session.pops(self.rt, most)?;
+        if printed.posts == 0 {
+            return self.take_met(session, most);
+        }
+        Ok(Portion::Posts(printed))
+    }
+
+    /// Takes up to so many posts: the answer to a `take`, a single piece.
+    pub(crate) fn answer_take(&self, session: &mut SharedSession<J>, most: u64) -> Piece
+        requires { 0 < most }
+        ensures { IsPiece session.old (Take most) [] result.text result.then session.new }
+    {
+        match self.take_posts(session, most) {
+            Ok(Portion::Posts(printed)) => took_posts(self.alloc, &printed),
+            Ok(Portion::Empty(phase)) => Piece::last(phase_text(0, phase), None),
+            Err(fault) => Piece::refusal(fault),
+        }
     }
 }

@@ -9,9 +9,10 @@ ghost use Rattle.mt_session.specs.Requests.{by_phase};
 ghost use Rattle.mt_session.specs.SharedTurns.{SharedView};
 ghost use Rattle.mt_session.specs.SharedServing.{EndsWith, IsSoFar, IsPiece};
 
+use crate::doorkeeper::Doorkeeper;
 use crate::gate::Gate;
 use crate::session::phase_text;
-use crate::shared_answer::{Piece, Portion, Shared, Then, take_posts};
+use crate::shared_answer::{Piece, Portion, Shared, Then};
 use crate::shared_session::SharedSession;
 use crate::text::Text;
 use mt_book::command::Reply;
@@ -25,46 +26,6 @@ use std::time::Clock;
 /// How many posts of a `follow` are sent at once at most.
 const MOST_AT_ONCE: u64 = 64;
 
-/// The last piece of an answer to a `follow`.
-fn last<J: Naming, G: Gate, R: Wait>(rt: &R, shared: &Shared<'_, J, G>, text: Text) -> Piece
-    ensures { EndsWith text None result.text result.then }
-{
-    shared.gate.before_answer(rt, shared.number);
-    Piece::last(text, None)
-}
-
-/// What comes next where none wait: the session rests, or tells why there will be no more.
-fn pause<J: Naming, G: Gate, R: Wait + Clock>(
-    rt: &R,
-    shared: &Shared<'_, J, G>,
-    told: u64,
-    phase: Phase,
-) -> Piece
-    ensures rest { phase ≡ Phase.Open → (result.text ≡ None) × (result.then ≡ Then.More told) }
-    ensures over { phase ≢ Phase.Open → EndsWith (by_phase (count_text told) phase) None result.text result.then }
-{
-    if phase != Phase::Open {
-        return last(rt, shared, phase_text(told, phase));
-    }
-    shared.bell.rest(rt);
-    Piece {
-        text: None,
-        tells: false,
-        then: Then::More(told),
-    }
-}
-
-/// Why no posts can be told.
-fn refuse<J: Naming, G: Gate, R: Wait>(rt: &R, shared: &Shared<'_, J, G>, fault: Fault) -> Piece
-    ensures lost { fault ≡ Fault.NoMemory → EndsWith (refusal NoMemory) (Some Memory) result.text result.then }
-    ensures others { fault ≢ Fault.NoMemory → EndsWith (refusal fault) None result.text result.then }
-{
-    if fault == Fault::NoMemory {
-        return Piece::refusal(fault);
-    }
-    last(rt, shared, Text::refusal(fault))
-}
-
 /// Posts, with which so many are told.
 fn tell(printed: PrintedPosts, told: u64) -> Piece
     ensures text { result.text ≡ Some printed.text.items }
@@ -77,27 +38,58 @@ fn tell(printed: PrintedPosts, told: u64) -> Piece
     }
 }
 
-/// The next piece of the answer to a `follow` of so many posts, of which so many were told.
-pub(crate) fn follow<J: Naming, G: Gate, R: Wait + Clock>(
-    rt: &R,
-    shared: &Shared<'_, J, G>,
-    session: &mut SharedSession<J>,
-    most: u64,
-    told: u64,
-) -> Piece
-    requires some { 0 < most }
-    requires within { told ≤ most }
-    ensures { (s : SharedView) (out : List ℕ) → IsSoFar s (Follow most) out told session.old → IsPiece s (Follow most) out result.text result.then session.new }
-{
-    if told == most {
-        return last(rt, shared, Text::reply(Reply::Number(told)));
+impl<'a, J: Naming, G: Gate, K: Doorkeeper, R: Wait + Clock> Shared<'a, J, G, K, R> {
+    /// The last piece of an answer to a `follow`.
+    fn last(&self, text: Text) -> Piece
+        ensures { EndsWith text None result.text result.then }
+    {
+        self.gate.before_answer(self.rt, self.number);
+        Piece::last(text, None)
     }
-    match take_posts(rt, shared, session, (most - told).min(MOST_AT_ONCE)) {
-        Ok(Portion::Posts(printed)) => {
-            let told = told + printed.posts;
-            tell(printed, told)
+
+    /// What comes next where none wait: the session rests, or tells why there will be no more.
+    fn pause(&self, told: u64, phase: Phase) -> Piece
+        ensures rest { phase ≡ Phase.Open → (result.text ≡ None) × (result.then ≡ Then.More told) }
+        ensures over { phase ≢ Phase.Open → EndsWith (by_phase (count_text told) phase) None result.text result.then }
+    {
+        if phase != Phase::Open {
+            return self.last(phase_text(told, phase));
         }
-        Ok(Portion::Empty(phase)) => pause(rt, shared, told, phase),
-        Err(fault) => refuse(rt, shared, fault),
+        self.bell.rest(self.rt);
+        Piece {
+            text: None,
+            tells: false,
+            then: Then::More(told),
+        }
+    }
+
+    /// Why no posts can be told.
+    fn refuse(&self, fault: Fault) -> Piece
+        ensures lost { fault ≡ Fault.NoMemory → EndsWith (refusal NoMemory) (Some Memory) result.text result.then }
+        ensures others { fault ≢ Fault.NoMemory → EndsWith (refusal fault) None result.text result.then }
+    {
+        if fault == Fault::NoMemory {
+            return Piece::refusal(fault);
+        }
+        self.last(Text::refusal(fault))
+    }
+
+    /// The next piece of the answer to a `follow` of so many posts, of which so many were told.
+    pub(crate) fn follow(&self, session: &mut SharedSession<J>, most: u64, told: u64) -> Piece
+        requires some { 0 < most }
+        requires within { told ≤ most }
+        ensures { (s : SharedView) (out : List ℕ) → IsSoFar s (Follow most) out told session.old → IsPiece s (Follow most) out result.text result.then session.new }
+    {
+        if told == most {
+            return self.last(Text::reply(Reply::Number(told)));
+        }
+        match self.take_posts(session, (most - told).min(MOST_AT_ONCE)) {
+            Ok(Portion::Posts(printed)) => {
+                let told = told + printed.posts;
+                tell(printed, told)
+            }
+            Ok(Portion::Empty(phase)) => self.pause(told, phase),
+            Err(fault) => self.refuse(fault),
+        }
     }
 }

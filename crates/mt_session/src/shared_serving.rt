@@ -10,48 +10,19 @@ ghost use Rattle.mt_session.specs.SharedTurns.{SharedView, SeesOn};
 ghost use Rattle.mt_session.specs.SharedSession.{ServedShared, ServedSharedLine, HasLeft};
 ghost use Rattle.mt_session.specs.SharedServing.{IsSoFar, IsPiece, IsWithin, IsCutPiece, ServesAsked, ServesLine};
 
-use crate::bell::Bell;
+use crate::doorkeeper::Doorkeeper;
 use crate::gate::Gate;
 use crate::serving::{End, MOST_LINES, answer_with};
-use crate::shared_answer::{Piece, Shared, Then, answer_close, answer_locked, answer_take, leave};
-use crate::shared_follow::follow;
+use crate::shared_answer::{Piece, Shared, Then};
 use crate::shared_session::SharedSession;
 use crate::text::Text;
-use mt_desk::desk::Desk;
 use mt_desk::lines::Naming;
 use mt_lines::line::{Line, LineReader};
 use mt_lines::stream::{Cut, Input, Output, find_reader, send};
 use mt_requests::request::{Request, read_request};
 use mt_skel::fault::Fault;
-use std::alloc::Global;
-use std::sync::{Mutex, Wait};
+use std::sync::Wait;
 use std::time::Clock;
-
-/// The next piece of the answer to a request, of which so many posts were told.
-fn next_piece<J: Naming, G: Gate, R: Wait + Clock>(
-    rt: &R,
-    shared: &Shared<'_, J, G>,
-    session: &mut SharedSession<J>,
-    request: &Request,
-    told: u64,
-) -> Piece
-    requires count { HasRightCount request.now }
-    requires within { IsWithin request.now told }
-    ensures { (s : SharedView) (out : List ℕ) → IsSoFar s request.now out told session.old → IsPiece s request.now out result.text result.then session.new }
-{
-    if let Request::Follow(most) = request {
-        return follow(rt, shared, session, *most, told);
-    }
-    if let Request::Take(most) = request {
-        let piece = answer_take(rt, shared, session, *most);
-        shared.gate.before_answer(rt, shared.number);
-        return piece;
-    }
-    if matches!(request, Request::Close) {
-        return answer_close(rt, shared, session);
-    }
-    answer_locked(rt, shared, session, request)
-}
 
 /// Sends a piece of an answer, or finds out whether the client is still there where it has no text.
 fn send_piece<O: Output>(writer: &mut O, text: &Option<Text>) -> Result<(), Cut>
@@ -69,72 +40,91 @@ fn send_piece<O: Output>(writer: &mut O, text: &Option<Text>) -> Result<(), Cut>
     }
 }
 
-/// Serves a request: how the session ends by it, if it does.
-fn serve_request<J: Naming, O: Output, G: Gate, R: Wait + Clock>(
-    rt: &R,
-    shared: &Shared<'_, J, G>,
-    session: &mut SharedSession<J>,
-    writer: &mut O,
-    request: &Request,
-) -> Option<End>
-    requires { HasRightCount request.now }
-    ensures served { ServesAsked session.old (Ok request.now) (O.contents writer.old) (O.contents writer.new) result session.new }
-    ensures cut { IsTrue O.counts → IsCutCause result (O.failed writer.old) (O.failed writer.new) }
-    ensures cut_run { IsTrue O.counts → O.faults writer.old ≡ [] → IsCutRun result (O.faults writer.new) }
-{
-    let mut told = 0u64;
-    'pieces: for _piece in rt.forever() {
-        let piece = next_piece(rt, shared, session, request, told);
-        if let Err(cut) = send_piece(writer, &piece.text) {
-            return Some(End::Cut(cut));
+impl<'a, J: Naming, G: Gate, K: Doorkeeper, R: Wait + Clock> Shared<'a, J, G, K, R> {
+    /// The next piece of the answer to a request, of which so many posts were told.
+    fn next_piece(&self, session: &mut SharedSession<J>, request: &Request, told: u64) -> Piece
+        requires count { HasRightCount request.now }
+        requires within { IsWithin request.now told }
+        ensures { (s : SharedView) (out : List ℕ) → IsSoFar s request.now out told session.old → IsPiece s request.now out result.text result.then session.new }
+    {
+        if let Request::Follow(most) = request {
+            return self.follow(session, *most, told);
         }
-        if piece.tells {
-            shared.gate.taken(rt, shared.number);
+        if let Request::Take(most) = request {
+            let piece = self.answer_take(session, *most);
+            self.gate.before_answer(self.rt, self.number);
+            return piece;
         }
-        match piece.then {
-            Then::More(count) => told = count,
-            Then::Over(end) => return end,
+        if matches!(request, Request::Close) {
+            return self.answer_close(session);
+        }
+        self.answer_locked(session, request)
+    }
+
+    /// Serves a request: how the session ends by it, if it does.
+    fn serve_request<O: Output>(
+        &self,
+        session: &mut SharedSession<J>,
+        writer: &mut O,
+        request: &Request,
+    ) -> Option<End>
+        requires { HasRightCount request.now }
+        ensures served { ServesAsked session.old (Ok request.now) (O.contents writer.old) (O.contents writer.new) result session.new }
+        ensures cut { IsTrue O.counts → IsCutCause result (O.failed writer.old) (O.failed writer.new) }
+        ensures cut_run { IsTrue O.counts → O.faults writer.old ≡ [] → IsCutRun result (O.faults writer.new) }
+    {
+        let mut told = 0u64;
+        'pieces: for _piece in self.rt.forever() {
+            let piece = self.next_piece(session, request, told);
+            if let Err(cut) = send_piece(writer, &piece.text) {
+                return Some(End::Cut(cut));
+            }
+            if piece.tells {
+                self.gate.taken(self.rt, self.number);
+            }
+            match piece.then {
+                Then::More(count) => told = count,
+                Then::Over(end) => return end,
+            }
+        }
+        unreachable!()
+    }
+
+    /// Serves a line that was read whole: how the session ends by it, if it does.
+    fn serve_text<O: Output>(
+        &self,
+        session: &mut SharedSession<J>,
+        line: &[u8],
+        writer: &mut O,
+    ) -> Option<End>
+        ensures served { ServesAsked session.old (request_of line.now) (O.contents writer.old) (O.contents writer.new) result session.new }
+        ensures cut { IsTrue O.counts → IsCutCause result (O.failed writer.old) (O.failed writer.new) }
+        ensures cut_run { IsTrue O.counts → O.faults writer.old ≡ [] → IsCutRun result (O.faults writer.new) }
+    {
+        match read_request(self.alloc, line) {
+            Ok(request) => self.serve_request(session, writer, &request),
+            Err(fault) => answer_with(writer, &Text::refusal(fault), None),
         }
     }
-    unreachable!()
-}
 
-/// Serves a line that was read whole: how the session ends by it, if it does.
-fn serve_text<J: Naming, O: Output, G: Gate, R: Wait + Clock>(
-    rt: &R,
-    shared: &Shared<'_, J, G>,
-    session: &mut SharedSession<J>,
-    line: &[u8],
-    writer: &mut O,
-) -> Option<End>
-    ensures served { ServesAsked session.old (request_of line.now) (O.contents writer.old) (O.contents writer.new) result session.new }
-    ensures cut { IsTrue O.counts → IsCutCause result (O.failed writer.old) (O.failed writer.new) }
-    ensures cut_run { IsTrue O.counts → O.faults writer.old ≡ [] → IsCutRun result (O.faults writer.new) }
-{
-    match read_request(shared.alloc, line) {
-        Ok(request) => serve_request(rt, shared, session, writer, &request),
-        Err(fault) => answer_with(writer, &Text::refusal(fault), None),
-    }
-}
-
-/// Serves what a reader says of a line: how the session ends by it, if it does.
-fn serve_line<J: Naming, O: Output, G: Gate, R: Wait + Clock>(
-    rt: &R,
-    shared: &Shared<'_, J, G>,
-    session: &mut SharedSession<J>,
-    writer: &mut O,
-    line: Line,
-    bytes: &[u8],
-) -> Option<End>
-    ensures served { ServesLine line bytes.now session.old (O.contents writer.old) (O.contents writer.new) result session.new }
-    ensures cut { IsTrue O.counts → IsCutCause result (O.failed writer.old) (O.failed writer.new) }
-    ensures cut_run { IsTrue O.counts → O.faults writer.old ≡ [] → IsCutRun result (O.faults writer.new) }
-{
-    match line {
-        Line::Text => serve_text(rt, shared, session, bytes, writer),
-        Line::TooLong => answer_with(writer, &Text::refusal(Fault::TooLong), None),
-        Line::Unended => { answer_with(writer, &Text::refusal(Fault::BadLine), Some(End::Input)) }
-        Line::End => Some(End::Input),
+    /// Serves what a reader says of a line: how the session ends by it, if it does.
+    fn serve_line<O: Output>(
+        &self,
+        session: &mut SharedSession<J>,
+        writer: &mut O,
+        line: Line,
+        bytes: &[u8],
+    ) -> Option<End>
+        ensures served { ServesLine line bytes.now session.old (O.contents writer.old) (O.contents writer.new) result session.new }
+        ensures cut { IsTrue O.counts → IsCutCause result (O.failed writer.old) (O.failed writer.new) }
+        ensures cut_run { IsTrue O.counts → O.faults writer.old ≡ [] → IsCutRun result (O.faults writer.new) }
+    {
+        match line {
+            Line::Text => self.serve_text(session, bytes, writer),
+            Line::TooLong => answer_with(writer, &Text::refusal(Fault::TooLong), None),
+            Line::Unended => { answer_with(writer, &Text::refusal(Fault::BadLine), Some(End::Input)) }
+            Line::End => Some(End::Input),
+        }
     }
 }
 
@@ -143,13 +133,19 @@ fn serve_line<J: Naming, O: Output, G: Gate, R: Wait + Clock>(
 /// One line leaves the reader, and its whole answer goes to the writer, before the next one is read (`served`). At the end
 /// of the input, and at a fault of the reader, nothing is written; of a fault the reader has lost no whole line. Where the
 /// session goes on, the reader has met no fault. [`serve_shared`] is the loop of this call.
-pub fn serve_shared_next<J: Naming, I: Input + Drop, O: Output, G: Gate, R: Wait + Clock>(
-    rt: &R,
-    shared: &Shared<'_, J, G>,
+pub fn serve_shared_next<J, I, O, G, K, R>(
+    shared: &Shared<'_, J, G, K, R>,
     session: &mut SharedSession<J>,
     lines: &mut LineReader<I>,
     writer: &mut O,
 ) -> Option<End>
+where
+    J: Naming,
+    I: Input + Drop,
+    O: Output,
+    G: Gate,
+    K: Doorkeeper,
+    R: Wait + Clock,
     requires fresh { fault_of lines.old ≡ None }
     requires limit { limit_of lines.old ≡ line_limit }
     ensures served { ServedSharedLine (known_left lines.old) (known_left lines.new) session.old session.new (O.contents writer.old) (O.contents writer.new) result }
@@ -164,17 +160,23 @@ pub fn serve_shared_next<J: Naming, I: Input + Drop, O: Output, G: Gate, R: Wait
         Ok(line) => line,
         Err(fault) => return Some(End::Read(fault)),
     };
-    serve_line(rt, shared, session, writer, line, lines.line())
+    shared.serve_line(session, writer, line, lines.line())
 }
 
 /// Serves lines until the session ends: how it does. What is said of it holds once its watcher is closed.
-fn serve_all<J: Naming, I: Input + Drop, O: Output, G: Gate, R: Wait + Clock>(
-    rt: &R,
-    shared: &Shared<'_, J, G>,
+fn serve_all<J, I, O, G, K, R>(
+    shared: &Shared<'_, J, G, K, R>,
     session: &mut SharedSession<J>,
     lines: &mut LineReader<I>,
     writer: &mut O,
 ) -> End
+where
+    J: Naming,
+    I: Input + Drop,
+    O: Output,
+    G: Gate,
+    K: Doorkeeper,
+    R: Wait + Clock,
     requires none { session.old.own ≡ None }
     requires fresh { fault_of lines.old ≡ None }
     requires limit { limit_of lines.old ≡ line_limit }
@@ -185,7 +187,7 @@ fn serve_all<J: Naming, I: Input + Drop, O: Output, G: Gate, R: Wait + Clock>(
     ensures cut_run { IsTrue O.counts → O.faults writer.old ≡ [] → IsCutRun (Some result) (O.faults writer.new) }
 {
     'lines: for _count in 0..MOST_LINES {
-        if let Some(end) = serve_shared_next(rt, shared, session, lines, writer) {
+        if let Some(end) = serve_shared_next(shared, session, lines, writer) {
             return end;
         }
     }
@@ -204,7 +206,7 @@ fn serve_all<J: Naming, I: Input + Drop, O: Output, G: Gate, R: Wait + Clock>(
 /// takes or a `close` hands out; sessions have it in the order in which they asked for it. `take` and `follow` take
 /// posts without it, and hold it to meet it where they find none. `follow` rests at the bell where none wait, and ends
 /// once it has as many as were asked for, where its watcher lags or a stop has ended it, and where the client has gone.
-/// A command and a stop ring the bell. Where posts were taken and there is no memory to tell them, the session says so
+/// A command and a stop ring the bell, and the doorkeeper hears of a stop. Where posts were taken and there is no memory to tell them, the session says so
 /// and ends. A session serves 16,777,216 lines at most. At a fault of the writer all earlier answers are out whole, and of
 /// the last one a part; what the end says of it are the bytes of its last piece, for the answer to a `follow` goes out in
 /// pieces of at most 64 posts.
@@ -217,22 +219,18 @@ fn serve_all<J: Naming, I: Input + Drop, O: Output, G: Gate, R: Wait + Clock>(
 ///
 /// Whatever the other sessions do, what its watcher has taken after each line is in order, and gives the tables
 /// (`shared_sessions_follow` of laws.rt).
-pub fn serve_shared<J, I, O, G, R>(
-    rt: &R,
-    alloc: Global,
-    number: u64,
+pub fn serve_shared<J, I, O, G, K, R>(
+    shared: Shared<'_, J, G, K, R>,
+    session: &mut SharedSession<J>,
     lines: &mut LineReader<I>,
     writer: &mut O,
-    desk: &Mutex<Desk<J>>,
-    bell: &Bell,
-    gate: &G,
-    session: &mut SharedSession<J>,
 ) -> End
 where
     J: Naming,
     I: Input + Drop,
     O: Output,
     G: Gate,
+    K: Doorkeeper,
     R: Wait + Clock,
     requires none { session.old.own ≡ None }
     requires fresh { fault_of lines.old ≡ None }
@@ -250,14 +248,7 @@ where
     ensures cut { IsTrue O.counts → IsCutCause (Some result) (O.failed writer.old) (O.failed writer.new) }
     ensures cut_run { IsTrue O.counts → O.faults writer.old ≡ [] → IsCutRun (Some result) (O.faults writer.new) }
 {
-    let shared = Shared {
-        desk,
-        bell,
-        gate,
-        number,
-        alloc,
-    };
-    let end = serve_all(rt, &shared, session, lines, writer);
-    leave(rt, &shared, session);
+    let end = serve_all(&shared, session, lines, writer);
+    shared.leave(session);
     end
 }

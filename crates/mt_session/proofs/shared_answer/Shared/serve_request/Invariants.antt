@@ -1,7 +1,7 @@
 use Rattle.std.proofs.Common.{◌≡◌, IsTrue, ℕ, List, [], ◌≤◌}
 use Rattle.std.specs.Io.KnownBytes.{Appends}
 use Rattle.mt_session.specs.SharedServing.{IsSoFar}
-use Rattle.mt_session.proofs.shared_serving.serve_request.Given as goal
+use Rattle.mt_session.proofs.shared_answer.Shared.serve_request.Given as goal
 
 -- so much of the answer is out
 abbrev pub invariant-pieces : goal.invariant-pieces

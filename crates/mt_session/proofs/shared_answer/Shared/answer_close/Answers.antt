@@ -1,5 +1,5 @@
 use Rattle.mt_session.proofs.SharedLaws.{close_told}
-use Rattle.mt_session.proofs.shared_answer.answer_close.Goals as goal
+use Rattle.mt_session.proofs.shared_answer.Shared.answer_close.Goals as goal
 
 pub returns : goal.returns
 returns g c =

@@ -1,5 +1,5 @@
 use Rattle.mt_session.proofs.SharedLaws.{locked_answered, locked_undone}
-use Rattle.mt_session.proofs.shared_answer.do_locked.Goals as goal
+use Rattle.mt_session.proofs.shared_answer.Shared.do_locked.Goals as goal
 
 pub returns-clause-answered : goal.returns-clause-answered
 returns-clause-answered g c =

@@ -2,7 +2,7 @@ use Rattle.std.proofs.Common.{Option, arith, subst}
 use Rattle.mt_desk.specs.Calls.{WatcherView}
 use Rattle.mt_session.specs.SharedServing.{IsPortion}
 use Rattle.mt_session.proofs.WatcherLaws.{popped_runs, popped_same, portion_at_once}
-use Rattle.mt_session.proofs.shared_answer.take_posts.Goals as goal
+use Rattle.mt_session.proofs.shared_answer.Shared.take_posts.Goals as goal
 
 pub take_met-requires-clause-running : goal.take_met-requires-clause-running
 take_met-requires-clause-running g c = popped_runs c.args.session.now.own c.pops.new.self.own c.args.most c.in_ok-printed.printed c.in_ok-printed.ensures.popped c.in_ok-printed.ensures.watched

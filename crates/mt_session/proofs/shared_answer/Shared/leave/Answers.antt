@@ -1,5 +1,5 @@
 use Rattle.mt_session.proofs.SharedLaws.{end_left, end_sees}
-use Rattle.mt_session.proofs.shared_answer.leave.Goals as goal
+use Rattle.mt_session.proofs.shared_answer.Shared.leave.Goals as goal
 
 pub returns-clause-left : goal.returns-clause-left
 returns-clause-left g c = end_left c.args.session.now c.end_watcher-posts.result _ c.end_watcher-posts.ensures.ended

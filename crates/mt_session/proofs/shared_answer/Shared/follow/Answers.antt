@@ -1,6 +1,6 @@
 use Rattle.std.proofs.Common.{arith}
 use Rattle.mt_session.proofs.SharedFollowLaws.{follow_posts, follow_none, follow_refused}
-use Rattle.mt_session.proofs.shared_follow.follow.Goals as goal
+use Rattle.mt_session.proofs.shared_answer.Shared.follow.Goals as goal
 
 pub returns-in-Ok-Posts : goal.returns-in-Ok-Posts
 returns-in-Ok-Posts g c s out so_far =

@@ -1,6 +1,6 @@
 use Rattle.mt_requests.specs.Requests.{request_of}
 use Rattle.mt_session.proofs.SharedLineLaws.{read_is, unread_served}
-use Rattle.mt_session.proofs.shared_serving.serve_text.Goals as goal
+use Rattle.mt_session.proofs.shared_answer.Shared.serve_text.Goals as goal
 
 pub returns-in-Ok-clause-served : goal.returns-in-Ok-clause-served
 returns-in-Ok-clause-served g c = read_is c.args.session.now _ (request_of c.args.line.now) c.in-Ok.request _ _ _ c.in-Ok.ensures.read c.serve_request.ensures.served

@@ -1,6 +1,6 @@
 use Rattle.std.proofs.Common.{arith}
 use Rattle.mt_session.proofs.WatcherLaws.{portion_met, portion_none}
-use Rattle.mt_session.proofs.shared_answer.take_met.Goals as goal
+use Rattle.mt_session.proofs.shared_answer.Shared.take_met.Goals as goal
 
 pub returns-then-meeting-clause-portion : goal.returns-then-meeting-clause-portion
 returns-then-meeting-clause-portion g c =
