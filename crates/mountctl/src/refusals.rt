@@ -23,7 +23,7 @@ use mt_refused::asked::asked_space;
 use mt_refused::missing::missing_text;
 use mt_refused::text::refused_text;
 use mt_refused::titles::Titles;
-use mt_requests::request::{Request, read_request};
+use mt_requests::request::{Query, Request, read_request};
 use mt_skel::fault::Fault as Refusal;
 use std::alloc::{AllocError, Global};
 use std::io::Eprint;
@@ -65,7 +65,7 @@ fn question_of(refusal: Refusal) -> Option<Question> {
 fn command_of(alloc: Global, line: &[u8], refusal: Refusal) -> Result<Option<Command>, Fault> {
     match (read_request(alloc, line), refusal) {
         (Ok(Request::Run(command)), _) => Ok(Some(command)),
-        (Ok(Request::Find { space, path }), Refusal::NoEntry) => {
+        (Ok(Request::Ask(Query::Find { space, path })), Refusal::NoEntry) => {
             Ok(Some(Command::Unmount { space, path }))
         }
         (Err(Refusal::NoMemory), _) => Err(Fault::NoMemory),

@@ -22,6 +22,8 @@ use Rattle.mt_setattr.specs.declared.change.SetWords.{SetWords}
 use Rattle.mt_requests.specs.Options.{nothing_set, no_change, attributes_of, change_of}
 use Rattle.mt_book.specs.declared.command.Command.{Command}
 use Rattle.mt_book.specs.declared.command.Command.TheVariants as command
+use Rattle.mt_requests.specs.declared.request.Query.{Query}
+use Rattle.mt_requests.specs.declared.request.Query.TheVariants as query
 use Rattle.mt_requests.specs.declared.request.Request.{Request}
 use Rattle.mt_requests.specs.declared.request.Request.TheVariants as request
 
@@ -160,8 +162,8 @@ request_with verb.Pivot w = request.Run (command.Pivot (number_said (first_of w)
 request_with verb.Umount w = request.Run (command.Unmount (number_said (first_of w)) (path_names (second_of w)))
 request_with verb.Detach w = request.Run (command.Detach (number_said (first_of w)) (path_names (second_of w)))
 request_with verb.Setattr w = request.Run (command.SetAttr (number_said (first_of w)) (path_names (second_of w)) (change_said (options_behind w)))
-request_with verb.Show w = request.Show (number_said (first_of w))
-request_with verb.Find w = request.Find (number_said (first_of w)) (path_names (second_of w))
+request_with verb.Show w = request.Ask (query.Show (number_said (first_of w)))
+request_with verb.Find w = request.Ask (query.Find (number_said (first_of w)) (path_names (second_of w)))
 request_with verb.Watch w = request.Watch (scope_said (first_of w))
 request_with verb.Take w = request.Take (number_said (first_of w))
 request_with verb.Follow w = request.Follow (number_said (first_of w))
@@ -199,11 +201,10 @@ request_of line = by_words (words line)
 -- every refusal of a line, `quit`, `stop` and the lines of watchers are read without memory; every other may fail for want of it
 abbrev pub may_want_memory : Result Request Fault → Bool
 may_want_memory (Ok (request.Run c)) = true
-may_want_memory (Ok (request.Show n)) = true
-may_want_memory (Ok (request.Find n path)) = true
+may_want_memory (Ok (request.Ask q)) = true
 may_want_memory asked = false
 
--- the verb of a command, and of a request
+-- the verb of a command, of a query, and of a request
 abbrev pub command_verb : Command → Verb
 command_verb (command.MakeFs name kind source) = verb.Mkfs
 command_verb (command.MakeDir fs path) = verb.Mkdir
@@ -219,10 +220,13 @@ command_verb (command.Unmount n path) = verb.Umount
 command_verb (command.Detach n path) = verb.Detach
 command_verb (command.SetAttr n path change) = verb.Setattr
 
+abbrev pub query_verb : Query → Verb
+query_verb (query.Show n) = verb.Show
+query_verb (query.Find n path) = verb.Find
+
 abbrev pub request_verb : Request → Verb
 request_verb (request.Run c) = command_verb c
-request_verb (request.Show n) = verb.Show
-request_verb (request.Find n path) = verb.Find
+request_verb (request.Ask q) = query_verb q
 request_verb (request.Watch scope) = verb.Watch
 request_verb (request.Take k) = verb.Take
 request_verb (request.Follow k) = verb.Follow

@@ -16,15 +16,22 @@ use mt_skel::fault::Fault;
 use mt_skel::names::Names;
 use std::alloc::Global;
 
+/// What a line asks about the tables, of which it changes none.
+#[derive(Drop)]
+pub enum Query {
+    /// `show NS` shows the table of a namespace.
+    Show(u64),
+    /// `find NS PATH` says where a path ends in a namespace.
+    Find { space: u64, path: Names },
+}
+
 /// What a line asks for.
 #[derive(Drop)]
 pub enum Request {
     /// A change of the tables.
     Run(Command),
-    /// `show NS` shows the table of a namespace.
-    Show(u64),
-    /// `find NS PATH` says where a path ends in a namespace.
-    Find { space: u64, path: Names },
+    /// A query of the tables.
+    Ask(Query),
     /// `watch NS` begins a watcher of a namespace, and `watch all` one of all.
     Watch(Scope),
     /// `take K` takes up to so many posts of the watcher, 1 to 1,024.
@@ -131,11 +138,11 @@ fn request_with(alloc: Global, verb: Verb, words: Words<'_>) -> Result<Request, 
             path: path_of(alloc, second)?,
             change: change_said(&options),
         })),
-        Verb::Show => Ok(Request::Show(space)),
-        Verb::Find => Ok(Request::Find {
+        Verb::Show => Ok(Request::Ask(Query::Show(space))),
+        Verb::Find => Ok(Request::Ask(Query::Find {
             space,
             path: path_of(alloc, second)?,
-        }),
+        })),
         Verb::Watch => Ok(Request::Watch(scope_said(first))),
         Verb::Take => Ok(Request::Take(number_said(first))),
         Verb::Follow => Ok(Request::Follow(number_said(first))),

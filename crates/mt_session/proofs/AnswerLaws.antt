@@ -24,10 +24,12 @@ use Rattle.mt_floor.specs.declared.watch.Phase.TheVariants.{Open as IsOpen, Lagg
 use Rattle.mt_floor.specs.Watcher.{Watcher, watcher_key, opening_of}
 use Rattle.mt_floor.specs.Schedule.{FloorView, command_refusal, opening_refusal, waiting}
 use Rattle.mt_requests.specs.declared.request.Request.{Request}
-use Rattle.mt_requests.specs.declared.request.Request.TheVariants.{Run, Show, Find, Watch, Take, Follow, Close, Quit, Stop}
-use Rattle.mt_requests.specs.Requests.{command_verb, request_verb}
+use Rattle.mt_requests.specs.declared.request.Request.TheVariants.{Run, Ask, Watch, Take, Follow, Close, Quit, Stop}
+use Rattle.mt_requests.specs.declared.request.Query.{Query}
+use Rattle.mt_requests.specs.declared.request.Query.TheVariants.{Show, Find}
+use Rattle.mt_requests.specs.Requests.{command_verb, query_verb, request_verb}
 use Rattle.mt_requests.proofs.CountLaws.{lines_tell}
-use Rattle.mt_session.specs.Answers.{refusal, found_text, shown_text, reply_text}
+use Rattle.mt_session.specs.Answers.{refusal, found_text, shown_text, query_text, reply_text}
 use Rattle.mt_session.specs.Requests.{SessionState, stepped_text, by_phase, rest_text, taken_text, end_of_followed, closed_text, next_posts, answer_to}
 use Rattle.mt_session.specs.Forms.{Refuses, HasForm, AnswersHaveForms}
 use Rattle.mt_session.specs.Session.{Growth, Granted, Refused, Unshown, request_of_line, may_fail, may_be_unshown, answer_of, answer_with, answer_to_turn}
@@ -90,6 +92,10 @@ place_answer : (found : Result (ℕ × List (List ℕ)) Fault) → IsAnswerOf fo
 place_answer (Ok p) = inr (p.0, p.1, refl)
 place_answer (Err x) = inl (x, refl)
 
+query_answer : (journal : List Command) (q : Query) → IsAnswerOf (verb_form (query_verb q)) (query_text journal q)
+query_answer journal (Show n) = table_answer journal n
+query_answer journal (Find n path) = place_answer (found_at (after journal) n path)
+
 -- posts, and what is told where none wait
 abbrev IsAtRest : List ℕ → List ℕ → Type 0
 IsAtRest text told = (told ≡ text) ⊎ Refuses told
@@ -115,8 +121,7 @@ close_answer s key = elim (row_at watcher_key key s.watchers) as (λ o. IsAnswer
 request_answer : (s : SessionState) (r : Request) → IsAnswerOf (verb_form (request_verb r)) (answer_to s r)
 unfolding answer_to
 request_answer s (Run c) = unless_refused (verb_form (command_verb c)) (command_refusal s.floor) _ (command_answer (after s.floor.journal) c)
-request_answer s (Show n) = table_answer s.floor.journal n
-request_answer s (Find n path) = place_answer (found_at (after s.floor.journal) n path)
+request_answer s (Ask q) = query_answer s.floor.journal q
 request_answer s (Watch scope) =
     of_watcher form.Opening s.watcher _ _ (λ key. inl (WatcherOpen, refl))
     (unless_refused form.Opening (opening_refusal s.floor scope) (opening_text (opening_of s.floor.journal scope)) (inr (opening_of s.floor.journal scope, refl)))

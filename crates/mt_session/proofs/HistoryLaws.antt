@@ -17,7 +17,7 @@ use Rattle.mt_desk.specs.Desk.{DeskView, floor_of_desk}
 use Rattle.mt_desk.specs.Calls.{WatcherView}
 use Rattle.mt_requests.specs.declared.request.Request.{Request}
 use Rattle.mt_requests.specs.Requests.{may_want_memory}
-use Rattle.mt_requests.specs.declared.request.Request.TheVariants.{Run, Show, Find, Watch, Take, Follow, Close, Quit, Stop as AsksStop}
+use Rattle.mt_requests.specs.declared.request.Request.TheVariants.{Run, Take, Follow, Close, Stop as AsksStop}
 use Rattle.mt_session.specs.declared.serving.End.{End}
 use Rattle.mt_session.specs.declared.serving.End.TheVariants.{Quit as EndsQuit, Stop as EndsStop, Cut as EndsCut, Memory}
 use Rattle.mt_session.specs.Answers.{refusal, reply_text}
@@ -98,11 +98,7 @@ told_acts s (Ok (Take k)) text s' t = ([], refl, acted_none s.sight s'.sight t.1
 told_acts s (Ok (Follow k)) text s' t = ([], refl, acted_none s.sight s'.sight t.1)
 told_acts s (Ok (Run c)) text s' t = command_act s s' c text t
 told_acts s (Ok AsksStop) text s' t = (act.Stop ∷ [], refl, answered_acts s s' AsksStop text t)
-told_acts s (Ok (Show n)) text s' t = ([], refl, answered_acts s s' (Show n) text t)
-told_acts s (Ok (Find n path)) text s' t = ([], refl, answered_acts s s' (Find n path) text t)
-told_acts s (Ok (Watch scope)) text s' t = ([], refl, answered_acts s s' (Watch scope) text t)
-told_acts s (Ok Close) text s' t = ([], refl, answered_acts s s' Close text t)
-told_acts s (Ok Quit) text s' t = ([], refl, answered_acts s s' Quit text t)
+told_acts s (Ok r) text s' t = ([], refl, answered_acts s s' r text t)
 
 -- there was no memory, and nothing came to the history
 wants_acts : (asked : Result Request Fault) (text : List ℕ) → text ≡ refusal NoMemory → asked ≢ Ok AsksStop → IsAct asked text []

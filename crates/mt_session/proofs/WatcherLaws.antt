@@ -19,7 +19,7 @@ use mathlib.Core.List.{IsPrefix}
 use Rattle.mt_desk.specs.Held.{HeldView, IsLogged}
 use Rattle.mt_session.specs.SharedServing.{HasMet, HasPortion, IsPortion, IsKeptOrLeft}
 use Rattle.mt_requests.specs.declared.request.Request.{Request}
-use Rattle.mt_requests.specs.declared.request.Request.TheVariants.{Run, Show, Find, Take, Follow, Close}
+use Rattle.mt_requests.specs.declared.request.Request.TheVariants.{Run, Ask, Take, Follow, Close}
 use Rattle.mt_session.specs.SharedSession.{IsAnsweredAt, IsNotDoneAt, HasLeft, WasLeft, IsSpent, IsTaken, IsFollowed, IsAnswered, IsTurn, SharedTurn, AreTurns}
 use Rattle.mt_skel.specs.declared.fault.Fault.{Fault}
 use Rattle.mt_floor.specs.declared.watch.Phase.{Phase}
@@ -208,8 +208,7 @@ undone_left : (d now : DeskView) (log : List LogEntry) (w w' : Option WatcherVie
 undone_left d now log None w' r kept logged u = tt
 undone_left d now log (Some w) w' Close kept logged u = rw u.2 (d, u.0, now, kept, logged, u.1, u.3)
 undone_left d now log (Some w) w' (Run c) kept logged u = rw u.1 (goes_none w)
-undone_left d now log (Some w) w' (Show n) kept logged u = rw u.1 (goes_none w)
-undone_left d now log (Some w) w' (Find n path) kept logged u = rw u.1 (goes_none w)
+undone_left d now log (Some w) w' (Ask q) kept logged u = rw u.1 (goes_none w)
 undone_left d now log (Some w) w' r kept logged u = absurd u
 
 pub undone_keeps : (s s' : SharedView) (r : Request) → IsNotDoneAt s r s' → IsKeptOrLeft s.own s'.own s'.sight.seen

@@ -12,7 +12,10 @@ use Rattle.mt_book.specs.declared.command.Command.{Command}
 use Rattle.mt_book.specs.declared.command.Reply.{Reply}
 use Rattle.mt_book.specs.declared.command.Reply.TheVariants.{Done, Number}
 use Rattle.mt_book.specs.Step.{after}
+use Rattle.mt_book.specs.Book.{found_at}
 use Rattle.mt_book.specs.History.{space_number}
+use Rattle.mt_requests.specs.declared.request.Query.{Query}
+use Rattle.mt_requests.specs.declared.request.Query.TheVariants.{Show, Find}
 
 -- the line of a refusal
 abbrev pub refusal : Fault → List ℕ
@@ -37,3 +40,8 @@ place_text mount names = codes "ok " ++ decimal mount ++ codes " " ++ path_text 
 abbrev pub found_text : Result (ℕ × List (List ℕ)) Fault → List ℕ
 found_text (Ok p) = place_text p.0 p.1
 found_text (Err f) = refusal f
+
+-- what a query is answered after these commands
+abbrev pub query_text : List Command → Query → List ℕ
+query_text journal (Show n) = shown_text journal n
+query_text journal (Find n path) = found_text (found_at (after journal) n path)

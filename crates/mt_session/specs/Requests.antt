@@ -11,16 +11,15 @@ use Rattle.mt_events.specs.declared.opening.Scope.{Scope}
 use Rattle.mt_book.specs.declared.command.Command.{Command}
 use Rattle.mt_book.specs.declared.command.Reply.{Reply}
 use Rattle.mt_book.specs.Step.{step, after}
-use Rattle.mt_book.specs.Book.{found_at}
 use Rattle.mt_floor.specs.declared.watch.Phase.{Phase}
 use Rattle.mt_floor.specs.declared.watch.Phase.TheVariants.{Open as IsOpen, Lagged, Ended}
 use Rattle.mt_floor.specs.declared.event.Event.TheVariants.{Apply, Open, Take as TakePost, Close as CloseWatcher, Stop as StopFloor}
 use Rattle.mt_floor.specs.Watcher.{Watcher, watcher_key, opening_of}
 use Rattle.mt_floor.specs.Schedule.{FloorView, command_refusal, opening_refusal, floor_step, run, settled, waiting}
 use Rattle.mt_requests.specs.declared.request.Request.{Request}
-use Rattle.mt_requests.specs.declared.request.Request.TheVariants.{Run, Show, Find, Watch, Take, Follow, Close, Quit, Stop}
+use Rattle.mt_requests.specs.declared.request.Request.TheVariants.{Run, Ask, Watch, Take, Follow, Close, Quit, Stop}
 use Rattle.mt_events.specs.Texts.{count_text, opening_text, posts_text, followed_text}
-use Rattle.mt_session.specs.Answers.{refusal, done_text, reply_text, shown_text, found_text}
+use Rattle.mt_session.specs.Answers.{refusal, done_text, reply_text, query_text}
 
 -- what the lines of a session are folded over: a floor on which nothing is due, and the key of the session's watcher, if it has one
 pub record SessionState : Type 0 where
@@ -84,8 +83,7 @@ by_watcher s f a = option_map_or f s.watcher a
 -- the text that a request is answered with
 unfoldable pub answer_to : SessionState → Request → List ℕ
 answer_to s (Run c) = replied_text s.floor c
-answer_to s (Show n) = shown_text s.floor.journal n
-answer_to s (Find n path) = found_text (found_at (after s.floor.journal) n path)
+answer_to s (Ask q) = query_text s.floor.journal q
 answer_to s (Watch scope) = by_watcher s (λ key. refusal WatcherOpen) (opened_text s.floor scope)
 answer_to s (Take k) = by_watcher s (λ key. taken_text s.floor key (next_posts s.floor key k)) (refusal NoWatcher)
 answer_to s (Follow k) =
@@ -120,8 +118,7 @@ state_to s r = s
 -- the answer may fail for want of memory; the others are found without any
 abbrev pub wants_memory : SessionState → Request → Bool
 wants_memory s (Run c) = true
-wants_memory s (Show n) = true
-wants_memory s (Find n path) = true
+wants_memory s (Ask q) = true
 wants_memory s (Watch scope) = not (is_some s.watcher)
 wants_memory s (Take k) = is_some s.watcher
 wants_memory s (Follow k) = is_some s.watcher

@@ -23,7 +23,7 @@ use Rattle.mt_desk.specs.Held.{IsLogged}
 use Rattle.mt_desk.specs.Calls.{WatcherView, unseen, IsApplied, IsClosed}
 use Rattle.mt_desk.specs.Headline.{Close as Closes, IsScheduledBy}
 use Rattle.mt_requests.specs.declared.request.Request.{Request}
-use Rattle.mt_requests.specs.declared.request.Request.TheVariants.{Run, Show, Find, Watch, Take, Follow, Close, Stop}
+use Rattle.mt_requests.specs.declared.request.Request.TheVariants.{Run, Ask, Watch, Take, Follow, Close, Stop}
 use Rattle.mt_events.specs.Texts.{lines_of_posts}
 use Rattle.mt_session.specs.Requests.{SessionState, session_state}
 use Rattle.mt_events.specs.declared.texts.PrintedPosts.{PrintedPosts}
@@ -89,8 +89,7 @@ IsDoneBy d w r now w' = (now ≡ d) × (w' ≡ w)
 -- though its posts could not be told.
 abbrev pub IsUndoneBy : DeskView → Option WatcherView → Request → DeskView → Option WatcherView → Type 0
 IsUndoneBy d w (Run c) now w' = (now ≡ d) × (w' ≡ w)
-IsUndoneBy d w (Show n) now w' = (now ≡ d) × (w' ≡ w)
-IsUndoneBy d w (Find n path) now w' = (now ≡ d) × (w' ≡ w)
+IsUndoneBy d w (Ask q) now w' = (now ≡ d) × (w' ≡ w)
 IsUndoneBy d None (Watch scope) now w' =
     (w' ≡ None)
     × ((now ≡ d) ⊎ ((held : DeskView) × (begun : WatcherView) × IsBegun d scope held (Some begun) × IsClosed held begun [] now))

@@ -2,17 +2,18 @@
 ghost use Rattle.std.specs.Prelude.{◌≡◌, ◌≢◌, IfOk, IfErr};
 ghost use Rattle.mt_book.specs.Step.{after};
 ghost use Rattle.mt_book.specs.Book.{found_at};
-ghost use Rattle.mt_session.specs.Answers.{refusal, shown_text, found_text};
+ghost use Rattle.mt_session.specs.Answers.{refusal, shown_text, found_text, query_text};
 
 use crate::text::Text;
 use mt_book::book::Book;
 use mt_events::texts::push_heading;
+use mt_requests::request::Query;
 use mt_skel::fault::Fault;
 use mt_skel::names::Names;
 use std::alloc::Global;
 
 /// The lines that show a namespace's table.
-pub(crate) fn show(alloc: Global, book: &Book, space: u64) -> Result<Text, Fault>
+fn show(alloc: Global, book: &Book, space: u64) -> Result<Text, Fault>
     ensures ok { IfOk result (λ text. text ≡ shown_text book.now.journal space) }
     ensures memory { IfErr result (λ fault. fault ≡ Fault.NoMemory) }
 {
@@ -38,7 +39,7 @@ pub(crate) fn told_refusal(fault: Fault) -> Result<Text, Fault>
 }
 
 /// The line that says where a path ends.
-pub(crate) fn find(alloc: Global, book: &Book, space: u64, path: &Names) -> Result<Text, Fault>
+fn find(alloc: Global, book: &Book, space: u64, path: &Names) -> Result<Text, Fault>
     ensures ok { IfOk result (λ text. text ≡ found_text (found_at (after book.now.journal) space path.now)) }
     ensures memory { IfErr result (λ fault. fault ≡ Fault.NoMemory) }
 {
@@ -47,5 +48,16 @@ pub(crate) fn find(alloc: Global, book: &Book, space: u64, path: &Names) -> Resu
         Ok((mount, names)) => Ok(Text::place(alloc, mount, &names)?),
         Err(Fault::NoMemory) => Err(Fault::NoMemory),
         Err(fault) => Ok(Text::refusal(fault)),
+    }
+}
+
+/// What a query is answered.
+pub(crate) fn asked(alloc: Global, book: &Book, query: &Query) -> Result<Text, Fault>
+    ensures ok { IfOk result (λ text. text ≡ query_text book.now.journal query.now) }
+    ensures memory { IfErr result (λ fault. fault ≡ Fault.NoMemory) }
+{
+    match query {
+        Query::Show(space) => show(alloc, book, *space),
+        Query::Find { space, path } => find(alloc, book, *space, path),
     }
 }

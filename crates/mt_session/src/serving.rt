@@ -50,8 +50,7 @@ pub(crate) fn end_of(request: &Request) -> Option<End>
         Request::Quit => Some(End::Quit),
         Request::Stop => Some(End::Stop),
         Request::Run(_)
-        | Request::Show(_)
-        | Request::Find { .. }
+        | Request::Ask(_)
         | Request::Watch(_)
         | Request::Take(_)
         | Request::Follow(_)

@@ -9,7 +9,7 @@ ghost use Rattle.mt_session.specs.Answers.{reply_text};
 ghost use Rattle.mt_session.specs.Serving.{reply_in, begun_in, phase_in};
 ghost use Rattle.mt_session.specs.Requests.{session_state, session_at, answer_to, state_to, left, begun, replied_text, opened_text, by_phase, rest_text, taken_text, end_of_followed, closed_text, taken, next_posts, IsUndone};
 
-use crate::queries::{find, show, told_refusal};
+use crate::queries::{asked, told_refusal};
 use crate::text::Text;
 use mt_book::command::{Command, Reply};
 use mt_events::opening::{Opening, Scope};
@@ -267,8 +267,7 @@ impl Session {
         floor.settle();
         match (request, self.watcher) {
             (Request::Run(command), _) => run(floor, command),
-            (Request::Show(space), _) => show(self.alloc, floor.book(), *space),
-            (Request::Find { space, path }, _) => find(self.alloc, floor.book(), *space, path),
+            (Request::Ask(query), _) => asked(self.alloc, floor.book(), query),
             (Request::Watch(scope), None) => self.watch(floor, *scope),
             (Request::Watch(_), Some(_)) => Ok(Text::refusal(Fault::WatcherOpen)),
             (Request::Take(most), Some(key)) => take(self.alloc, floor, key, *most),

@@ -13,7 +13,7 @@ ghost use Rattle.mt_session.specs.Requests.{answer_to, replied_text, opened_text
 ghost use Rattle.mt_session.specs.SharedSession.{new_session};
 ghost use Rattle.mt_session.specs.SharedTurns.{IsAtDesk, acts_at, floor_seen, found_state, is_under_lock, with_taken_posts, IsCommanded, IsBegun, IsDoneBy, IsUndoneBy, HasTaken, KeepsWatcher, HasPopped, HasEnded};
 
-use crate::queries::{find, show, told_refusal};
+use crate::queries::{asked, told_refusal};
 use crate::text::Text;
 use mt_book::command::{Command, Reply};
 use mt_desk::desk::{Desk, DeskWitness};
@@ -264,11 +264,9 @@ impl<J: Naming> SharedSession<J> {
     {
         let _held = desk.book();
         desk.look(&mut self.witness);
-        let book = desk.book();
         match request {
             Request::Run(command) => run(rt, desk, &mut self.witness, command),
-            Request::Show(space) => show(self.alloc, book, *space),
-            Request::Find { space, path } => find(self.alloc, book, *space, path),
+            Request::Ask(query) => asked(self.alloc, desk.book(), query),
             Request::Watch(scope) => self.watch(rt, desk, *scope),
             Request::Close => self.close(rt, desk),
             Request::Quit => Ok(Text::reply(Reply::Done)),
