@@ -1,3 +1,5 @@
+pub mod EndLaws
+pub mod LoopLaws
 pub mod PassLaws
 pub mod TurnLaws
 pub mod SessionLaws

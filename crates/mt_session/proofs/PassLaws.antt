@@ -1,5 +1,5 @@
 -- What one call of a reader of lines takes of known bytes, and lines one after another.
-use Rattle.std.proofs.Common.{◌≡◌, ℕ, List, [], ◌∷◌, ◌++◌, ap, sym, subst, ◌∙◌, Ok, Err, Option, Some, None, append_assoc}
+use Rattle.std.proofs.Common.{◌≡◌, ℕ, List, [], ◌∷◌, ◌++◌, ap, sym, ◌∙◌, Ok, Err, Option, Some, None, append_assoc}
 use Rattle.std.specs.Io.KnownBytes.{Appends, Keeps}
 use Rattle.std.proofs.KnownBytes.{Appends-nil}
 use Rattle.mt_lines.specs.declared.line.ReadFault.TheVariants.{Endless as NeverEnds}
@@ -23,15 +23,11 @@ pass_end None after bytes n = (tt, tt)
 pass_end (Some xs) None bytes n = absurd n
 pass_end (Some xs) (Some ys) bytes n = (n.0 ∙ sym (ap (lines_of line_limit) n.1 ∙ lines_of-nil line_limit), n.0)
 
--- the reader failed: with the limit of sessions it never wants memory
-pub pass_endless : (limit : ℕ) (before after : Option (List ℕ)) (kept : List ℕ) → limit ≡ line_limit → IsNextKnown limit before (Err NeverEnds) kept after → EndsInput (Read NeverEnds) before []
-pass_endless limit None after kept e n = tt
-pass_endless limit (Some xs) None kept e n = absurd n
-pass_endless limit (Some xs) (Some ys) kept e n = rw e at n
-
--- the reader has the limit of sessions
-pub next_at : (limit : ℕ) (before later : Option (List ℕ)) (bytes : List ℕ) (line : Line) → limit ≡ line_limit → IsNextKnown limit before (Ok line) bytes later → IsNextKnown line_limit before (Ok line) bytes later
-next_at limit before later bytes line e n = subst (λ x. IsNextKnown x before (Ok line) bytes later) e n
+-- the reader failed
+pub pass_endless : (before after : Option (List ℕ)) (kept : List ℕ) → IsNextKnown line_limit before (Err NeverEnds) kept after → EndsInput (Read NeverEnds) before []
+pass_endless None after kept n = tt
+pass_endless (Some xs) None kept n = absurd n
+pass_endless (Some xs) (Some ys) kept n = n
 
 -- how the input ends after these lines is how it ends after more of them
 pub input_more : (by : End) (a b : Option (List ℕ)) (xs ys : List Item) → PassLines line_limit a xs b → EndsInput by b ys → EndsInput by a (xs ++ ys)

@@ -1,12 +1,11 @@
 -- What a session has served, line by line.
-use Rattle.std.proofs.Common.{subst, ◌≡◌, ◌≢◌, ℕ, ◌+◌, ◌<◌, ◌≤◌, Bool, List, [], ◌∷◌, ◌++◌, take, refl, ap, sym, ◌∙◌, inl, inr, true, false, Result, Ok, Err, Option, Some, None, append_assoc, arith, length, length-append}
+use Rattle.std.proofs.Common.{subst, ◌≡◌, ◌≢◌, ℕ, zero, suc, ◌+◌, ◌<◌, ◌≤◌, Bool, List, [], ◌∷◌, ◌++◌, take, refl, ap, sym, ◌∙◌, inl, inr, true, false, Result, Ok, Err, Option, Some, None, append_assoc, arith, length, length-append}
 use Rattle.std.proofs.lemmas.List.{append-nil, map-append}
 use Rattle.std.specs.Option.{ForSome}
 use Rattle.mt_skel.specs.declared.fault.Fault.{Fault}
 use Rattle.mt_skel.specs.declared.fault.Fault.TheVariants.{BadLine, TooLong as LineTooLong, NoMemory as WantsMemory}
 use Rattle.mt_requests.specs.declared.request.Request.{Request}
 use Rattle.mt_requests.specs.Requests.{request_of, may_want_memory, ReadsAs}
-use Rattle.mt_lines.specs.declared.stream.StreamFault.{StreamFault}
 use Rattle.mt_lines.specs.declared.stream.Cut.{Cut}
 use Rattle.mt_lines.specs.declared.line.ReadFault.{ReadFault}
 use Rattle.mt_lines.specs.declared.line.ReadFault.TheVariants.{Device, Interrupted, Endless as NeverEnds, NoMemory as NoRoom}
@@ -15,15 +14,16 @@ use Rattle.std.proofs.KnownBytes.{Appends-nil, Appends-trans}
 use Rattle.mt_lines.specs.Lines.{Item, Unended}
 use Rattle.mt_lines.specs.declared.line.Line.{Line}
 use Rattle.mt_lines.specs.declared.line.Line.TheVariants.{Text as TextLine, TooLong as LongLine, Unended as BrokenLine, End as NoLine}
-use Rattle.mt_lines.specs.Reading.{IsNextKnown, LosesNoLine, IsFaultCause, PassLines}
+use Rattle.mt_lines.specs.Reading.{IsNextKnown, LosesNoLine, PassLines}
 use Rattle.mt_session.specs.declared.serving.End.{End}
 use Rattle.mt_session.specs.declared.serving.End.TheVariants.{Quit, Stop, Input, Read, Cut as CutOff, Memory, Spent}
 use Rattle.mt_floor.specs.Schedule.{FloorView, settled}
 use Rattle.mt_floor.proofs.SettledLaws.{settled_idle}
 use Rattle.mt_session.specs.Answers.{refusal}
 use Rattle.mt_session.specs.Requests.{SessionState, session_state, session_at, answer_to, state_to, begins_watcher, left, IsUndone}
-use Rattle.mt_session.specs.Session.{Granted, Refused, Unshown, Asking, Whole, Overlong, Broken, item_of, items_of, has_end, Turn, request_of_line, may_fail, answer_to_turn, state_after_turn, end_of_turn, ends_by, text_of, state_after, AllGoOn, Going, Served, ServedLine, IsCause, sent_by, line_limit, EndsInput, IsReadEnd, IsReadEndRun, IsCutCause, IsCutRun}
-use Rattle.mt_session.specs.Serving.{the_turn, Answered, AnswersLine, Ran, IsSent, ends_whole, ends_by_answer}
+use Rattle.mt_session.specs.Session.{Granted, Refused, Unshown, Asking, Whole, Overlong, Broken, item_of, items_of, has_end, Turn, request_of_line, may_fail, answer_to_turn, state_after_turn, end_of_turn, ends_by, text_of, state_after, AllGoOn, Going, Served, ServedLine, IsCause, sent_by, line_limit, EndsInput}
+use Rattle.mt_session.specs.Answering.{IsSent, ends_whole, AnswersLine, ServesNext, ServesLines, ServesAll}
+use Rattle.mt_session.specs.Serving.{the_turn, Answered, OnFloor, LinesAreServed, Ran}
 use Rattle.mt_lines.proofs.PassLaws.{pass_none, pass_more, pass_text, pass_long}
 use Rattle.mt_session.proofs.PassLaws.{pass_broken, pass_end, pass_endless, input_more, kept_nothing}
 
@@ -139,30 +139,36 @@ served_none : (before rest later : Option (List ℕ)) (old : SessionState) (sent
 served_none before rest later old sent written by lines input keeps nothing cause =
     served_one before rest later [] old old sent written by (omega arith) lines input refl (rw nothing (kept_nothing sent written keeps)) cause
 
--- the reader failed: with the limit of sessions it never wants memory
-pub after_fault : (limit : ℕ) (before later : Option (List ℕ)) (kept : List ℕ) (f : ReadFault) (old : SessionState) (sent written : Option (List ℕ)) → limit ≡ line_limit → (f ≡ NoRoom → 8192 < limit) → IsNextKnown limit before (Err f) kept later → LosesNoLine (Err f) before later
+-- the reader failed
+after_fault : (before later : Option (List ℕ)) (kept : List ℕ) (f : ReadFault) (old : SessionState) (sent written : Option (List ℕ)) → f ≢ NoRoom → IsNextKnown line_limit before (Err f) kept later → LosesNoLine (Err f) before later
     → Keeps sent written → ServedLine before later old old sent written (Some (Read f))
-after_fault limit before later kept NeverEnds old sent written e m n whole keeps = served_none before before later old sent written (Read NeverEnds) (pass_none line_limit before) (pass_endless limit before later kept e n) keeps refl refl
-after_fault limit before later kept NoRoom old sent written e m n whole keeps = absurd (let over = m refl in omega (arith, over, e))
-after_fault limit before later kept f old sent written e m n whole keeps = served_none before before later old sent written (Read f) (pass_none line_limit before) tt keeps refl (refl, whole)
+after_fault before later kept NeverEnds old sent written room n whole keeps = served_none before before later old sent written (Read NeverEnds) (pass_none line_limit before) (pass_endless before later kept n) keeps refl refl
+after_fault before later kept NoRoom old sent written room n whole keeps = absurd (room refl)
+after_fault before later kept f old sent written room n whole keeps = served_none before before later old sent written (Read f) (pass_none line_limit before) tt keeps refl (refl, whole)
+
+-- a session on a floor
+abbrev OnFloors : Type 0
+OnFloors = FloorView × Option ℕ
+
+abbrev state_of : OnFloors → SessionState
+state_of s = session_state s.0 s.1
 
 -- a line that a reader served
-pub line_served : (before later : Option (List ℕ)) (bytes : List ℕ) (line : Line) (old new : SessionState) (sent written : Option (List ℕ)) (result : Option End)
-    → IsNextKnown line_limit before (Ok line) bytes later → AnswersLine line bytes old new sent written result → ServedLine before later old new sent written result
-line_served before later bytes TextLine old new sent written result n a = after_text before later (Whole bytes) old new sent written a.0 a.1 result (pass_text line_limit before later bytes n) refl a.2 a.3 a.4
-line_served before later bytes LongLine old new sent written result n a =
-    rw a.0 (after_text before later Overlong old old sent written (refusal LineTooLong) None result (pass_long line_limit before later bytes n) refl (answered_fixed old Overlong LineTooLong refl) (λ e is. cc) a.1)
-line_served before later bytes BrokenLine old new sent written result n a =
+line_served : (before later : Option (List ℕ)) (bytes : List ℕ) (line : Line) (s s' : OnFloors) (sent written : Option (List ℕ)) (end : Option End)
+    → IsNextKnown line_limit before (Ok line) bytes later → AnswersLine OnFloor line bytes s sent written end s' → ServedLine before later (state_of s) (state_of s') sent written end
+line_served before later bytes TextLine s s' sent written end n a = after_text before later (Whole bytes) (state_of s) (state_of s') sent written a.0 a.1 end (pass_text line_limit before later bytes n) refl a.2 a.3 a.4
+line_served before later bytes LongLine s s' sent written end n a =
+    rw a.0 (after_text before later Overlong (state_of s) (state_of s) sent written (refusal LineTooLong) None end (pass_long line_limit before later bytes n) refl (answered_fixed (state_of s) Overlong LineTooLong refl) (λ e is. cc) a.1)
+line_served before later bytes BrokenLine s s' sent written end n a =
     let passed = pass_broken before later bytes n in
-    rw a.0 (after_unended before later old sent written (refusal BadLine) result passed.0 passed.1 (answered_fixed old Broken BadLine refl) a.1)
-line_served before later bytes NoLine old new sent written result n a =
+    rw a.0 (after_unended before later (state_of s) sent written (refusal BadLine) end passed.0 passed.1 (answered_fixed (state_of s) Broken BadLine refl) a.1)
+line_served before later bytes NoLine s s' sent written end n a =
     let passed = pass_end before later bytes n in
-    rw (a.0, a.2) (served_none before later later old sent written Input passed.0 passed.1 a.1 refl (inl refl, refl))
+    rw (a.0, a.2) (served_none before later later (state_of s) sent written Input passed.0 passed.1 a.1 refl (inl refl, refl))
 
--- the end that it brings
-pub line_ends : (line : Line) (bytes : List ℕ) (old new : SessionState) (sent written : Option (List ℕ)) (by : End) → AnswersLine line bytes old new sent written (Some by) → ends_by_answer by ≡ true
-line_ends TextLine bytes old new sent written by a = let whole = a.3 by in let s = a.4 in grind (arith, whole, s)
-line_ends line bytes old new sent written by a = grind arith
+pub next_served : LinesAreServed
+next_served before later s s' sent written end (inl (line, bytes, n, a)) = line_served before later bytes line s s' sent written end n a
+next_served before later s s' sent written end (inr (f, is, w)) = rw (is, w.3) (after_fault before later w.1.0 f (state_of s) sent written w.0 w.1.1 w.2 w.4)
 
 -- where nothing is due, nothing has to be sent first
 pub at_rest : (floor : FloorView) (watcher : Option ℕ) → floor.due ≡ [] → session_at floor watcher ≡ session_state floor watcher
@@ -200,14 +206,14 @@ AllGoOn-append [] ys h k = k
 AllGoOn-append (x ∷ xs) ys h k = (h.0, h.1, AllGoOn-append xs ys h.2 k)
 
 -- no line was served yet
-pub Going-none : (before : Option (List ℕ)) (state : SessionState) (sent : Option (List ℕ)) → Going [] before before state state sent sent
+Going-none : (before : Option (List ℕ)) (state : SessionState) (sent : Option (List ℕ)) → Going [] before before state state sent sent
 Going-none before state sent = record { lines = pass_none line_limit before; state = refl; out = Appends-nil sent; goes = tt }
 
 -- lines served, and then more
 items_of-append : (xs ys : List Turn) → items_of (xs ++ ys) ≡ items_of xs ++ items_of ys
 items_of-append xs ys = map-append (λ (turn : Turn). item_of turn.line) xs ys
 
-pub Going-more : (turns more : List Turn) (before mid later : Option (List ℕ)) (old now new : SessionState) (sent so_far written : Option (List ℕ)) → Going turns before mid old now sent so_far → Going more mid later now new so_far written → Going (turns ++ more) before later old new sent written
+Going-more : (turns more : List Turn) (before mid later : Option (List ℕ)) (old now new : SessionState) (sent so_far written : Option (List ℕ)) → Going turns before mid old now sent so_far → Going more mid later now new so_far written → Going (turns ++ more) before later old new sent written
 Going-more turns more before mid later old now new sent so_far written a b = record {
   lines = subst (λ x. PassLines line_limit before x later) (sym (items_of-append turns more)) (pass_more line_limit before mid later (items_of turns) (items_of more) a.lines b.lines);
   state = b.state ∙ ap (state_after more) a.state ∙ sym (state_after-append turns more old);
@@ -226,7 +232,7 @@ cause_more (Read NoRoom) turns more last text whole rest later few e c = c
 cause_more by turns more last text whole rest later few e c = c
 
 -- lines served, and then the last
-pub Served-more : (turns : List Turn) (before mid later : Option (List ℕ)) (old now new : SessionState) (sent so_far written : Option (List ℕ)) (by : End) → Going turns before mid old now sent so_far → (b : Ran mid later now new so_far written by) → length b.turns + length b.last ≤ 1
+Served-more : (turns : List Turn) (before mid later : Option (List ℕ)) (old now new : SessionState) (sent so_far written : Option (List ℕ)) (by : End) → Going turns before mid old now sent so_far → (b : Ran mid later now new so_far written by) → length b.turns + length b.last ≤ 1
     → length turns < 16777216 → Ran before later old new sent written by
 Served-more turns before mid later old now new sent so_far written by a b few count =
     let items = items_of b.turns ++ items_of b.last in
@@ -250,7 +256,7 @@ Served-more turns before mid later old now new sent so_far written by a b few co
     }
 
 -- as many lines were served as a session serves
-pub Going-spent : (turns : List Turn) (before later : Option (List ℕ)) (old now : SessionState) (sent written : Option (List ℕ)) → Going turns before later old now sent written → length turns ≡ 16777216 → Ran before later old now sent written Spent
+Going-spent : (turns : List Turn) (before later : Option (List ℕ)) (old now : SessionState) (sent written : Option (List ℕ)) → Going turns before later old now sent written → length turns ≡ 16777216 → Ran before later old now sent written Spent
 Going-spent turns before later old now sent written a count = record {
   turns = turns;
   last = [];
@@ -269,50 +275,28 @@ pub line_remembers : (by : End) (turns last : List Turn) (text : List ℕ) (rest
 line_remembers Memory turns last text rest later c is = c
 line_remembers by turns last text rest later c is = cc
 
--- an end by which no answer was cut, as one that comes once an answer is out whole: no call of the writer has failed
-abbrev pub is_uncut : Option End → Bool
-is_uncut (Some (CutOff cut)) = false
-is_uncut end = true
+-- ---- The loop over lines
 
-pub whole_uncut : (end : Option End) → ForSome end (λ e. ends_whole e ≡ true) → is_uncut end ≡ true
-whole_uncut None h = refl
-whole_uncut (Some by) h = let whole = h by refl in grind arith
+going_lines : (n : ℕ) (before later : Option (List ℕ)) (s s' : OnFloors) (sent written : Option (List ℕ)) → ServesLines OnFloor n before s sent later s' written
+    → (turns : List Turn) × (length turns ≡ n) × Going turns before later (state_of s) (state_of s') sent written
+unfolding ServesLines
+going_lines zero before later s s' sent written (b, t, w) = rw (b, t, w) ([], refl, Going-none before (state_of s) sent)
+going_lines (suc n) before later s s' sent written (mid, now, so_far, first, next) =
+    let i = going_lines n before mid s now sent so_far first in
+    let one = next_served mid later now s' so_far written None next in
+    (i.0 ++ one.0 ∷ [], simp length-append (omega (arith, i.1)), Going-more i.0 (one.0 ∷ []) before mid later (state_of s) (state_of now) (state_of s') sent so_far written i.2 one.1)
 
-pub uncut_cause : (end : Option End) (old new : ℕ) → is_uncut end ≡ true → old ≤ new → IsCutCause end old new
-uncut_cause end old new h le = grind arith
+pub all_ran : (before later : Option (List ℕ)) (s s' : OnFloors) (sent written : Option (List ℕ)) (by : End) → ServesAll OnFloor before s sent by later s' written → Ran before later (state_of s) (state_of s') sent written by
+unfolding ServesAll
+all_ran before later s s' sent written by (inl (n, mid, now, so_far, few, first, next)) =
+    let i = going_lines n before mid s now sent so_far first in
+    let b = next_served mid later now s' so_far written (Some by) next in
+    Served-more i.0 before mid later (state_of s) (state_of now) (state_of s') sent so_far written by i.2 b.0 b.1 (omega (arith, i.1, few))
+all_ran before later s s' sent written by (inr (n, all, is, lines)) =
+    let i = going_lines n before later s s' sent written lines in
+    rw is (Going-spent i.0 before later (state_of s) (state_of s') sent written i.2 (omega (arith, i.1, all)))
 
-pub uncut_run : (end : Option End) (faults : List StreamFault) → is_uncut end ≡ true → faults ≡ [] → IsCutRun end faults
-uncut_run end faults h none = grind arith
-
--- an end that is not the reader's
-abbrev pub is_by_answer : Option End → Bool
-is_by_answer (Some (Read f)) = false
-is_by_answer end = true
-
-pub by_answer_read : (end : Option End) (old new : ℕ) → is_by_answer end ≡ true → old ≤ new → IsReadEnd end old new
-by_answer_read end old new h le = grind arith
-
-pub by_answer_run : (end : Option End) (faults : List StreamFault) → is_by_answer end ≡ true → faults ≡ [] → IsReadEndRun end faults
-by_answer_run end faults h none = grind arith
-
--- the answer to a line brings none
-ends_so : (line : Line) (bytes : List ℕ) (old new : SessionState) (sent written : Option (List ℕ)) (end : Option End) → AnswersLine line bytes old new sent written end → is_by_answer end ≡ true
-ends_so line bytes old new sent written None a = refl
-ends_so line bytes old new sent written (Some by) a = let h = line_ends line bytes old new sent written by a in grind arith
-
-pub answered_read : (line : Line) (bytes : List ℕ) (old new : SessionState) (sent written : Option (List ℕ)) (end : Option End) (before after : ℕ) → AnswersLine line bytes old new sent written end → before ≤ after → IsReadEnd end before after
-answered_read line bytes old new sent written end before after a le = by_answer_read end before after (ends_so line bytes old new sent written end a) le
-
-pub answered_run : (line : Line) (bytes : List ℕ) (old new : SessionState) (sent written : Option (List ℕ)) (end : Option End) (faults : List StreamFault) → AnswersLine line bytes old new sent written end → faults ≡ [] → IsReadEndRun end faults
-answered_run line bytes old new sent written end faults a none = by_answer_run end faults (ends_so line bytes old new sent written end a) none
-
--- counts of failed calls that have risen before rise on
-fault_more : (f : ReadFault) (first old new : ℕ) → first ≤ old → IsFaultCause f old new → IsFaultCause f first new
-fault_more f first old new le h = grind (arith, le, h)
-
-pub read_more : (by : End) (first old new : ℕ) → first ≤ old → IsReadEnd (Some by) old new → IsReadEnd (Some by) first new
-read_more (Read f) first old new le h = fault_more f first old new le h
-read_more by first old new le h = omega (arith, le, h)
-
-pub cut_more : (by : End) (first old new : ℕ) → first ≤ old → IsCutCause (Some by) old new → IsCutCause (Some by) first new
-cut_more by first old new le h = grind (arith, le, h)
+-- a line brings no end by want of memory
+pub line_remembers : (by : End) (turns last : List Turn) (text : List ℕ) (rest later : Option (List ℕ)) → IsCause by turns last text rest later → by ≢ Memory
+line_remembers Memory turns last text rest later c is = c
+line_remembers by turns last text rest later c is = cc

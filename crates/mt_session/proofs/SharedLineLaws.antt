@@ -1,5 +1,5 @@
 -- What a session in a thread of its own has answered: the pieces of an answer, and line by line.
-use Rattle.std.proofs.Common.{subst, ◌≡◌, ℕ, ◌<◌, ◌≤◌, List, [], ◌∷◌, ◌++◌, map, take, refl, ap, sym, inl, inr, true, Result, Ok, Err, Option, Some, None, arith, length, unwrap_or}
+use Rattle.std.proofs.Common.{subst, ◌≡◌, ◌≢◌, ℕ, zero, suc, ◌<◌, ◌≤◌, List, [], ◌∷◌, ◌++◌, map, take, refl, ap, sym, inl, inr, true, Result, Ok, Err, Option, Some, None, arith, length, length-append, unwrap_or}
 use Rattle.std.proofs.lemmas.List.{append-nil, map-append}
 use Rattle.std.proofs.lemmas.Grind.{flat_map-append}
 use Rattle.std.specs.List.{flat_map}
@@ -10,7 +10,6 @@ use Rattle.mt_lines.specs.declared.line.ReadFault.{ReadFault}
 use Rattle.mt_lines.specs.declared.line.ReadFault.TheVariants.{Endless as NeverEnds, NoMemory as NoRoom}
 use Rattle.std.specs.Io.KnownBytes.{Appends, Keeps}
 use Rattle.std.proofs.KnownBytes.{Appends-nil, Appends-trans}
-use Rattle.mt_lines.specs.declared.stream.StreamFault.{StreamFault}
 use Rattle.mt_lines.specs.Lines.{Item, Unended}
 use Rattle.mt_lines.specs.declared.line.Line.{Line}
 use Rattle.mt_lines.specs.declared.line.Line.TheVariants.{Text as TextLine, TooLong as LongLine, Unended as BrokenLine, End as NoLine}
@@ -24,11 +23,11 @@ use Rattle.mt_session.specs.declared.serving.End.TheVariants.{Input, Read, Cut a
 use Rattle.mt_session.specs.declared.shared_answer.Then.{Then}
 use Rattle.mt_session.specs.declared.shared_answer.Then.TheVariants.{More, Over}
 use Rattle.mt_session.specs.Answers.{refusal}
-use Rattle.mt_session.specs.Session.{Asking, Whole, Overlong, Broken, item_of, has_end, request_of_line, ends_by, line_limit, EndsInput, IsReadEnd, IsReadEndRun}
-use Rattle.mt_session.specs.Serving.{IsSent}
+use Rattle.mt_session.specs.Session.{Asking, Whole, Overlong, Broken, item_of, has_end, request_of_line, ends_by, line_limit, EndsInput}
+use Rattle.mt_session.specs.Answering.{IsSent, is_by_answer, AnswersLine, ServesNext, ServesLines, ServesAll}
 use Rattle.mt_session.specs.SharedSession.{new_session, IsTurn, IsInFront, IsAnswerSoFar, SharedTurn, AreTurns, TurnsGoOn, HasLeft, WasLeft, ServedShared, FollowsSoFar, EndsOfInput, EndsOfAnswer, SharedGoing, SharedEnding, ServedSharedLine}
-use Rattle.mt_session.specs.SharedServing.{IsKeptOrLeft, Follows, IsSoFar, AnswersWhole, IsPiece, IsCutPiece, IsOutcome, ServesAsked, ServesLine}
-use Rattle.mt_session.proofs.SessionLaws.{is_uncut, is_by_answer, by_answer_read, by_answer_run}
+use Rattle.mt_session.specs.SharedServing.{IsKeptOrLeft, Follows, IsSoFar, AnswersWhole, IsPiece, IsCutPiece, IsOutcome, ServesAsked, OnDesk, SharedLinesAreServed}
+use Rattle.mt_session.proofs.EndLaws.{is_uncut}
 use Rattle.mt_lines.proofs.PassLaws.{pass_none, pass_more, pass_text, pass_long}
 use Rattle.mt_session.proofs.PassLaws.{pass_broken, pass_end, pass_endless, input_more, kept_nothing}
 use Rattle.mt_history.specs.declared.act.LogEntry.{LogEntry}
@@ -204,23 +203,27 @@ input_ends : (before rest later : Option (List ℕ)) (w : SharedView) (sent writ
 input_ends before rest later w sent written by lines input keeps ends =
     record { last = []; rest = rest; lines = lines; input = input; out = []; written_is = kept_nothing sent written keeps; ends = inl (ends, refl); left = left_so w }
 
--- the reader failed: with the limit of sessions it never wants memory
-pub fault_served : (limit : ℕ) (before later : Option (List ℕ)) (kept : List ℕ) (f : ReadFault) (w : SharedView) (sent written : Option (List ℕ))
-    → limit ≡ line_limit → (f ≡ NoRoom → 8192 < limit) → IsNextKnown limit before (Err f) kept later → LosesNoLine (Err f) before later → Keeps sent written → ServedSharedLine before later w w sent written (Some (Read f))
-fault_served limit before later kept NeverEnds w sent written e m n whole keeps = input_ends before before later w sent written (Read NeverEnds) (pass_none line_limit before) (pass_endless limit before later kept e n) keeps (refl, refl)
-fault_served limit before later kept NoRoom w sent written e m n whole keeps = absurd (let over = m refl in omega (arith, over, e))
-fault_served limit before later kept f w sent written e m n whole keeps = input_ends before before later w sent written (Read f) (pass_none line_limit before) tt keeps (whole, refl, refl)
+-- the reader failed
+fault_served : (before later : Option (List ℕ)) (kept : List ℕ) (f : ReadFault) (w : SharedView) (sent written : Option (List ℕ))
+    → f ≢ NoRoom → IsNextKnown line_limit before (Err f) kept later → LosesNoLine (Err f) before later → Keeps sent written → ServedSharedLine before later w w sent written (Some (Read f))
+fault_served before later kept NeverEnds w sent written room n whole keeps = input_ends before before later w sent written (Read NeverEnds) (pass_none line_limit before) (pass_endless before later kept n) keeps (refl, refl)
+fault_served before later kept NoRoom w sent written room n whole keeps = absurd (room refl)
+fault_served before later kept f w sent written room n whole keeps = input_ends before before later w sent written (Read f) (pass_none line_limit before) tt keeps (whole, refl, refl)
 
 -- a line that a reader served
-pub line_answered : (before later : Option (List ℕ)) (bytes : List ℕ) (line : Line) (w w' : SharedView) (sent written : Option (List ℕ)) (result : Option End)
-    → IsNextKnown line_limit before (Ok line) bytes later → ServesLine line bytes w sent written result w' → ServedSharedLine before later w w' sent written result
-line_answered before later bytes TextLine w w' sent written result n a = line_served before later (Whole bytes) w w' sent written result (pass_text line_limit before later bytes n) refl a
-line_answered before later bytes LongLine w w' sent written result n a =
-    rw a.0 (line_served before later Overlong w w sent written result (pass_long line_limit before later bytes n) refl (refused_served w LineTooLong sent written result a.1))
-line_answered before later bytes BrokenLine w w' sent written result n a =
-    let passed = pass_broken before later bytes n in rw a.0 (unended_served before later w sent written result passed.0 passed.1 a.1)
-line_answered before later bytes NoLine w w' sent written result n a =
-    let passed = pass_end before later bytes n in rw (a.0, a.2) (input_ends before later later w sent written Input passed.0 passed.1 a.1 (refl, inl (refl, refl)))
+line_answered : {P : Type 0} (before later : Option (List ℕ)) (bytes : List ℕ) (line : Line) (s s' : P × SharedView) (sent written : Option (List ℕ)) (end : Option End)
+    → IsNextKnown line_limit before (Ok line) bytes later → AnswersLine OnDesk line bytes s sent written end s' → ServedSharedLine before later s.1 s'.1 sent written end
+line_answered before later bytes TextLine s s' sent written end n a = line_served before later (Whole bytes) s.1 s'.1 sent written end (pass_text line_limit before later bytes n) refl a
+line_answered before later bytes LongLine s s' sent written end n a =
+    rw a.0 (line_served before later Overlong s.1 s.1 sent written end (pass_long line_limit before later bytes n) refl (refused_served s.1 LineTooLong sent written end a.1))
+line_answered before later bytes BrokenLine s s' sent written end n a =
+    let passed = pass_broken before later bytes n in rw a.0 (unended_served before later s.1 sent written end passed.0 passed.1 a.1)
+line_answered before later bytes NoLine s s' sent written end n a =
+    let passed = pass_end before later bytes n in rw (a.0, a.2) (input_ends before later later s.1 sent written Input passed.0 passed.1 a.1 (refl, inl (refl, refl)))
+
+pub next_answered : {P : Type 0} → SharedLinesAreServed P
+next_answered before later s s' sent written end (inl (line, bytes, n, a)) = line_answered before later bytes line s s' sent written end n a
+next_answered before later s s' sent written end (inr (f, is, w)) = rw (is, w.3) (fault_served before later w.1.0 f s.1 sent written w.0 w.1.1 w.2 w.4)
 
 -- lines one after another
 AreTurns-append : (xs ys : List SharedTurn) (w mid w' : SharedView) → AreTurns w xs mid → AreTurns mid ys w' → AreTurns w (xs ++ ys) w'
@@ -231,10 +234,10 @@ TurnsGoOn-append : (xs ys : List SharedTurn) → TurnsGoOn xs → TurnsGoOn ys �
 TurnsGoOn-append [] ys h k = k
 TurnsGoOn-append (x ∷ xs) ys h k = (h.0, h.1, TurnsGoOn-append xs ys h.2 k)
 
-pub going_none : (before : Option (List ℕ)) (w : SharedView) (sent : Option (List ℕ)) → SharedGoing [] before before w w sent sent
+going_none : (before : Option (List ℕ)) (w : SharedView) (sent : Option (List ℕ)) → SharedGoing [] before before w w sent sent
 going_none before w sent = record { lines = pass_none line_limit before; told = refl; goes = tt; written_is = Appends-nil sent }
 
-pub going_more : (turns more : List SharedTurn) (before mid later : Option (List ℕ)) (w now w' : SharedView) (sent so_far written : Option (List ℕ))
+going_more : (turns more : List SharedTurn) (before mid later : Option (List ℕ)) (w now w' : SharedView) (sent so_far written : Option (List ℕ))
     → SharedGoing turns before mid w now sent so_far → SharedGoing more mid later now w' so_far written → SharedGoing (turns ++ more) before later w w' sent written
 going_more turns more before mid later w now w' sent so_far written a b =
     let item : SharedTurn → Item = λ (t : SharedTurn). item_of t.line in
@@ -251,7 +254,7 @@ begins_in : (turns : List SharedTurn) (w now : SharedView) → w.own ≡ None �
 begins_in turns w now none told = subst (λ (x : Option WatcherView). AreTurns (record { own = x; sight = w.sight }) turns now) none told
 
 -- the session ends with the next line
-pub served_ending : (turns : List SharedTurn) (before mid later : Option (List ℕ)) (w now then : SharedView) (sent so_far written : Option (List ℕ)) (by : End) (v : WitnessView)
+served_ending : (turns : List SharedTurn) (before mid later : Option (List ℕ)) (w now then : SharedView) (sent so_far written : Option (List ℕ)) (by : End) (v : WitnessView)
     → w.own ≡ None → SharedGoing turns before mid w now sent so_far → SharedEnding mid later now then so_far written by → length turns < 16777216 → HasLeft then.own v.seen → SeesOn then.sight v
     → ServedShared before later sent written by w.sight v
 served_ending turns before mid later w now then sent so_far written by v none a b count left sees =
@@ -277,7 +280,7 @@ served_ending turns before mid later w now then sent so_far written by v none a 
     }
 
 -- as many lines were served as a session serves
-pub served_spent : (turns : List SharedTurn) (before later : Option (List ℕ)) (w now : SharedView) (sent written : Option (List ℕ)) (v : WitnessView)
+served_spent : (turns : List SharedTurn) (before later : Option (List ℕ)) (w now : SharedView) (sent written : Option (List ℕ)) (v : WitnessView)
     → w.own ≡ None → SharedGoing turns before later w now sent written → length turns ≡ 16777216 → HasLeft now.own v.seen → SeesOn now.sight v → ServedShared before later sent written Spent w.sight v
 served_spent turns before later w now sent written v none a count left sees =
     let item : SharedTurn → Item = λ (t : SharedTurn). item_of t.line in
@@ -301,27 +304,32 @@ served_spent turns before later w now sent written v none a count left sees =
       sight = sees;
     }
 
+-- ---- The loop over lines
+
+going_lines : {P : Type 0} (n : ℕ) (before later : Option (List ℕ)) (s s' : P × SharedView) (sent written : Option (List ℕ)) → ServesLines OnDesk n before s sent later s' written
+    → (turns : List SharedTurn) × (length turns ≡ n) × SharedGoing turns before later s.1 s'.1 sent written
+unfolding ServesLines
+going_lines zero before later s s' sent written (b, t, w) = rw (b, t, w) ([], refl, going_none before s.1 sent)
+going_lines (suc n) before later s s' sent written (mid, now, so_far, first, next) =
+    let i = going_lines n before mid s now sent so_far first in
+    let one = next_answered mid later now s' so_far written None next in
+    (i.0 ++ one.0 ∷ [], simp length-append (omega (arith, i.1)), going_more i.0 (one.0 ∷ []) before mid later s.1 now.1 s'.1 sent so_far written i.2 one.1)
+
+pub all_served : {P : Type 0} (before later : Option (List ℕ)) (s s' : P × SharedView) (sent written : Option (List ℕ)) (by : End) (v : WitnessView)
+    → s.1.own ≡ None → ServesAll OnDesk before s sent by later s' written → HasLeft s'.1.own v.seen → SeesOn s'.1.sight v → ServedShared before later sent written by s.1.sight v
+unfolding ServesAll
+all_served before later s s' sent written by v none (inl (n, mid, now, so_far, few, first, next)) left sees =
+    let i = going_lines n before mid s now sent so_far first in
+    served_ending i.0 before mid later s.1 now.1 s'.1 sent so_far written by v none i.2 (next_answered mid later now s' so_far written (Some by) next) (omega (arith, i.1, few)) left sees
+all_served before later s s' sent written by v none (inr (n, all, is, lines)) left sees =
+    let i = going_lines n before later s s' sent written lines in
+    rw is (served_spent i.0 before later s.1 s'.1 sent written v none i.2 (omega (arith, i.1, all)) left sees)
+
 -- ---- What brings no end by the reader
 
-serves_read : (w w' : SharedView) (asked : Result Request Fault) (sent written : Option (List ℕ)) (result : Option End) → ServesAsked w asked sent written result w' → is_by_answer result ≡ true
+pub serves_read : (w w' : SharedView) (asked : Result Request Fault) (sent written : Option (List ℕ)) (result : Option End) → ServesAsked w asked sent written result w' → is_by_answer result ≡ true
 serves_read w w' asked sent written None s = refl
 serves_read w w' asked sent written (Some by) s = ends_answer by w asked s.out w' s.outcome where
   ends_answer : (by : End) (w : SharedView) (asked : Result Request Fault) (out : List ℕ) (w' : SharedView) → EndsOfAnswer by w asked out w' → is_by_answer (Some by) ≡ true
   ends_answer (Read f) w asked out w' h = absurd h
   ends_answer by w asked out w' h = refl
-
-sent_read : (sent written : Option (List ℕ)) (text : List ℕ) (wanted result : Option End) → is_by_answer wanted ≡ true → IsSent sent written text wanted result → is_by_answer result ≡ true
-sent_read sent written text wanted result h (inl s) = rw s.0 h
-sent_read sent written text wanted result h (inr s) = rw s.1 refl
-
-answered_by : (line : Line) (bytes : List ℕ) (w w' : SharedView) (sent written : Option (List ℕ)) (result : Option End) → ServesLine line bytes w sent written result w' → is_by_answer result ≡ true
-answered_by TextLine bytes w w' sent written result a = serves_read w w' (request_of bytes) sent written result a
-answered_by LongLine bytes w w' sent written result a = sent_read sent written (refusal LineTooLong) None result refl a.1
-answered_by BrokenLine bytes w w' sent written result a = sent_read sent written (refusal BadLine) (Some Input) result refl a.1
-answered_by NoLine bytes w w' sent written result a = rw a.2 refl
-
-pub answered_read : (line : Line) (bytes : List ℕ) (w w' : SharedView) (sent written : Option (List ℕ)) (result : Option End) (before after : ℕ) → ServesLine line bytes w sent written result w' → before ≤ after → IsReadEnd result before after
-answered_read line bytes w w' sent written result before after a le = by_answer_read result before after (answered_by line bytes w w' sent written result a) le
-
-pub answered_run : (line : Line) (bytes : List ℕ) (w w' : SharedView) (sent written : Option (List ℕ)) (result : Option End) (faults : List StreamFault) → ServesLine line bytes w sent written result w' → faults ≡ [] → IsReadEndRun result faults
-answered_run line bytes w w' sent written result faults a none = by_answer_run result faults (answered_by line bytes w w' sent written result a) none

@@ -1,37 +1,17 @@
--- One line of a session, as its steps see it. No public clause cites this module.
+-- One line of a plain session, as its steps see it.
 -- A word with no source is this project's rule.
-use Rattle.std.specs.Prelude.{◌≡◌, ℕ, ◌<◌, List, length, take, Bool, true, false, Option, None, Some, ◌⊎◌}
+use Rattle.std.specs.Prelude.{◌≡◌, ℕ, List, true, Option, None, Some}
 use Rattle.std.specs.Option.{ForSome}
-use Rattle.mt_skel.specs.declared.fault.Fault.TheVariants.{BadLine, TooLong as LineTooLong}
-use Rattle.std.specs.Io.KnownBytes.{Appends, Keeps}
-use Rattle.mt_lines.specs.declared.stream.Cut.{Cut}
-use Rattle.mt_lines.specs.declared.line.Line.{Line}
-use Rattle.mt_lines.specs.declared.line.Line.TheVariants.{Text, TooLong, Unended, End as NoLine}
 use Rattle.mt_events.specs.declared.opening.Opening.{Opening}
 use Rattle.mt_book.specs.declared.command.Reply.{Reply}
 use Rattle.mt_floor.specs.declared.watch.Phase.{Phase}
 use Rattle.mt_floor.specs.declared.event.Answer.{Answer}
 use Rattle.mt_floor.specs.declared.event.Answer.TheVariants.{Replied, Opened, Met}
 use Rattle.mt_session.specs.declared.serving.End.{End}
-use Rattle.mt_session.specs.declared.serving.End.TheVariants.{Quit, Stop, Input, Cut as CutOff}
-use Rattle.mt_session.specs.Requests.{SessionState}
-use Rattle.mt_session.specs.Answers.{refusal}
-use Rattle.mt_session.specs.Session.{Growth, Asking, Whole, Turn, answer_to_turn, state_after_turn, end_of_turn, ServedThen}
-
--- an end that a line brings once its answer is out whole
-abbrev pub ends_whole : End → Bool
-ends_whole Quit = true
-ends_whole Stop = true
-ends_whole Input = true
-ends_whole _ = false
-
--- an end that the answer to a line brings
-abbrev pub ends_by_answer : End → Bool
-ends_by_answer Quit = true
-ends_by_answer Stop = true
-ends_by_answer Input = true
-ends_by_answer (CutOff cut) = true
-ends_by_answer _ = false
+use Rattle.mt_floor.specs.Schedule.{FloorView}
+use Rattle.mt_session.specs.Requests.{SessionState, session_state}
+use Rattle.mt_session.specs.Answering.{Answering, ends_whole, IsSent, ServesNext}
+use Rattle.mt_session.specs.Session.{Growth, Asking, Whole, Turn, answer_to_turn, state_after_turn, end_of_turn, ServedThen, ServedLine}
 
 abbrev pub the_turn : Asking → Growth → Turn
 the_turn line growth = record { line = line; growth = growth }
@@ -45,19 +25,17 @@ Answered old new line text end =
 abbrev pub Ran : Option (List ℕ) → Option (List ℕ) → SessionState → SessionState → Option (List ℕ) → Option (List ℕ) → End → Type 0
 Ran before later old new sent written by = ServedThen (λ state. state) before later old new sent written by
 
--- the text went out whole, and the session ends as it would, or it was cut
-abbrev pub IsSent : Option (List ℕ) → Option (List ℕ) → List ℕ → Option End → Option End → Type 0
-IsSent sent written text wanted result =
-    ((result ≡ wanted) × Appends sent written text)
-    ⊎ ((cut : Cut) × (result ≡ Some (CutOff cut)) × Appends sent written (take cut.sent text) × (cut.sent < length text))
+-- a whole line was answered on a floor, on which nothing is due, by a session that has this watcher
+abbrev pub OnFloor : Answering (FloorView × Option ℕ)
+OnFloor s line sent written end s' =
+    (text : List ℕ) × (wanted : Option End) × Answered (session_state s.0 s.1) (session_state s'.0 s'.1) (Whole line) text wanted × ForSome wanted (λ e. ends_whole e ≡ true)
+    × IsSent sent written text wanted end
 
--- what a reader said of a line was answered, and so the session ends with it, if it does
-abbrev pub AnswersLine : Line → List ℕ → SessionState → SessionState → Option (List ℕ) → Option (List ℕ) → Option End → Type 0
-AnswersLine Text bytes old new sent written result =
-    (text : List ℕ) × (end : Option End) × Answered old new (Whole bytes) text end × ForSome end (λ e. ends_whole e ≡ true) × IsSent sent written text end result
-AnswersLine TooLong bytes old new sent written result = (new ≡ old) × IsSent sent written (refusal LineTooLong) None result
-AnswersLine Unended bytes old new sent written result = (new ≡ old) × IsSent sent written (refusal BadLine) (Some Input) result
-AnswersLine NoLine bytes old new sent written result = (new ≡ old) × Keeps sent written × (result ≡ Some Input)
+-- what is served next is one line, or the end of the session in its place
+abbrev pub LinesAreServed : Type 0
+LinesAreServed =
+    (before later : Option (List ℕ)) (s s' : FloorView × Option ℕ) (sent written : Option (List ℕ)) (end : Option End) → ServesNext OnFloor before s sent end later s' written
+    → ServedLine before later (session_state s.0 s.1) (session_state s'.0 s'.1) sent written end
 
 -- what an answer of the floor holds
 abbrev pub reply_in : Answer → Option Reply

@@ -1,12 +1,10 @@
--- One line of a session in a thread of its own, as its steps see it. No public clause cites this module.
+-- One line of a session in a thread of its own, as its steps see it.
 -- A word with no source is this project's rule.
 use Rattle.std.specs.Prelude.{⊤, ◌≡◌, ◌≢◌, ◌⊎◌, ℕ, ◌+◌, ◌<◌, ◌≤◌, List, [], ◌++◌, length, unwrap_or, Option, Some, None, Result, Ok, Err}
 use Rattle.std.specs.List.{flat_map}
 use Rattle.mt_skel.specs.declared.fault.Fault.{Fault}
-use Rattle.mt_skel.specs.declared.fault.Fault.TheVariants.{BadLine, TooLong as LineTooLong, NoWatcher, NoMemory as WantsMemory}
-use Rattle.std.specs.Io.KnownBytes.{Appends, Keeps}
-use Rattle.mt_lines.specs.declared.line.Line.{Line}
-use Rattle.mt_lines.specs.declared.line.Line.TheVariants.{Text, TooLong, Unended, End as NoLine}
+use Rattle.mt_skel.specs.declared.fault.Fault.TheVariants.{NoWatcher, NoMemory as WantsMemory}
+use Rattle.std.specs.Io.KnownBytes.{Appends}
 use Rattle.mt_events.specs.Posts.{PostView, post_text}
 use Rattle.mt_events.specs.Texts.{lines_of_posts}
 use Rattle.mt_events.specs.declared.texts.PrintedPosts.{PrintedPosts}
@@ -17,20 +15,19 @@ use Rattle.mt_desk.specs.Headline.{Meet as Meets, IsScheduledBy}
 use Rattle.mt_requests.specs.declared.request.Request.{Request}
 use Rattle.mt_requests.specs.declared.request.Request.TheVariants.{Follow}
 use Rattle.mt_session.specs.declared.serving.End.{End}
-use Rattle.mt_session.specs.declared.serving.End.TheVariants.{Input, Memory}
+use Rattle.mt_session.specs.declared.serving.End.TheVariants.{Memory}
 use Rattle.mt_session.specs.declared.shared_answer.Portion.{Portion}
 use Rattle.mt_session.specs.declared.shared_answer.Portion.TheVariants.{Posts, Empty}
 use Rattle.mt_session.specs.declared.shared_answer.Then.{Then}
 use Rattle.mt_session.specs.declared.shared_answer.Then.TheVariants.{More, Over}
 use Rattle.mt_requests.specs.Requests.{request_of}
-use Rattle.mt_session.specs.Answers.{refusal}
-use Rattle.mt_session.specs.Serving.{IsSent}
+use Rattle.mt_session.specs.Answering.{Answering, ServesNext}
 use Rattle.mt_session.specs.Session.{ends_by}
 use Rattle.mt_history.specs.declared.act.LogEntry.{LogEntry}
 use Rattle.mt_history.specs.Entries.{WitnessView}
 use Rattle.mt_desk.specs.Held.{IsLogged}
 use Rattle.mt_session.specs.SharedTurns.{SharedView, IsAtDesk, SeesOn, HasTaken, GoesOn, HasEnded}
-use Rattle.mt_session.specs.SharedSession.{IsSpent, IsTurn, IsLost, EndsOfAnswer, HasLeft}
+use Rattle.mt_session.specs.SharedSession.{IsSpent, IsTurn, IsLost, EndsOfAnswer, HasLeft, ServedSharedLine}
 
 -- a session has met the desk after so much of the history, if it has a watcher; what this has taken is in order by a schedule of the desk
 abbrev pub HasMet : Option WatcherView → Option Meeting → Option WatcherView → List LogEntry → Type 0
@@ -136,9 +133,12 @@ pub record ServesAsked (s : SharedView) (asked : Result Request Fault) (sent wri
   pub outcome : IsOutcome result s asked out s'
   pub watcher : IsKeptOrLeft s.own s'.own s'.sight.seen
 
--- what a reader said of a line is answered, or the session ends by it
-abbrev pub ServesLine : Line → List ℕ → SharedView → Option (List ℕ) → Option (List ℕ) → Option End → SharedView → Type 0
-ServesLine Text bytes s sent written result s' = ServesAsked s (request_of bytes) sent written result s'
-ServesLine TooLong bytes s sent written result s' = (s' ≡ s) × IsSent sent written (refusal LineTooLong) None result
-ServesLine Unended bytes s sent written result s' = (s' ≡ s) × IsSent sent written (refusal BadLine) (Some Input) result
-ServesLine NoLine bytes s sent written result s' = (s' ≡ s) × Keeps sent written × (result ≡ Some Input)
+-- a whole line was answered at a desk, whatever stands beside the session
+abbrev pub OnDesk : {P : Type 0} → Answering (P × SharedView)
+OnDesk s line sent written end s' = ServesAsked s.1 (request_of line) sent written end s'.1
+
+-- what is served next is one line, or the end of the session in its place
+abbrev pub SharedLinesAreServed : Type 0 → Type 0
+SharedLinesAreServed P =
+    (before later : Option (List ℕ)) (s s' : P × SharedView) (sent written : Option (List ℕ)) (end : Option End) → ServesNext OnDesk before s sent end later s' written
+    → ServedSharedLine before later s.1 s'.1 sent written end

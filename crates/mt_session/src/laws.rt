@@ -3,6 +3,15 @@ ghost use Rattle.mt_session.specs.Forms.{AnswersHaveForms};
 ghost use Rattle.mt_session.specs.Headline.{SessionsFollow, AnswersTell};
 ghost use Rattle.mt_session.specs.SharedHeadline.{SharedSessionsFollow};
 ghost use Rattle.mt_session.specs.SharedHistory.{SharedSessionsAct, SharedStopsHold};
+ghost use Rattle.mt_session.specs.Serving.{LinesAreServed};
+ghost use Rattle.mt_session.specs.SharedServing.{SharedLinesAreServed};
+
+/// What one call of `serve_next` (answering.rt) says of a plain session, and of one in a thread of its own, whatever that
+/// shares: one line was served, whose whole answer was sent, and the session goes on, or has ended with it.
+pub fn lines_are_served<Place>()
+    ensures plain { LinesAreServed }
+    ensures shared { SharedLinesAreServed Place }
+{}
 
 /// The lines of a plain session are a schedule of its floor, after the events that were done before them. So of a watcher
 /// that one of these lines begins, the posts that the later ones tell, by `take`, `follow` and `close`, are a prefix of

@@ -221,6 +221,11 @@ impl Session {
         }
     }
 
+    /// Where memory for its answers comes from.
+    pub(crate) fn alloc(&self) -> Global {
+        self.alloc
+    }
+
     /// Begins a watcher, and tells what it finds. Where there is no memory to tell it, the watcher is closed again.
     fn watch(&mut self, floor: &mut Floor, scope: Scope) -> Result<Text, Fault>
         requires none { self.old ≡ None }

@@ -1,26 +1,26 @@
 //! A session in a thread of its own: lines in, answers out, at a desk that others share.
-ghost use Rattle.std.specs.Prelude.{◌≡◌, ◌<◌, ◌≤◌, ◌⊎◌, ℕ, List, [], take, unwrap_or, Option, IsTrue, IfErr, OnOk, OnErr, Ok, None, Some};
-ghost use Rattle.mt_history.specs.Entries.{WitnessView};
+ghost use Rattle.std.specs.Prelude.{◌≡◌, ◌<◌, ◌≤◌, ◌⊎◌, ℕ, List, [], take, unwrap_or, Option, true, IsTrue, IfErr, OnOk, OnErr, Ok, None, Some};
 ghost use Rattle.std.specs.Io.KnownBytes.{Appends};
 ghost use Rattle.mt_lines.specs.Reading.{known_left, failed_calls, last_faults, limit_of, fault_of};
 ghost use Rattle.mt_lines.specs.Stream.{HasFailed, IsInterrupted};
 ghost use Rattle.mt_requests.specs.Requests.{request_of, HasRightCount};
 ghost use Rattle.mt_session.specs.Session.{line_limit, IsReadEnd, IsReadEndRun, IsCutCause, IsCutRun};
-ghost use Rattle.mt_session.specs.SharedTurns.{SharedView, SeesOn};
-ghost use Rattle.mt_session.specs.SharedSession.{ServedShared, ServedSharedLine, HasLeft};
-ghost use Rattle.mt_session.specs.SharedServing.{IsSoFar, IsPiece, IsWithin, IsCutPiece, ServesAsked, ServesLine};
+ghost use Rattle.mt_session.specs.Answering.{is_by_answer};
+ghost use Rattle.mt_session.specs.SharedTurns.{SharedView};
+ghost use Rattle.mt_session.specs.SharedSession.{ServedShared};
+ghost use Rattle.mt_session.specs.SharedServing.{IsSoFar, IsPiece, IsWithin, IsCutPiece, ServesAsked};
 
+use crate::answering::{Answers, answer_with, serve_lines};
 use crate::doorkeeper::Doorkeeper;
 use crate::gate::Gate;
-use crate::serving::{End, MOST_LINES, answer_with};
+use crate::serving::End;
 use crate::shared_answer::{Piece, Shared, Then};
 use crate::shared_session::SharedSession;
 use crate::text::Text;
 use mt_desk::lines::Naming;
-use mt_lines::line::{Line, LineReader};
+use mt_lines::line::LineReader;
 use mt_lines::stream::{Cut, Input, Output, find_reader, send};
 use mt_requests::request::{Request, read_request};
-use mt_skel::fault::Fault;
 use std::sync::Wait;
 use std::time::Clock;
 
@@ -90,14 +90,15 @@ impl<'a, J: Naming, G: Gate, K: Doorkeeper, R: Wait + Clock> Shared<'a, J, G, K,
         unreachable!()
     }
 
-    /// Serves a line that was read whole: how the session ends by it, if it does.
-    fn serve_text<O: Output>(
+    /// Answers a line that was read whole: how the session ends by it, if it does.
+    fn answer_line<O: Output>(
         &self,
         session: &mut SharedSession<J>,
-        line: &[u8],
         writer: &mut O,
+        line: &[u8],
     ) -> Option<End>
-        ensures served { ServesAsked session.old (request_of line.now) (O.contents writer.old) (O.contents writer.new) result session.new }
+        ensures answered { ServesAsked session.old (request_of line.now) (O.contents writer.old) (O.contents writer.new) result session.new }
+        ensures end { is_by_answer result ≡ true }
         ensures cut { IsTrue O.counts → IsCutCause result (O.failed writer.old) (O.failed writer.new) }
         ensures cut_run { IsTrue O.counts → O.faults writer.old ≡ [] → IsCutRun result (O.faults writer.new) }
     {
@@ -106,92 +107,27 @@ impl<'a, J: Naming, G: Gate, K: Doorkeeper, R: Wait + Clock> Shared<'a, J, G, K,
             Err(fault) => answer_with(writer, &Text::refusal(fault), None),
         }
     }
+}
 
-    /// Serves what a reader says of a line: how the session ends by it, if it does.
-    fn serve_line<O: Output>(
-        &self,
+/// A session in a thread of its own is answered at the desk, which others share.
+impl<'a, J: Naming, G: Gate, K: Doorkeeper, R: Wait + Clock> Answers for Shared<'a, J, G, K, R> {
+    ghost use Rattle.std.specs.Prelude.{⊤};
+    ghost use Rattle.mt_session.specs.SharedServing.{OnDesk};
+
+    type Session = SharedSession<J>;
+
+    ghost is_ready = { λ s. ⊤ };
+
+    ghost answers = { OnDesk };
+
+    fn answer<W: Output>(
+        &mut self,
         session: &mut SharedSession<J>,
-        writer: &mut O,
-        line: Line,
-        bytes: &[u8],
-    ) -> Option<End>
-        ensures served { ServesLine line bytes.now session.old (O.contents writer.old) (O.contents writer.new) result session.new }
-        ensures cut { IsTrue O.counts → IsCutCause result (O.failed writer.old) (O.failed writer.new) }
-        ensures cut_run { IsTrue O.counts → O.faults writer.old ≡ [] → IsCutRun result (O.faults writer.new) }
-    {
-        match line {
-            Line::Text => self.serve_text(session, bytes, writer),
-            Line::TooLong => answer_with(writer, &Text::refusal(Fault::TooLong), None),
-            Line::Unended => { answer_with(writer, &Text::refusal(Fault::BadLine), Some(End::Input)) }
-            Line::End => Some(End::Input),
-        }
+        writer: &mut W,
+        line: &[u8],
+    ) -> Option<End> {
+        self.answer_line(session, writer, line)
     }
-}
-
-/// Serves one line: how the session ends by it, or by what came in its place, if it does.
-///
-/// One line leaves the reader, and its whole answer goes to the writer, before the next one is read (`served`). At the end
-/// of the input, and at a fault of the reader, nothing is written; of a fault the reader has lost no whole line. Where the
-/// session goes on, the reader has met no fault. [`serve_shared`] is the loop of this call.
-pub fn serve_shared_next<J, I, O, G, K, R>(
-    shared: &Shared<'_, J, G, K, R>,
-    session: &mut SharedSession<J>,
-    lines: &mut LineReader<I>,
-    writer: &mut O,
-) -> Option<End>
-where
-    J: Naming,
-    I: Input + Drop,
-    O: Output,
-    G: Gate,
-    K: Doorkeeper,
-    R: Wait + Clock,
-    requires fresh { fault_of lines.old ≡ None }
-    requires limit { limit_of lines.old ≡ line_limit }
-    ensures served { ServedSharedLine (known_left lines.old) (known_left lines.new) session.old session.new (O.contents writer.old) (O.contents writer.new) result }
-    ensures fresh { result ≡ None → fault_of lines.new ≡ None }
-    ensures limit { limit_of lines.new ≡ line_limit }
-    ensures read { IsTrue I.counts → IsReadEnd result (failed_calls lines.old) (failed_calls lines.new) }
-    ensures read_run { IsTrue I.counts → last_faults lines.old ≡ [] → IsReadEndRun result (last_faults lines.new) }
-    ensures cut { IsTrue O.counts → IsCutCause result (O.failed writer.old) (O.failed writer.new) }
-    ensures cut_run { IsTrue O.counts → O.faults writer.old ≡ [] → IsCutRun result (O.faults writer.new) }
-{
-    let line = match lines.next() {
-        Ok(line) => line,
-        Err(fault) => return Some(End::Read(fault)),
-    };
-    shared.serve_line(session, writer, line, lines.line())
-}
-
-/// Serves lines until the session ends: how it does. What is said of it holds once its watcher is closed.
-fn serve_all<J, I, O, G, K, R>(
-    shared: &Shared<'_, J, G, K, R>,
-    session: &mut SharedSession<J>,
-    lines: &mut LineReader<I>,
-    writer: &mut O,
-) -> End
-where
-    J: Naming,
-    I: Input + Drop,
-    O: Output,
-    G: Gate,
-    K: Doorkeeper,
-    R: Wait + Clock,
-    requires none { session.old.own ≡ None }
-    requires fresh { fault_of lines.old ≡ None }
-    requires limit { limit_of lines.old ≡ line_limit }
-    ensures served { (v : WitnessView) → HasLeft session.new.own v.seen → SeesOn session.new.sight v → ServedShared (known_left lines.old) (known_left lines.new) (O.contents writer.old) (O.contents writer.new) result session.old.sight v }
-    ensures read { IsTrue I.counts → IsReadEnd (Some result) (failed_calls lines.old) (failed_calls lines.new) }
-    ensures read_run { IsTrue I.counts → last_faults lines.old ≡ [] → IsReadEndRun (Some result) (last_faults lines.new) }
-    ensures cut { IsTrue O.counts → IsCutCause (Some result) (O.failed writer.old) (O.failed writer.new) }
-    ensures cut_run { IsTrue O.counts → O.faults writer.old ≡ [] → IsCutRun (Some result) (O.faults writer.new) }
-{
-    'lines: for _count in 0..MOST_LINES {
-        if let Some(end) = serve_shared_next(shared, session, lines, writer) {
-            return end;
-        }
-    }
-    End::Spent
 }
 
 /// Serves the lines that a reader has left, one answer each, at a desk that other sessions share, until the session ends,
@@ -199,7 +135,7 @@ where
 ///
 /// The reader has met no fault, and its lines are of at most `LINE_LIMIT` bytes (serving.rt). It is lent, so that its
 /// caller knows of its last calls: where it has ended the session, its last call failed, and none came after that. Each line
-/// is answered before the next one is read ([`serve_shared_next`]), and all of them that the reader had read whole at a fault.
+/// is answered before the next one is read (`serve_next` of answering.rt), and all of them that the reader had read whole at a fault.
 /// This is said of the bytes that are known of a stream: of one in memory, and of a stream over one.
 ///
 /// The desk is held while a request is done, and not while the session reads, writes, rests, or prints the posts that it
@@ -248,7 +184,8 @@ where
     ensures cut { IsTrue O.counts → IsCutCause (Some result) (O.failed writer.old) (O.failed writer.new) }
     ensures cut_run { IsTrue O.counts → O.faults writer.old ≡ [] → IsCutRun (Some result) (O.faults writer.new) }
 {
-    let end = serve_all(&shared, session, lines, writer);
+    let mut shared = shared;
+    let end = serve_lines(&mut shared, session, lines, writer);
     shared.leave(session);
     end
 }

@@ -1,6 +1,6 @@
 use Rattle.std.proofs.Common.{[], ◌++◌, arith, unwrap_or}
 use Rattle.std.proofs.KnownBytes.{Appends-trans}
-use Rattle.mt_session.proofs.SessionLaws.{uncut_cause, uncut_run}
+use Rattle.mt_session.proofs.EndLaws.{uncut_cause, uncut_run}
 use Rattle.mt_session.proofs.SharedLineLaws.{piece_more, piece_over, piece_cut, piece_uncut}
 use Rattle.mt_session.proofs.shared_answer.Shared.serve_request.Goals as goal
 
