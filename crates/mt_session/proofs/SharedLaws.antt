@@ -12,7 +12,7 @@ use Rattle.mt_events.specs.declared.opening.Scope.{Scope}
 use Rattle.mt_book.specs.declared.command.Command.{Command}
 use Rattle.mt_book.specs.declared.command.Reply.{Reply}
 use Rattle.mt_requests.specs.declared.request.Request.{Request}
-use Rattle.mt_requests.specs.declared.request.Request.TheVariants.{Run, Watch, Close as AsksClose}
+use Rattle.mt_requests.specs.declared.request.Request.TheVariants.{Run, Watch, Take as AsksTake, Follow as AsksFollow, Close as AsksClose, Quit as AsksQuit, Stop as AsksStop}
 use Rattle.mt_floor.specs.declared.event.Event.{Event}
 use Rattle.mt_floor.specs.declared.event.Event.TheVariants.{Apply, Open, Take, Close}
 use Rattle.mt_floor.specs.declared.event.Answer.{Answer}
@@ -25,6 +25,7 @@ use Rattle.mt_desk.proofs.ScheduleLaws.{rows_rise, opened_stays}
 use Rattle.mt_events.specs.Texts.{opening_text, posts_text}
 use Rattle.mt_session.specs.Answers.{refusal, reply_text}
 use Rattle.mt_session.specs.Requests.{replied_text, opened_text, closed_text, answer_to, SessionState}
+use Rattle.mt_session.specs.declared.serving.End.{End}
 use Rattle.mt_session.specs.declared.serving.End.TheVariants.{Memory}
 use Rattle.mt_session.specs.declared.shared_answer.Then.{Then}
 use Rattle.mt_history.specs.declared.act.Act.{Act}
@@ -32,8 +33,9 @@ use Rattle.mt_history.specs.declared.act.Act.TheVariants as act
 use Rattle.mt_history.specs.declared.act.LogEntry.{LogEntry}
 use Rattle.mt_history.specs.Entries.{WitnessView, entries}
 use Rattle.mt_desk.specs.Held.{HeldView, IsLogged}
-use Rattle.mt_session.specs.SharedTurns.{SharedView, IsAtDesk, SeesOn, accepted_act, acts_at, floor_seen, found_state, with_taken_posts, IsBegun, IsDoneBy, IsUndoneBy, HasTaken, HasEnded}
-use Rattle.mt_session.specs.SharedSession.{IsAnsweredAt, IsNotDoneAt, HasLeft}
+use Rattle.mt_session.specs.SharedTurns.{SharedView, IsAtDesk, is_under_lock, SeesOn, accepted_act, acts_at, floor_seen, found_state, with_taken_posts, IsBegun, IsDoneBy, IsUndoneBy, HasTaken, HasEnded}
+use Rattle.mt_session.specs.Session.{ends_by}
+use Rattle.mt_session.specs.SharedSession.{IsAnsweredAt, IsAnswered, IsNotDoneAt, takes_posts, HasLeft}
 use Rattle.mt_session.specs.SharedServing.{HasEndedAt, EndsWith, IsPiece}
 use Rattle.mt_session.proofs.SightLaws.{sees_at}
 use Rattle.mt_session.proofs.TurnLaws.{apply_told, apply_refused, open_told, open_found, open_refused, close_posts}
@@ -149,7 +151,7 @@ lost_posts own own' w w' posts most is is' taken within run = λ v at.
 -- ---- What is done while the desk is held
 
 -- an answer of so many acts, of which the session has seen the end
-pub locked_answered : (s s' : SharedView) (r : Request) (d now : HeldView) (answer : Result (List ℕ) Fault)
+locked_answered : (s s' : SharedView) (r : Request) (d now : HeldView) (answer : Result (List ℕ) Fault)
     → IsAtDesk s.sight d.desk d.log → IfOk answer (λ text. text ≡ answer_to (found_state d.desk s.own) r) → OnOk answer (IsDoneBy d.desk s.own r now.desk s'.own)
     → OnOk answer (now.log ≡ d.log ++ entries s.sight.by (acts_at d.desk r)) → s'.sight ≡ record s.sight { seen = now.log } → IfOk answer (λ text. IsAnsweredAt s r text s')
 locked_answered s s' r d now (Ok text) at told done log sight = record {
@@ -163,11 +165,47 @@ locked_answered s s' r d now (Ok text) at told done log sight = record {
 }
 locked_answered s s' r d now (Err f) at told done log sight = told
 
-pub locked_undone : (s s' : SharedView) (r : Request) (d now : HeldView) (answer : Result (List ℕ) Fault)
+locked_undone : (s s' : SharedView) (r : Request) (d now : HeldView) (answer : Result (List ℕ) Fault)
     → IsAtDesk s.sight d.desk d.log → OnErr answer (IsUndoneBy d.desk s.own r now.desk s'.own) → OnErr answer (now.log ≡ d.log) → s'.sight ≡ record s.sight { seen = now.log } → OnErr answer (IsNotDoneAt s r s')
 locked_undone s s' r d now (Ok text) at undone log sight = undone
 locked_undone s s' r d now (Err f) at undone log sight =
     record { desk = d.desk; log = d.log; now = now.desk; kept = at; undone = undone; sight = sight ∙ ap (λ (l : List LogEntry). record s.sight { seen = l }) log }
+
+-- a request other than of posts is answered at the desk, or is not done for want of memory: then it is none that ends the session
+at_desk : (s s' : SharedView) (r : Request) (text : List ℕ) → is_under_lock r ≡ true → IsAnsweredAt s r text s' → IsAnswered s (Ok r) text s'
+at_desk s s' (AsksTake k) text lock a = cc
+at_desk s s' (AsksFollow k) text lock a = cc
+at_desk s s' r text lock a = a
+
+undone_goes : (d now : DeskView) (w w' : Option WatcherView) (r : Request) → IsUndoneBy d w r now w' → ends_by (Ok r) ≡ None
+undone_goes d now None w' AsksQuit u = absurd u
+undone_goes d now (Some w) w' AsksQuit u = absurd u
+undone_goes d now None w' AsksStop u = absurd u
+undone_goes d now (Some w) w' AsksStop u = absurd u
+undone_goes d now w w' r u = refl
+
+takes_none : (r : Request) → is_under_lock r ≡ true → r ≢ AsksClose → takes_posts r ≡ false
+takes_none (AsksTake k) lock other = cc
+takes_none (AsksFollow k) lock other = cc
+takes_none AsksClose lock other = absurd (other refl)
+takes_none r lock other = refl
+
+-- so its answer is a single piece
+pub answered_piece : (s s' : SharedView) (r : Request) (d now : HeldView) (answer : Result (List ℕ) Fault) (text : List ℕ) (end : Option End) (p : Option (List ℕ)) (n : Then) → answer ≡ Ok text
+    → IsAtDesk s.sight d.desk d.log → IfOk answer (λ text. text ≡ answer_to (found_state d.desk s.own) r) → OnOk answer (IsDoneBy d.desk s.own r now.desk s'.own)
+    → OnOk answer (now.log ≡ d.log ++ entries s.sight.by (acts_at d.desk r)) → s'.sight ≡ record s.sight { seen = now.log }
+    → is_under_lock r ≡ true → end ≡ ends_by (Ok r) → EndsWith text end p n → IsPiece s r [] p n s'
+answered_piece s s' r d now answer text end p n ok at told done log sight lock ends last =
+    let a : IfOk answer (λ text. IsAnsweredAt s r text s') = locked_answered s s' r d now answer at told done log sight in
+    rw (last.0, last.1) (inl (inl (at_desk s s' r text lock (rw ok at a)), ends))
+
+pub undone_piece : (s s' : SharedView) (r : Request) (d now : HeldView) (answer : Result (List ℕ) Fault) (f : Fault) (p : Option (List ℕ)) (n : Then) → answer ≡ Err f
+    → IsAtDesk s.sight d.desk d.log → OnErr answer (IsUndoneBy d.desk s.own r now.desk s'.own) → OnErr answer (now.log ≡ d.log) → s'.sight ≡ record s.sight { seen = now.log }
+    → is_under_lock r ≡ true → r ≢ AsksClose → EndsWith (refusal NoMemory) None p n → IsPiece s r [] p n s'
+undone_piece s s' r d now answer f p n err at undone log sight lock other last =
+    let u : OnErr answer (IsNotDoneAt s r s') = locked_undone s s' r d now answer at undone log sight in
+    let not_done : IsNotDoneAt s r s' = rw err at u in
+    rw (last.0, last.1) (inl (inr (refl, inr (takes_none r lock other, not_done)), sym (undone_goes not_done.desk not_done.now s.own s'.own r not_done.undone)))
 
 -- an accepted command, and a refused one
 pub applied_acts : (d now : DeskView) (c : Command) (reply : Reply) → IsApplied d c reply now → acts_at d (Run c) ≡ act.Apply c ∷ []

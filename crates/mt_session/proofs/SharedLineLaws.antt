@@ -1,5 +1,5 @@
 -- What a session in a thread of its own has answered: the pieces of an answer, and line by line.
-use Rattle.std.proofs.Common.{subst, ◌≡◌, ◌≢◌, ℕ, zero, suc, ◌<◌, ◌≤◌, List, [], ◌∷◌, ◌++◌, map, take, refl, ap, sym, inl, inr, true, Result, Ok, Err, Option, Some, None, arith, length, length-append, unwrap_or}
+use Rattle.std.proofs.Common.{subst, ◌≡◌, ◌≢◌, ◌∙◌, true≢false, ℕ, zero, suc, ◌<◌, ◌≤◌, List, [], ◌∷◌, ◌++◌, map, take, refl, ap, sym, inl, inr, true, Result, Ok, Err, Option, Some, None, arith, length, length-append, unwrap_or}
 use Rattle.std.proofs.lemmas.List.{append-nil, map-append}
 use Rattle.std.proofs.lemmas.Grind.{flat_map-append}
 use Rattle.std.specs.List.{flat_map}
@@ -16,7 +16,7 @@ use Rattle.mt_lines.specs.declared.line.Line.TheVariants.{Text as TextLine, TooL
 use Rattle.mt_lines.specs.Reading.{IsNextKnown, LosesNoLine, PassLines}
 use Rattle.mt_desk.specs.Calls.{WatcherView}
 use Rattle.mt_requests.specs.declared.request.Request.{Request}
-use Rattle.mt_requests.specs.declared.request.Request.TheVariants.{Quit as AsksQuit, Stop as AsksStop}
+use Rattle.mt_requests.specs.declared.request.Request.TheVariants.{Follow, Quit as AsksQuit, Stop as AsksStop}
 use Rattle.mt_requests.specs.Requests.{request_of, ReadsAs}
 use Rattle.mt_session.specs.declared.serving.End.{End}
 use Rattle.mt_session.specs.declared.serving.End.TheVariants.{Input, Read, Cut as CutOff, Spent}
@@ -32,7 +32,7 @@ use Rattle.mt_lines.proofs.PassLaws.{pass_none, pass_more, pass_text, pass_long}
 use Rattle.mt_session.proofs.PassLaws.{pass_broken, pass_end, pass_endless, input_more, kept_nothing}
 use Rattle.mt_history.specs.declared.act.LogEntry.{LogEntry}
 use Rattle.mt_history.specs.Entries.{WitnessView}
-use Rattle.mt_session.specs.SharedTurns.{SharedView, SeesOn}
+use Rattle.mt_session.specs.SharedTurns.{SharedView, is_under_lock, SeesOn}
 use Rattle.mt_session.proofs.WatcherLaws.{turn_keeps, kept_same, was_left}
 
 -- ---- An answer, piece by piece
@@ -45,6 +45,15 @@ following_so_far w w' r out told f =
 pub so_far_front : (w mid : SharedView) (r : Request) (out : List ℕ) (told : ℕ) → IsSoFar w r out told mid → IsInFront w.own (Ok r) out
 so_far_front w mid r out told (inl s) = inl s.0
 so_far_front w mid r out told (inr f) = inr (following_so_far w.own mid.own r out told f.0)
+
+-- an answer that is no `follow` is begun by its first piece
+pub piece_at_once : (s mid s' : SharedView) (r : Request) (out : List ℕ) (told : ℕ) (p : Option (List ℕ)) (n : Then) → ((most : ℕ) → r ≢ Follow most)
+    → IsSoFar s r out told mid → IsPiece mid r [] p n s' → IsPiece s r out p n s'
+piece_at_once s mid s' r out told p n other (inl x) piece = rw (x.0, ← x.2) piece
+piece_at_once s mid s' r out told p n other (inr f) piece = absurd (other f.0.most f.0.asked)
+
+pub desk_follows_none : (r : Request) → is_under_lock r ≡ true → (most : ℕ) → r ≢ Follow most
+desk_follows_none r lock most is = true≢false (sym lock ∙ ap is_under_lock is)
 
 -- it goes on
 pub piece_more : (w w' : SharedView) (r : Request) (out : List ℕ) (told : ℕ) (p : Option (List ℕ)) (n : Then) → n ≡ More told → IsPiece w r out p n w' → IsSoFar w r (out ++ unwrap_or p []) told w'

@@ -1,6 +1,6 @@
 -- One line of a session in a thread of its own, as its steps see it.
 -- A word with no source is this project's rule.
-use Rattle.std.specs.Prelude.{⊤, ◌≡◌, ◌≢◌, ◌⊎◌, ℕ, ◌+◌, ◌<◌, ◌≤◌, List, [], ◌++◌, length, unwrap_or, Option, Some, None, Result, Ok, Err}
+use Rattle.std.specs.Prelude.{⊤, ◌≡◌, ◌≢◌, ◌⊎◌, ℕ, ◌+◌, ◌<◌, ◌≤◌, true, List, [], ◌++◌, length, unwrap_or, Option, Some, None, Result, Ok, Err}
 use Rattle.std.specs.List.{flat_map}
 use Rattle.mt_skel.specs.declared.fault.Fault.{Fault}
 use Rattle.mt_skel.specs.declared.fault.Fault.TheVariants.{NoWatcher, NoMemory as WantsMemory}
@@ -13,21 +13,30 @@ use Rattle.mt_desk.specs.Desk.{DeskView, IsDesk}
 use Rattle.mt_desk.specs.Calls.{WatcherView, IsMet}
 use Rattle.mt_desk.specs.Headline.{Meet as Meets, IsScheduledBy}
 use Rattle.mt_requests.specs.declared.request.Request.{Request}
-use Rattle.mt_requests.specs.declared.request.Request.TheVariants.{Follow}
+use Rattle.mt_requests.specs.declared.request.Request.TheVariants.{Take, Follow, Close}
 use Rattle.mt_session.specs.declared.serving.End.{End}
 use Rattle.mt_session.specs.declared.serving.End.TheVariants.{Memory}
 use Rattle.mt_session.specs.declared.shared_answer.Portion.{Portion}
 use Rattle.mt_session.specs.declared.shared_answer.Portion.TheVariants.{Posts, Empty}
 use Rattle.mt_session.specs.declared.shared_answer.Then.{Then}
 use Rattle.mt_session.specs.declared.shared_answer.Then.TheVariants.{More, Over}
+use Rattle.mt_session.specs.declared.wants.Wants.{Wants}
+use Rattle.mt_session.specs.declared.wants.Wants.TheVariants.{Desk, Waiting, Coming, Left}
 use Rattle.mt_requests.specs.Requests.{request_of}
 use Rattle.mt_session.specs.Answering.{Answering, ServesNext}
 use Rattle.mt_session.specs.Session.{ends_by}
 use Rattle.mt_history.specs.declared.act.LogEntry.{LogEntry}
 use Rattle.mt_history.specs.Entries.{WitnessView}
 use Rattle.mt_desk.specs.Held.{IsLogged}
-use Rattle.mt_session.specs.SharedTurns.{SharedView, IsAtDesk, SeesOn, HasTaken, GoesOn, HasEnded}
+use Rattle.mt_session.specs.SharedTurns.{SharedView, IsAtDesk, is_under_lock, SeesOn, HasTaken, GoesOn, HasEnded}
 use Rattle.mt_session.specs.SharedSession.{IsSpent, IsTurn, IsLost, EndsOfAnswer, HasLeft, ServedSharedLine}
+
+-- this is what a request wants: to be done while the desk is held, and to end the session so, if it does; or posts of the watcher
+abbrev pub IsWanted : Wants → Request → Type 0
+IsWanted (Desk wakes end) r = (is_under_lock r ≡ true) × (r ≢ Close) × (end ≡ ends_by (Ok r))
+IsWanted (Waiting most) r = r ≡ Take most
+IsWanted (Coming most) r = r ≡ Follow most
+IsWanted Left r = r ≡ Close
 
 -- a session has met the desk after so much of the history, if it has a watcher; what this has taken is in order by a schedule of the desk
 abbrev pub HasMet : Option WatcherView → Option Meeting → Option WatcherView → List LogEntry → Type 0

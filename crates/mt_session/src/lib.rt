@@ -22,6 +22,7 @@ pub mod shared_serving;
 pub mod shared_session;
 pub mod text;
 pub mod turns;
+mod wants;
 
 pub use mt_floor::{event, floor, watch};
 pub use mt_lines::{line, memory, stream};

@@ -1,5 +1,5 @@
 //! How a session in a thread of its own answers a request. An answer is pieces, one after another, and no stream is known here.
-ghost use Rattle.std.specs.Prelude.{◌≡◌, ◌≢◌, ◌++◌, ◌<◌, ◌⊎◌, [], Option, true, IfOk, OnErr, IsOkUnless, None, Some};
+ghost use Rattle.std.specs.Prelude.{◌≡◌, ◌≢◌, ◌++◌, ◌<◌, ◌⊎◌, [], Option, true, Ok, None, Some};
 ghost use Rattle.std.specs.Option.{ForSome};
 ghost use Rattle.mt_skel.specs.declared.fault.Fault.TheVariants.{NoMemory, NoWatcher};
 ghost use Rattle.mt_events.specs.Following.{IsRun};
@@ -9,13 +9,14 @@ ghost use Rattle.mt_requests.specs.declared.request.Request.TheVariants.{Take, C
 ghost use Rattle.mt_session.specs.declared.serving.End.TheVariants.{Memory};
 ghost use Rattle.mt_session.specs.Answers.{refusal};
 ghost use Rattle.mt_session.specs.SharedTurns.{is_under_lock, SeesOn};
-ghost use Rattle.mt_session.specs.SharedSession.{IsAnsweredAt, IsNotDoneAt, HasLeft};
+ghost use Rattle.mt_session.specs.SharedSession.{HasLeft};
+ghost use Rattle.mt_session.specs.Session.{ends_by};
 ghost use Rattle.mt_session.specs.SharedServing.{HasMet, HasEndedAt, IsPortion, EndsWith, IsPiece};
 
 use crate::bell::Bell;
 use crate::doorkeeper::Doorkeeper;
 use crate::gate::Gate;
-use crate::serving::{End, end_of};
+use crate::serving::End;
 use crate::session::phase_text;
 use crate::shared_session::{SharedSession, told};
 use crate::text::Text;
@@ -104,11 +105,6 @@ impl Piece {
     }
 }
 
-/// Whether a request may give other sessions something to take, or end what they follow.
-fn wakes(request: &Request) -> bool {
-    matches!(request, Request::Run(_) | Request::Stop)
-}
-
 /// What is told of a watcher that has ended: what was sent to it and not taken.
 fn told_end(alloc: Global, ended: Option<SharedPosts>) -> Piece
     ensures none { ended ≡ None → EndsWith (refusal NoWatcher) None result.text result.then }
@@ -147,24 +143,6 @@ fn took_posts(alloc: Global, printed: &PrintedPosts) -> Piece
 }
 
 impl<'a, J: Naming, G: Gate, K: Doorkeeper, R: Wait + Clock> Shared<'a, J, G, K, R> {
-    /// Does a request while the desk is held. Refused as `NoMemory` alone.
-    fn do_locked(&self, session: &mut SharedSession<J>, request: &Request) -> Result<Text, Fault>
-        requires { is_under_lock request.now ≡ true }
-        ensures answered { IfOk result (λ text. IsAnsweredAt session.old request.now text session.new) }
-        ensures memory { IsOkUnless result Fault.NoMemory }
-        ensures undone { OnErr result (IsNotDoneAt session.old request.now session.new) }
-    {
-        self.bell.turns().begin(self.rt);
-        let mut desk = self.desk.lock(self.rt);
-        let answer = session.locked(self.rt, &mut *desk, request);
-        if answer.is_ok() && matches!(request, Request::Run(_)) {
-            self.gate.in_lock(self.rt, self.number);
-        }
-        drop(desk);
-        self.bell.turns().end(self.rt);
-        answer
-    }
-
     /// Meets the desk while it is held.
     fn meet(&self, session: &mut SharedSession<J>) -> Option<Meeting>
         ensures met { HasMet session.old.own result session.new.own session.new.sight.seen }
@@ -207,28 +185,45 @@ impl<'a, J: Naming, G: Gate, K: Doorkeeper, R: Wait + Clock> Shared<'a, J, G, K,
         ensures { IsPiece session.old Close [] result.text result.then session.new }
     {
         let ended = self.end_watcher(session);
-        let piece = told_end(self.alloc, ended);
-        self.gate.before_answer(self.rt, self.number);
-        piece
+        told_end(self.alloc, ended)
     }
 
-    /// Does a request other than `close` while the desk is held: its answer, a single piece.
-    pub(crate) fn answer_locked(&self, session: &mut SharedSession<J>, request: &Request) -> Piece
+    /// Does a request while the desk is held, any but `take`, `follow` and `close`, by which the session ends so, if it
+    /// does: its answer, a single piece. Whoever rests is woken by it, and the doorkeeper hears of a stop.
+    pub(crate) fn answer_locked(
+        &self,
+        session: &mut SharedSession<J>,
+        request: &Request,
+        wakes: bool,
+        end: Option<End>,
+    ) -> Piece
         requires lock { is_under_lock request.now ≡ true }
         requires other { request.now ≢ Request.Close }
+        requires end { end ≡ ends_by (Ok request.now) }
         ensures { IsPiece session.old request.now [] result.text result.then session.new }
     {
-        let answer = self.do_locked(session, request);
-        if wakes(request) {
+        self.bell.turns().begin(self.rt);
+        let mut desk = self.desk.lock(self.rt);
+        let answer = session.locked(self.rt, &mut *desk, request);
+        if wakes && answer.is_ok() {
+            self.gate.in_lock(self.rt, self.number);
+        }
+        drop(desk);
+        self.bell.turns().end(self.rt);
+        self.announce(wakes, end);
+        match answer {
+            Ok(text) => Piece::last(text, end),
+            Err(_) => Piece::last(Text::refusal(Fault::NoMemory), None),
+        }
+    }
+
+    /// Tells whom it concerns that a request was done: those that rest, and the doorkeeper of a stop.
+    fn announce(&self, wakes: bool, end: Option<End>) {
+        if wakes {
             self.bell.ring(self.rt);
         }
-        if matches!(request, Request::Stop) {
+        if end == Some(End::Stop) {
             self.doorkeeper.close(self.rt);
-        }
-        self.gate.before_answer(self.rt, self.number);
-        match answer {
-            Ok(text) => Piece::last(text, end_of(request)),
-            Err(_) => Piece::last(Text::refusal(Fault::NoMemory), None),
         }
     }
 

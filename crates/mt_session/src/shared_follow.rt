@@ -1,10 +1,7 @@
 //! How a session in a thread of its own follows posts, piece by piece.
 ghost use Rattle.std.specs.Prelude.{◌≡◌, ◌≢◌, ◌<◌, ◌≤◌, List, ℕ, None, Some};
-ghost use Rattle.mt_skel.specs.declared.fault.Fault.TheVariants.{NoMemory};
 ghost use Rattle.mt_events.specs.Texts.{count_text};
 ghost use Rattle.mt_requests.specs.declared.request.Request.TheVariants.{Follow};
-ghost use Rattle.mt_session.specs.declared.serving.End.TheVariants.{Memory};
-ghost use Rattle.mt_session.specs.Answers.{refusal};
 ghost use Rattle.mt_session.specs.Requests.{by_phase};
 ghost use Rattle.mt_session.specs.SharedTurns.{SharedView};
 ghost use Rattle.mt_session.specs.SharedServing.{EndsWith, IsSoFar, IsPiece};
@@ -19,7 +16,6 @@ use mt_book::command::Reply;
 use mt_desk::lines::Naming;
 use mt_events::texts::PrintedPosts;
 use mt_floor::watch::Phase;
-use mt_skel::fault::Fault;
 use std::sync::Wait;
 use std::time::Clock;
 
@@ -39,21 +35,13 @@ fn tell(printed: PrintedPosts, told: u64) -> Piece
 }
 
 impl<'a, J: Naming, G: Gate, K: Doorkeeper, R: Wait + Clock> Shared<'a, J, G, K, R> {
-    /// The last piece of an answer to a `follow`.
-    fn last(&self, text: Text) -> Piece
-        ensures { EndsWith text None result.text result.then }
-    {
-        self.gate.before_answer(self.rt, self.number);
-        Piece::last(text, None)
-    }
-
     /// What comes next where none wait: the session rests, or tells why there will be no more.
     fn pause(&self, told: u64, phase: Phase) -> Piece
         ensures rest { phase ≡ Phase.Open → (result.text ≡ None) × (result.then ≡ Then.More told) }
         ensures over { phase ≢ Phase.Open → EndsWith (by_phase (count_text told) phase) None result.text result.then }
     {
         if phase != Phase::Open {
-            return self.last(phase_text(told, phase));
+            return Piece::last(phase_text(told, phase), None);
         }
         self.bell.rest(self.rt);
         Piece {
@@ -63,17 +51,6 @@ impl<'a, J: Naming, G: Gate, K: Doorkeeper, R: Wait + Clock> Shared<'a, J, G, K,
         }
     }
 
-    /// Why no posts can be told.
-    fn refuse(&self, fault: Fault) -> Piece
-        ensures lost { fault ≡ Fault.NoMemory → EndsWith (refusal NoMemory) (Some Memory) result.text result.then }
-        ensures others { fault ≢ Fault.NoMemory → EndsWith (refusal fault) None result.text result.then }
-    {
-        if fault == Fault::NoMemory {
-            return Piece::refusal(fault);
-        }
-        self.last(Text::refusal(fault))
-    }
-
     /// The next piece of the answer to a `follow` of so many posts, of which so many were told.
     pub(crate) fn follow(&self, session: &mut SharedSession<J>, most: u64, told: u64) -> Piece
         requires some { 0 < most }
@@ -81,7 +58,7 @@ impl<'a, J: Naming, G: Gate, K: Doorkeeper, R: Wait + Clock> Shared<'a, J, G, K,
         ensures { (s : SharedView) (out : List ℕ) → IsSoFar s (Follow most) out told session.old → IsPiece s (Follow most) out result.text result.then session.new }
     {
         if told == most {
-            return self.last(Text::reply(Reply::Number(told)));
+            return Piece::last(Text::reply(Reply::Number(told)), None);
         }
         match self.take_posts(session, (most - told).min(MOST_AT_ONCE)) {
             Ok(Portion::Posts(printed)) => {
@@ -89,7 +66,7 @@ impl<'a, J: Naming, G: Gate, K: Doorkeeper, R: Wait + Clock> Shared<'a, J, G, K,
                 tell(printed, told)
             }
             Ok(Portion::Empty(phase)) => self.pause(told, phase),
-            Err(fault) => self.refuse(fault),
+            Err(fault) => Piece::refusal(fault),
         }
     }
 }

@@ -17,6 +17,7 @@ use crate::serving::End;
 use crate::shared_answer::{Piece, Shared, Then};
 use crate::shared_session::SharedSession;
 use crate::text::Text;
+use crate::wants::{Wants, wants_of};
 use mt_desk::lines::Naming;
 use mt_lines::line::LineReader;
 use mt_lines::stream::{Cut, Input, Output, find_reader, send};
@@ -47,18 +48,19 @@ impl<'a, J: Naming, G: Gate, K: Doorkeeper, R: Wait + Clock> Shared<'a, J, G, K,
         requires within { IsWithin request.now told }
         ensures { (s : SharedView) (out : List ℕ) → IsSoFar s request.now out told session.old → IsPiece s request.now out result.text result.then session.new }
     {
-        if let Request::Follow(most) = request {
-            return self.follow(session, *most, told);
+        match wants_of(request) {
+            Wants::Desk { wakes, end } => self.answer_locked(session, request, wakes, end),
+            Wants::Waiting(most) => self.answer_take(session, most),
+            Wants::Coming(most) => self.follow(session, most, told),
+            Wants::Left => self.answer_close(session),
         }
-        if let Request::Take(most) = request {
-            let piece = self.answer_take(session, *most);
+    }
+
+    /// Tests can hold a session where the answer to a request ends that was done.
+    fn hold(&self, piece: &Piece) {
+        if matches!(piece.then, Then::Over(_)) {
             self.gate.before_answer(self.rt, self.number);
-            return piece;
         }
-        if matches!(request, Request::Close) {
-            return self.answer_close(session);
-        }
-        self.answer_locked(session, request)
     }
 
     /// Serves a request: how the session ends by it, if it does.
@@ -76,6 +78,7 @@ impl<'a, J: Naming, G: Gate, K: Doorkeeper, R: Wait + Clock> Shared<'a, J, G, K,
         let mut told = 0u64;
         'pieces: for _piece in self.rt.forever() {
             let piece = self.next_piece(session, request, told);
+            self.hold(&piece);
             if let Err(cut) = send_piece(writer, &piece.text) {
                 return Some(End::Cut(cut));
             }

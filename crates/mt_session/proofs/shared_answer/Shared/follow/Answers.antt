@@ -9,8 +9,8 @@ returns-in-Ok-Posts g c s out so_far =
 
 pub returns-in-Err : goal.returns-in-Err
 returns-in-Err g c s out so_far =
-    follow_refused s c.args.session.now.own c.args.session.now.sight c.take_posts.new.session c.args.most c.args.told c.min.result c.in-Err.fault out c.refuse.result.text c.refuse.result.then
-    so_far c.in-Err.ensures.portion c.in-Err.ensures.sight (omega (arith, c.min.ensures, c.requires.within)) c.refuse.ensures.lost c.refuse.ensures.others
+    follow_refused s c.args.session.now.own c.args.session.now.sight c.take_posts.new.session c.args.most c.args.told c.min.result c.in-Err.fault out c.refusal.result.text c.refusal.result.then
+    so_far c.in-Err.ensures.portion c.in-Err.ensures.sight (omega (arith, c.min.ensures, c.requires.within)) c.refusal.ensures.lost c.refusal.ensures.others
 
 pub returns-in-Ok-Empty : goal.returns-in-Ok-Empty
 returns-in-Ok-Empty g c s out so_far =
