@@ -71,7 +71,8 @@ where
         idle: limits.idle,
         gate: &OpenGate,
     };
-    match run_server(rt, alloc, premises) {
+    let (_, ended) = run_server(rt, alloc, listener, premises);
+    match ended {
         Ok(()) => Served::Stopped,
         Err(ServerFault::Accept) => Served::NotAccepting,
         Err(ServerFault::NoMemory) => Served::NoMemory,

@@ -9,7 +9,7 @@ use mt_lines::line::LineReader;
 use mt_lines::memory::Sink;
 use mt_lines::stream::{Input, Reading, Writing};
 use mt_lines::words::{Pieces, words};
-use mt_server::server::{Door, Premises, ServerFault, run_server, serve_door};
+use mt_server::server::{Door, Premises, ServerFault, run_server};
 use mt_session::bell::Bell;
 use mt_session::gate::Gate;
 use mt_skel::fault::Fault;
@@ -126,10 +126,11 @@ where
         idle: 0,
         gate,
     };
-    if !plan.fails {
-        return ended_by(run_server(rt, alloc, premises));
+    if plan.fails {
+        let (_, answer) = run_server(rt, alloc, Failing, premises);
+        return ended_by(answer);
     }
-    let (_, answer) = serve_door(rt, alloc, Failing, premises);
+    let (_, answer) = run_server(rt, alloc, listener, premises);
     ended_by(answer)
 }
 

@@ -34,13 +34,8 @@ pub enum ServerFault {
     NoMemory,
 }
 
-/// A listener as a `Door`, which counts nothing.
-#[derive(Drop)]
-struct Listening<'a> {
-    listener: &'a UnixListener,
-}
-
-impl<'a> Door for Listening<'a> {
+/// A listener is a door that counts nothing.
+impl<'a> Door for &'a UnixListener {
     ghost use Rattle.std.specs.Prelude.{false};
 
     ghost counts = { false };
@@ -50,7 +45,7 @@ impl<'a> Door for Listening<'a> {
     ghost failures = { λ d. 0 };
 
     fn accept(&mut self) -> io::Result<UnixStream> {
-        let (stream, _) = self.listener.accept()?;
+        let (stream, _) = UnixListener::accept(*self)?;
         Ok(stream)
     }
 }
@@ -179,15 +174,29 @@ where
     unreachable!()
 }
 
-/// Accepts the connections of a door as [`run_server`] does those of a listener, and answers the
-/// door as it has left it. The listener of the premises is where the door's connections come from.
+/// Accepts the connections of a door and serves each in a thread of its own, until a session stops the desk. From then on
+/// none is accepted, whether that session's answer goes out or not. The door is answered as it has been left. A listener is
+/// a door; that of the premises is where the door's connections come from.
+///
+/// At most `premises.sessions` have a session at once; the next one reads `no TooMany` and its end. One for
+/// which there is no thread or no descriptor, or of which the system bounds no read, reads
+/// `no NoMemory` and its end. Sessions are numbered from 1. When a session ends, its connection is
+/// counted no longer before its client reads the end. One that has sent nothing for `premises.idle` seconds while
+/// it follows nothing, if that is not 0, ends as at the end of its input, and so does one whose client has taken nothing
+/// for so long of what it is sent, which is cut then.
+///
+/// At a stop, and at a fault, the desk is stopped and no more connections are accepted. The other
+/// sessions go on: each ends once it has been idle for a second, so that a watcher can take what was
+/// sent to it; those that have not ended after ten seconds are cut off. Their threads are joined.
+/// Refused as `Accept` after 1,000 failed accepts in succession,
+/// a hundredth of a second apart; as `NoMemory` at once where there is none for the list of connections.
 ///
 /// It goes one round after another ([`accept_one`]). Whether the desk is stopped is looked for after each accept, so
 /// that it is never answered before the door was asked; who has stopped it, and whether that session's answer went out,
 /// is not asked. That it was stopped is no clause: the threads of the sessions share the desk under a lock, and a value
 /// under a lock has no name outside. A round is over only where its lookout said so, and what this one says is what it
 /// has read of the desk under that lock.
-pub fn serve_door<'a, D, Name, Moments, Runtime>(
+pub fn run_server<'a, D, Name, Moments, Runtime>(
     rt: &Runtime,
     alloc: Global,
     door: D,
@@ -219,40 +228,4 @@ where
     } else {
         (door, Err(ServerFault::Accept))
     }
-}
-
-/// Accepts connections and serves each in a thread of its own, until a session stops the desk. From
-/// then on none is accepted, whether that session's answer goes out or not.
-///
-/// At most `premises.sessions` have a session at once; the next one reads `no TooMany` and its end. One for
-/// which there is no thread or no descriptor, or of which the system bounds no read, reads
-/// `no NoMemory` and its end. Sessions are numbered from 1. When a session ends, its connection is
-/// counted no longer before its client reads the end. One that has sent nothing for `premises.idle` seconds while
-/// it follows nothing, if that is not 0, ends as at the end of its input, and so does one whose client has taken nothing
-/// for so long of what it is sent, which is cut then.
-///
-/// At a stop, and at a fault, the desk is stopped and no more connections are accepted. The other
-/// sessions go on: each ends once it has been idle for a second, so that a watcher can take what was
-/// sent to it; those that have not ended after ten seconds are cut off. Their threads are joined.
-/// Refused as `Accept` after 1,000 failed accepts in succession,
-/// a hundredth of a second apart; as `NoMemory` at once where there is none for the list of connections.
-///
-/// It is [`serve_door`] over the listener. No clause stands here, since a listener tells nothing of
-/// its accepts and nothing is given back that a clause could name; those of [`serve_door`] hold of
-/// every door that counts, and both run the same body.
-pub fn run_server<'a, Name, Moments, Runtime>(
-    rt: &Runtime,
-    alloc: Global,
-    premises: Premises<'a, Name, Moments>,
-) -> Result<(), ServerFault>
-where
-    Name: Naming + Send + Sync,
-    Moments: Gate + Sync,
-    Runtime: Threads + Wait + Clock + Net<Listener = TcpListener, Stream = TcpStream> + Sync,
-{
-    let door = Listening {
-        listener: premises.listener,
-    };
-    let (_door, ended) = serve_door(rt, alloc, door, premises);
-    ended
 }
