@@ -1,5 +1,5 @@
 //! Binds: copies of one mount, or of the tree of mounts below a directory.
-ghost use Rattle.std.specs.Prelude.{◌≡◌, ◌≢◌, ◌^◌, ◌<◌, cond, true, false, IfOk, IfErr, OnErr, IsOkUnless, Ok, Err, [], ◌∷◌};
+ghost use Rattle.std.specs.Prelude.{◌≡◌, ◌≢◌, ◌^◌, ◌<◌, cond, IfOk, IfErr, OnErr, IsOkUnless, Ok, Err, [], ◌∷◌};
 ghost use Rattle.mt_propagate.specs.World.{world_view, state_of};
 ghost use Rattle.mt_propagate.specs.WellFormed.{IsWellFormed};
 ghost use Rattle.mt_propagate.specs.Touched.{since_view};
@@ -54,8 +54,16 @@ fn sources_at(world: &World, from: Place, recursive: bool) -> Result<Sources, Fa
     })
 }
 
-/// Binds, if `recursive` together with what stands below the end of the source path.
-fn bind_from(
+/// Copies the mount where one path ends, as seen from that directory on, without what stands on it, to where another path
+/// ends and to each propagation target of that place, and answers the ID of the copy at the place itself.
+///
+/// With `recursive` all that stand on it within the directory are copied too, at whatever height, as one tree, and the ID
+/// is that of the topmost copy. An unbindable mount is left out then, with all mounts that stand on it.
+///
+/// Refused as `NoNamespace`, `NoEntry` if a component of either path is not there, the source path first, `RootPlace` if
+/// the other path is `/`, `Unbindable` if the mount is, `TooMany` above 4,096 mounts, and as `NoMemory`; then nothing has
+/// changed.
+pub fn bind(
     world: &mut World,
     space: SpaceId,
     recursive: bool,
@@ -86,46 +94,4 @@ fn bind_from(
     let plan = make_plan(world, &sources, place)?;
     ready(world, &plan)?;
     Ok(carry_out(world, plan))
-}
-
-/// Copies the mount where one path ends, as seen from that directory on, without what stands on it,
-/// to where another path ends and to each propagation target of that place, and answers the ID of
-/// the copy at the place itself.
-///
-/// Refused as `NoNamespace`, `NoEntry` if a component of either path is not there, the source path
-/// first, `RootPlace` if the other path is `/`, `Unbindable` if the mount is, `TooMany` above 4,096
-/// mounts, and as `NoMemory`; then nothing has changed.
-pub fn bind(world: &mut World, space: SpaceId, from: &[Name], to: &[Name]) -> Result<MountId, Fault>
-    requires well_formed { IsWellFormed (world_view world.old) }
-    requires numbers { (world.old.next_mount < 2 ^ 63) × (world.old.peers.next < 2 ^ 63) }
-    ensures done { IfOk result (λ id. bound (world_view world.old) space false from.now to.now ≡ Ok (world_view world.new, id)) }
-    ensures refused { IfErr result (λ fault. fault ≢ Fault.NoMemory → bound (world_view world.old) space false from.now to.now ≡ Err fault) }
-    ensures unchanged { OnErr result (world_view world.new ≡ world_view world.old) }
-    ensures kept { IsWellFormed (world_view world.new) }
-    ensures since { since_view world.new ≡ since_view world.old }
-{
-    bind_from(world, space, false, from, to)
-}
-
-/// Copies the mount where one path ends, as seen from that directory on, and all that stand on it
-/// within the directory, at whatever height, as one tree to where another path ends and to each
-/// propagation target of that place, and answers the ID of the topmost copy at the place itself. An
-/// unbindable mount is left out, with all mounts that stand on it.
-///
-/// Refused as [`bind`] is; then nothing has changed.
-pub fn rbind(
-    world: &mut World,
-    space: SpaceId,
-    from: &[Name],
-    to: &[Name],
-) -> Result<MountId, Fault>
-    requires well_formed { IsWellFormed (world_view world.old) }
-    requires numbers { (world.old.next_mount < 2 ^ 63) × (world.old.peers.next < 2 ^ 63) }
-    ensures done { IfOk result (λ id. bound (world_view world.old) space true from.now to.now ≡ Ok (world_view world.new, id)) }
-    ensures refused { IfErr result (λ fault. fault ≢ Fault.NoMemory → bound (world_view world.old) space true from.now to.now ≡ Err fault) }
-    ensures unchanged { OnErr result (world_view world.new ≡ world_view world.old) }
-    ensures kept { IsWellFormed (world_view world.new) }
-    ensures since { since_view world.new ≡ since_view world.old }
-{
-    bind_from(world, space, true, from, to)
 }

@@ -116,25 +116,13 @@ impl Book {
     /// or not, and what was prepared before can still be shown: the room for it stays (`room_stays`). The fields of
     /// each of its posts have what its type says (`valid`).
     ///
+    /// `heard` says whether somebody asks for the posts. If nobody does, none is made: a namespace is looked at up to the
+    /// first mount whose row changed.
+    ///
     /// Refused as `JournalFull` after 1,048,576 accepted commands, otherwise with the first of the command's own
     /// refusals that holds, and as `NoMemory`.
-    pub fn prepare(&mut self, command: &Command) -> Result<Prepared, Fault>
-        ensures prepared { IfOk result (λ prepared. IsPrepared self.old.journal prepared) }
-        ensures command { IfOk result (λ prepared. prepared_command prepared ≡ command.now) }
-        ensures heard { IfOk result (λ prepared. is_heard prepared ≡ true) }
-        ensures valid { IfOk result (λ prepared. AllByRecursion IsPost (prepared_posts prepared)) }
-        ensures room { OnOk result (0 < self.new.room) }
-        ensures room_stays { self.old.room ≤ self.new.room }
-        ensures refused { IfErr result (λ fault. fault ≢ Fault.NoMemory → answer self.old.journal command.now ≡ Err fault) }
-        ensures unchanged { self.new.journal ≡ self.old.journal }
-    {
-        self.prepare_for(command, true)
-    }
-
-    /// The same, where `heard` says whether somebody asks for the posts. If nobody does, none is made: a namespace is
-    /// looked at up to the first mount whose row changed.
     #[tactic(auto, unfolding(crate::specs::Book::answer))]
-    pub fn prepare_for(&mut self, command: &Command, heard: bool) -> Result<Prepared, Fault>
+    pub fn prepare(&mut self, command: &Command, heard: bool) -> Result<Prepared, Fault>
         ensures prepared { IfOk result (λ prepared. IsPrepared self.old.journal prepared) }
         ensures command { IfOk result (λ prepared. prepared_command prepared ≡ command.now) }
         ensures heard { IfOk result (λ prepared. is_heard prepared ≡ heard) }
@@ -217,7 +205,7 @@ impl Book {
         ensures unchanged { OnErr result (self.new.journal ≡ self.old.journal) }
         ensures inside { StaysInCopy self.old.journal command.now self.new.journal }
     {
-        let prepared = self.prepare(command)?;
+        let prepared = self.prepare(command, true)?;
         Ok(self.commit(prepared))
     }
 

@@ -174,36 +174,10 @@ fn renew_touched(
     Ok(changes.posts)
 }
 
-/// Renews the numbers between two worlds with the same directories, given in `touched` each mount that changed, and
-/// answers the posts. Most commands touch one namespace and move no mount: then no other row can differ, and none is
-/// listed.
+/// Renews the numbers after a command, given in `touched` each mount that changed, and answers its posts. One that makes
+/// directories changes no table, and so none is looked at. Most others touch one namespace and move no mount: then no
+/// other row can differ, and none is listed.
 fn renew(
-    alloc: Global,
-    between: &Between<'_>,
-    touched: &[MountId],
-    numbers: &mut Vec<(SpaceId, u64)>,
-) -> Result<SharedPosts, Fault>
-    requires skeleton { between.now.old.skel ≡ between.now.new.skel }
-    requires touched { IsTouched between.now.old between.now.new touched.now }
-    requires rising { IsTrue (rises (λ k. k) touched.now) }
-    requires numbers { AreNumbers numbers.old.items }
-    ensures numbers { OnOk result (numbers.new.items ≡ numbers_after between.now numbers.old.items) }
-    ensures posts { IfOk result (λ posts. posts ≡ heard_posts between.now numbers.old.items) }
-    ensures memory { IsOkUnless result Fault.NoMemory }
-{
-    if let Some(space) = resting_space(between.old, between.new, touched) {
-        return renew_lone(alloc, between, touched, space, numbers);
-    }
-    let ids = rows_touched(between.old, between.new, touched)?;
-    match lone_space(between.old, between.new, &ids) {
-        Some(space) => renew_lone(alloc, between, &ids, space, numbers),
-        None => renew_touched(alloc, between, &ids, numbers),
-    }
-}
-
-/// Renews the numbers after a command, and answers its posts. One that makes directories changes no table, and so none
-/// is looked at.
-fn renew_after(
     alloc: Global,
     between: &Between<'_>,
     touched: &[MountId],
@@ -224,7 +198,14 @@ fn renew_after(
     if command.makes_directories() {
         return Ok(SharedPosts::new(Vec::new(alloc)));
     }
-    renew(alloc, between, touched, numbers)
+    if let Some(space) = resting_space(between.old, between.new, touched) {
+        return renew_lone(alloc, between, touched, space, numbers);
+    }
+    let ids = rows_touched(between.old, between.new, touched)?;
+    match lone_space(between.old, between.new, &ids) {
+        Some(space) => renew_lone(alloc, between, &ids, space, numbers),
+        None => renew_touched(alloc, between, &ids, numbers),
+    }
 }
 
 /// What a command that is accepted changes for namespaces that had these numbers: those that are there. One that it
@@ -254,7 +235,7 @@ pub(crate) fn changes_after(
         between.old.next_space,
         command.makes_space(),
     )?;
-    let posts = renew_after(alloc, between, touched, &mut all, command)?;
+    let posts = renew(alloc, between, touched, &mut all, command)?;
     if !command.drops_space() {
         return Ok(Changes {
             numbers: all,

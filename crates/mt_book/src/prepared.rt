@@ -24,7 +24,7 @@ pub struct Prepared {
 }
 
 impl Prepared {
-    /// The posts that the command will give, by rising namespace; none if nobody asks for them (`Book::prepare_for`).
+    /// The posts that the command will give, by rising namespace; none if nobody asks for them (`Book::prepare`).
     pub fn posts(&self) -> &[Arc<Post>]
         ensures { map (λ p. arc_value p) result.now ≡ prepared_posts self.now }
     {

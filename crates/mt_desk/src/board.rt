@@ -104,7 +104,7 @@ impl<J: Naming> Board<J> {
         if self.stopped {
             return Err(Fault::Stopped);
         }
-        let prepared = self.book.prepare_for(command, is_heard(&self.slots))?;
+        let prepared = self.book.prepare(command, is_heard(&self.slots))?;
         let due = due_of(self.alloc, prepared.posts(), &self.slots, &self.order)?;
         let (reply, _) = self.book.commit(prepared);
         send_all(rt, &mut self.slots, due);

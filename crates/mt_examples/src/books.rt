@@ -82,7 +82,7 @@ fn commands_run_one_after_another(rt: HostRuntime) -> Result<(), Fail> {
 /// Prepares a command and drops it: how many posts it would have had.
 fn dropped(alloc: Global, book: &mut Book, line: &[u8]) -> Result<usize, Fault> {
     let command = command_of(alloc, line)?;
-    let prepared = book.prepare(&command)?;
+    let prepared = book.prepare(&command, true)?;
     Ok(prepared.posts().len())
 }
 
@@ -111,8 +111,8 @@ fn prepared_commands_may_be_dropped(rt: HostRuntime) -> Result<(), Fail> {
 
 /// Shows a command that was prepared, though another one was refused after it.
 fn shown_behind(book: &mut Book, first: &Command, refused: &Command) -> Result<Reply, Fault> {
-    let prepared = book.prepare(first)?;
-    let _ = book.prepare(refused);
+    let prepared = book.prepare(first, true)?;
+    let _ = book.prepare(refused, true);
     let (reply, _) = book.commit(prepared);
     Ok(reply)
 }

@@ -125,7 +125,7 @@ impl Floor {
         if self.stopped {
             return Err(Fault::Stopped);
         }
-        let prepared = self.book.prepare_for(command, is_heard(&self.rows))?;
+        let prepared = self.book.prepare(command, is_heard(&self.rows))?;
         let due = due_of(self.alloc, prepared.posts(), &self.rows)?;
         let (reply, _) = self.book.commit(prepared);
         self.due = due;

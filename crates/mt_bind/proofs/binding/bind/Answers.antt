@@ -10,8 +10,8 @@ use Rattle.mt_bind.specs.Mounting.{copied_with_id, bound}
 use Rattle.mt_bind.proofs.MountLaws.{bound_source, destination}
 use Rattle.mt_bind.proofs.MemberLaws.{stays, full}
 use Rattle.mt_bind.proofs.AcceptedLaws.{IsLate, bound_late, planned_done, planned_refused}
-use Rattle.mt_bind.proofs.binding.bind_from.Goals.{After-too_many_mounts}
-use Rattle.mt_bind.proofs.binding.bind_from.Goals as goal
+use Rattle.mt_bind.proofs.binding.bind.Goals.{After-too_many_mounts}
+use Rattle.mt_bind.proofs.binding.bind.Goals as goal
 
 -- where one more is too many, there are as many as there can be
 most : (n : ℕ) → nat_lt mount_limit (n + 1) ≡ true → mount_limit ≤ n
