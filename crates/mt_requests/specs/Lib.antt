@@ -1,3 +1,2 @@
-pub mod Gathered
 pub mod Options
 pub mod Requests

@@ -1,97 +1,185 @@
 //! The options of a `setattr` line, and of a `mount` line.
 ghost use Rattle.std.specs.Prelude.{◌≡◌, Some, None};
+ghost use Rattle.std.specs.List.{list_all, list_any};
 ghost use Rattle.std.specs.Option.{option_copied, option_map, option_map_or};
-ghost use Rattle.mt_requests.specs.Gathered.{nothing_gathered, gathered_with, options_of, set_with, cleared_with};
-ghost use Rattle.mt_requests.specs.Options.{nothing_set, nothing_cleared, no_change, set_words, attributes_of, clr_words, kind_of, change_of};
+ghost use Rattle.mt_lines.specs.Words.{pieces};
+ghost use Rattle.mt_requests.specs.Options.{option_keys, is_option, is_repeated, are_options, lists, is_set_word, is_clr_word, nothing_set, nothing_cleared, no_change, set_words, attributes_of, clr_words, kind_of, said, change_of};
 
 use mt_lines::words::{Pieces, Words};
 use mt_peers::state::Kind;
 use mt_setattr::change::{Change, ClrWords, SetWords};
-use std::marker::Model;
 
-/// The options that were there, with what each says behind its key.
-#[derive(Drop)]
-struct Options<'a> {
-    /// Whether `rec` was there.
-    recursive: bool,
-    /// The list of `set=`.
-    set: Option<&'a [u8]>,
-    /// The list of `clr=`.
-    clr: Option<&'a [u8]>,
-    /// The word of `prop=`.
-    prop: Option<&'a [u8]>,
+/// Whether a word is an option: `rec`, or a key with what stands behind it.
+fn is_option(word: &[u8]) -> bool
+    ensures { result ≡ is_option word.now }
+{
+    word == b"rec".as_slice()
+        || word.starts_with(b"set=")
+        || word.starts_with(b"clr=")
+        || word.starts_with(b"prop=")
 }
 
-impl<'a> Model for Options<'a> {
-    ghost use Rattle.std.specs.Option.{option_copied};
-    ghost use Rattle.mt_requests.specs.Gathered.{Gathered};
-
-    ghost Value = { Gathered };
-
-    ghost view = { λ o. record {
-      recursive = o.recursive;
-      set = option_copied o.set;
-      clr = option_copied o.clr;
-      prop = option_copied o.prop;
-    } };
+/// Whether each word is an option.
+fn are_all_options(words: &Words<'_>) -> bool
+    ensures { result ≡ list_all is_option words.now }
+{
+    words.again().all(|word| is_option(word))
 }
 
-impl<'a> Options<'a> {
-    /// No options.
-    fn new() -> Options<'a>
-        ensures { result ≡ nothing_gathered }
-    {
-        Options {
-            recursive: false,
-            set: None,
-            clr: None,
-            prop: None,
+/// Whether more than one word begins with a key.
+#[tactic(auto, using(crate::proofs::OptionLaws::repeated_first))]
+fn is_repeated(words: &Words<'_>, key: &[u8]) -> bool
+    ensures { result ≡ is_repeated words.now key.now }
+{
+    let mut words = words.again();
+    'words: while let Some(word) = words.next() {
+        if word.starts_with(key) {
+            return words.any(|other| other.starts_with(key));
         }
     }
+    false
+}
 
-    /// These options with one more word, or `None` where it is no option or its key was there.
-    fn with(self, word: &'a [u8]) -> Option<Options<'a>>
-        ensures { result ≡ gathered_with self.entry word.now }
-    {
-        if word == b"rec".as_slice() {
-            return (!self.recursive).then_some(Options {
-                recursive: true,
-                ..self
-            });
+/// Whether a key is there twice.
+fn has_repeated(words: &Words<'_>) -> bool
+    ensures { result ≡ list_any (is_repeated words.now) option_keys }
+{
+    is_repeated(words, b"rec")
+        || is_repeated(words, b"set=")
+        || is_repeated(words, b"clr=")
+        || is_repeated(words, b"prop=")
+}
+
+/// Whether the words are options, of which none has its key twice.
+fn are_options(words: &Words<'_>) -> bool
+    ensures { result ≡ are_options words.now }
+{
+    are_all_options(words) && !has_repeated(words)
+}
+
+/// What stands behind a key, in the first word that begins with it.
+fn said<'a>(words: &Words<'a>, key: &[u8]) -> Option<&'a [u8]>
+    ensures { option_copied result ≡ said key.now None (λ text. Some text) words.entry.now }
+{
+    let mut words = words.again();
+    'words: while let Some(word) = words.next() {
+        if let Some(text) = word.strip_prefix(key) {
+            return Some(text);
         }
-        if let Some(list) = word.strip_prefix(b"set=") {
-            return self.set.is_none().then_some(Options {
-                set: Some(list),
-                ..self
-            });
-        }
-        if let Some(list) = word.strip_prefix(b"clr=") {
-            return self.clr.is_none().then_some(Options {
-                clr: Some(list),
-                ..self
-            });
-        }
-        if let Some(kind) = word.strip_prefix(b"prop=") {
-            return self.prop.is_none().then_some(Options {
-                prop: Some(kind),
-                ..self
-            });
-        }
+    }
+    None
+}
+
+/// Whether a list, words joined by commas, has a word.
+fn lists(list: &[u8], word: &[u8]) -> bool
+    ensures { result ≡ lists list.now word.now }
+{
+    Pieces::new(b',', list).any(|listed| listed == word)
+}
+
+/// Whether a word is an attribute that can be set.
+fn is_set_word(word: &[u8]) -> bool
+    ensures { result ≡ is_set_word word.now }
+{
+    word == b"ro".as_slice()
+        || word == b"nosuid".as_slice()
+        || word == b"nodev".as_slice()
+        || word == b"noexec".as_slice()
+        || word == b"nosymfollow".as_slice()
+        || word == b"nodiratime".as_slice()
+        || word == b"relatime".as_slice()
+        || word == b"noatime".as_slice()
+        || word == b"strictatime".as_slice()
+}
+
+/// Whether each word of a list can be set.
+fn are_set_words(list: &[u8]) -> bool
+    ensures { result ≡ list_all is_set_word (pieces 44 list.now) }
+{
+    Pieces::new(b',', list).all(|word| is_set_word(word))
+}
+
+/// The attributes that a list of words sets, words joined by commas, or `None` where one of them is none that can be set.
+pub fn set_words(list: &[u8]) -> Option<SetWords>
+    ensures { result ≡ set_words list.now }
+{
+    if !are_set_words(list) {
+        return None;
+    }
+    Some(SetWords {
+        ro: lists(list, b"ro"),
+        nosuid: lists(list, b"nosuid"),
+        nodev: lists(list, b"nodev"),
+        noexec: lists(list, b"noexec"),
+        nosymfollow: lists(list, b"nosymfollow"),
+        nodiratime: lists(list, b"nodiratime"),
+        relatime: lists(list, b"relatime"),
+        noatime: lists(list, b"noatime"),
+        strictatime: lists(list, b"strictatime"),
+    })
+}
+
+/// The attributes of a new mount that a word `set=W,..` says, or `None` where it is another word.
+pub fn attributes_of(word: &[u8]) -> Option<SetWords>
+    ensures { result ≡ attributes_of word.now }
+{
+    set_words(word.strip_prefix(b"set=")?)
+}
+
+/// Whether a word is an attribute that can be cleared.
+fn is_clr_word(word: &[u8]) -> bool
+    ensures { result ≡ is_clr_word word.now }
+{
+    word == b"ro".as_slice()
+        || word == b"nosuid".as_slice()
+        || word == b"nodev".as_slice()
+        || word == b"noexec".as_slice()
+        || word == b"nosymfollow".as_slice()
+        || word == b"nodiratime".as_slice()
+        || word == b"atime".as_slice()
+}
+
+/// Whether each word of a list can be cleared.
+fn are_clr_words(list: &[u8]) -> bool
+    ensures { result ≡ list_all is_clr_word (pieces 44 list.now) }
+{
+    Pieces::new(b',', list).all(|word| is_clr_word(word))
+}
+
+/// The attributes that a list of words clears, words joined by commas, or `None` where one of them is none that can be
+/// cleared.
+pub fn clr_words(list: &[u8]) -> Option<ClrWords>
+    ensures { result ≡ clr_words list.now }
+{
+    if !are_clr_words(list) {
+        return None;
+    }
+    Some(ClrWords {
+        ro: lists(list, b"ro"),
+        nosuid: lists(list, b"nosuid"),
+        nodev: lists(list, b"nodev"),
+        noexec: lists(list, b"noexec"),
+        nosymfollow: lists(list, b"nosymfollow"),
+        nodiratime: lists(list, b"nodiratime"),
+        atime: lists(list, b"atime"),
+    })
+}
+
+/// What mounts are made by a word, or `None` where it is no kind of propagation.
+pub fn kind_of(word: &[u8]) -> Option<Kind>
+    ensures { result ≡ kind_of word.now }
+{
+    if word == b"shared".as_slice() {
+        Some(Kind::Shared)
+    } else if word == b"private".as_slice() {
+        Some(Kind::Private)
+    } else if word == b"slave".as_slice() {
+        Some(Kind::Slave)
+    } else if word == b"unbindable".as_slice() {
+        Some(Kind::Unbindable)
+    } else {
         None
     }
-}
-
-/// The options of these words, or `None` where a word is none or a key is there twice.
-#[tactic(auto, using(crate::proofs::OptionLaws::gathered_all))]
-fn options_of(words: Words<'_>) -> Option<Options<'_>>
-    ensures { result ≡ options_of words.entry }
-{
-    let mut words = words;
-    let mut options = Options::new();
-    'words: while let Some(word) = words.next() {
-        options = options.with(word)?;
-    }
-    Some(options)
 }
 
 /// Nothing is cleared.
@@ -118,111 +206,6 @@ pub(crate) fn no_change() -> Change
         clr: nothing_cleared(),
         prop: None,
         recursive: false,
-    }
-}
-
-/// What is set with one more word, or `None` where it is no attribute that can be set.
-fn set_with(set: SetWords, word: &[u8]) -> Option<SetWords>
-    ensures { result ≡ set_with set word.now }
-{
-    let mut set = set;
-    if word == b"ro".as_slice() {
-        set.ro = true;
-    } else if word == b"nosuid".as_slice() {
-        set.nosuid = true;
-    } else if word == b"nodev".as_slice() {
-        set.nodev = true;
-    } else if word == b"noexec".as_slice() {
-        set.noexec = true;
-    } else if word == b"nosymfollow".as_slice() {
-        set.nosymfollow = true;
-    } else if word == b"nodiratime".as_slice() {
-        set.nodiratime = true;
-    } else if word == b"relatime".as_slice() {
-        set.relatime = true;
-    } else if word == b"noatime".as_slice() {
-        set.noatime = true;
-    } else if word == b"strictatime".as_slice() {
-        set.strictatime = true;
-    } else {
-        return None;
-    }
-    Some(set)
-}
-
-/// What is cleared with one more word, or `None` where it is no attribute that can be cleared.
-fn cleared_with(clr: ClrWords, word: &[u8]) -> Option<ClrWords>
-    ensures { result ≡ cleared_with clr word.now }
-{
-    let mut clr = clr;
-    if word == b"ro".as_slice() {
-        clr.ro = true;
-    } else if word == b"nosuid".as_slice() {
-        clr.nosuid = true;
-    } else if word == b"nodev".as_slice() {
-        clr.nodev = true;
-    } else if word == b"noexec".as_slice() {
-        clr.noexec = true;
-    } else if word == b"nosymfollow".as_slice() {
-        clr.nosymfollow = true;
-    } else if word == b"nodiratime".as_slice() {
-        clr.nodiratime = true;
-    } else if word == b"atime".as_slice() {
-        clr.atime = true;
-    } else {
-        return None;
-    }
-    Some(clr)
-}
-
-/// The attributes that a list of words sets, words joined by commas, or `None` where one of them is none that can be set.
-#[tactic(auto, using(crate::proofs::SetLaws::set_folded))]
-pub fn set_words(list: &[u8]) -> Option<SetWords>
-    ensures { result ≡ set_words list.now }
-{
-    let mut words = Pieces::new(b',', list);
-    let mut set = SetWords::new();
-    'words: while let Some(word) = words.next() {
-        set = set_with(set, word)?;
-    }
-    Some(set)
-}
-
-/// The attributes of a new mount that a word `set=W,..` says, or `None` where it is another word.
-pub fn attributes_of(word: &[u8]) -> Option<SetWords>
-    ensures { result ≡ attributes_of word.now }
-{
-    set_words(word.strip_prefix(b"set=")?)
-}
-
-/// The attributes that a list of words clears, words joined by commas, or `None` where one of them is none that can be
-/// cleared.
-#[tactic(auto, using(crate::proofs::SetLaws::cleared_folded))]
-pub fn clr_words(list: &[u8]) -> Option<ClrWords>
-    ensures { result ≡ clr_words list.now }
-{
-    let mut words = Pieces::new(b',', list);
-    let mut clr = nothing_cleared();
-    'words: while let Some(word) = words.next() {
-        clr = cleared_with(clr, word)?;
-    }
-    Some(clr)
-}
-
-/// What mounts are made by a word, or `None` where it is no kind of propagation.
-pub fn kind_of(word: &[u8]) -> Option<Kind>
-    ensures { result ≡ kind_of word.now }
-{
-    if word == b"shared".as_slice() {
-        Some(Kind::Shared)
-    } else if word == b"private".as_slice() {
-        Some(Kind::Private)
-    } else if word == b"slave".as_slice() {
-        Some(Kind::Slave)
-    } else if word == b"unbindable".as_slice() {
-        Some(Kind::Unbindable)
-    } else {
-        None
     }
 }
 
@@ -266,11 +249,13 @@ fn prop_of(word: Option<&[u8]>) -> Option<Option<Kind>>
 pub(crate) fn change_of(words: &Words<'_>) -> Option<Change>
     ensures { result ≡ change_of words.now }
 {
-    let options = options_of(words.again())?;
+    if !are_options(words) {
+        return None;
+    }
     Some(Change {
-        set: set_of(options.set)?,
-        clr: clr_of(options.clr)?,
-        prop: prop_of(options.prop)?,
-        recursive: options.recursive,
+        set: set_of(said(words, b"set="))?,
+        clr: clr_of(said(words, b"clr="))?,
+        prop: prop_of(said(words, b"prop="))?,
+        recursive: said(words, b"rec").is_some(),
     })
 }
