@@ -1,13 +1,11 @@
 //! A plain session: lines in, answers out.
 ghost use Rattle.std.specs.Prelude.{◌≡◌, ◌≢◌, true, IsTrue, None, Some, Ok, []};
-ghost use Rattle.std.specs.Option.{ForSome};
-ghost use Rattle.mt_session.specs.Answers.{refusal};
 ghost use Rattle.mt_session.specs.Requests.{session_state, session_at};
 ghost use Rattle.mt_lines.specs.Reading.{known_left, failed_calls, last_faults, limit_of, fault_of};
-ghost use Rattle.mt_session.specs.Session.{Whole, ends_by, Served, line_limit, IsReadEnd, IsReadEndRun, IsCutCause, IsCutRun};
+ghost use Rattle.mt_session.specs.Session.{ends_by, Served, line_limit, IsReadEnd, IsReadEndRun, IsCutCause, IsCutRun};
 ghost use Rattle.mt_session.specs.Headline.{TranscriptHolds};
-ghost use Rattle.mt_session.specs.Answering.{ends_whole, is_by_answer};
-ghost use Rattle.mt_session.specs.Serving.{Answered, OnFloor};
+ghost use Rattle.mt_session.specs.Answering.{is_by_answer};
+ghost use Rattle.mt_session.specs.Serving.{OnFloor};
 
 use crate::answering::{Answers, answer_with, serve_lines};
 use crate::session::Session;
@@ -16,7 +14,6 @@ use mt_floor::floor::Floor;
 use mt_lines::line::{LineReader, ReadFault};
 use mt_lines::stream::{Cut, Input, Output};
 use mt_requests::request::{Request, read_request};
-use mt_skel::fault::Fault;
 use std::alloc::Global;
 
 /// Why a session ended.
@@ -57,43 +54,6 @@ pub(crate) fn end_of(request: &Request) -> Option<End>
     }
 }
 
-/// What is sent for a line, and how the session ends with it, if it does.
-#[derive(Drop)]
-struct LineAnswer {
-    text: Text,
-    end: Option<End>,
-}
-
-/// A refusal, with which no session ends.
-fn refused(fault: Fault) -> LineAnswer
-    ensures { (result.text ≡ refusal fault) × (result.end ≡ None) }
-{
-    LineAnswer {
-        text: Text::refusal(fault),
-        end: None,
-    }
-}
-
-/// Answers a line that was read whole.
-fn answer_text(session: &mut Session, floor: &mut Floor, line: &[u8]) -> LineAnswer
-    requires idle { floor.old.due ≡ [] }
-    ensures answered { Answered (session_state floor.old session.old) (session_state floor.new session.new) (Whole line.now) result.text result.end }
-    ensures whole { ForSome result.end (λ e. ends_whole e ≡ true) }
-    ensures idle { floor.new.due ≡ [] }
-{
-    let request = match read_request(session.alloc(), line) {
-        Ok(request) => request,
-        Err(fault) => return refused(fault),
-    };
-    match session.turn(floor, &request) {
-        Ok(text) => LineAnswer {
-            text,
-            end: end_of(&request),
-        },
-        Err(fault) => refused(fault),
-    }
-}
-
 /// Answers a line that was read whole, and sends the answer: how the session ends by it, if it does.
 fn answer_line<W: Output>(
     session: &mut Session,
@@ -108,8 +68,14 @@ fn answer_line<W: Output>(
     ensures cut { IsTrue W.counts → IsCutCause result (W.failed writer.old) (W.failed writer.new) }
     ensures cut_run { IsTrue W.counts → W.faults writer.old ≡ [] → IsCutRun result (W.faults writer.new) }
 {
-    let answer = answer_text(session, floor, line);
-    answer_with(writer, &answer.text, answer.end)
+    let request = match read_request(session.alloc(), line) {
+        Ok(request) => request,
+        Err(fault) => return answer_with(writer, &Text::refusal(fault), None),
+    };
+    match session.turn(floor, &request) {
+        Ok(text) => answer_with(writer, &text, end_of(&request)),
+        Err(fault) => answer_with(writer, &Text::refusal(fault), None),
+    }
 }
 
 /// A plain session is answered on a floor on which nothing is due.
