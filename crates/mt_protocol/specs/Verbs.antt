@@ -10,7 +10,7 @@ use Rattle.mt_protocol.specs.declared.argument.Argument.TheVariants.{Space, Scop
 use Rattle.mt_protocol.specs.declared.form.Form.{Form}
 use Rattle.mt_protocol.specs.declared.form.Form.TheVariants.{Done, Number, Place, Table, Opening, Posts, Followed, Never}
 use Rattle.mt_protocol.specs.declared.verb.Verb.{Verb}
-use Rattle.mt_protocol.specs.declared.verb.Verb.TheVariants.{Mkfs, Mkdir, Newns, Copyns, Dropns, Mount, Bind, Rbind, Move, Pivot, Umount, Detach, Setattr, Show, Find, Watch, Take, Follow, Close, Quit, Stop}
+use Rattle.mt_protocol.specs.declared.verb.Verb.TheVariants.{Mkfs, Mkdir, Newns, Copyns, Dropns, Mount, Bind, Rbind, Move, Pivot, Umount, Detach, Setattr, Show, Find, Tally, Watch, Take, Follow, Close, Quit, Stop}
 use Rattle.mt_protocol.specs.Rows.{VerbRow}
 
 -- the most posts of one `take`, and of one `follow`
@@ -44,6 +44,7 @@ verb_row Detach = command (codes "detach") (Space ∷ Path ∷ []) Done
 verb_row Setattr = command (codes "setattr") (Space ∷ Path ∷ Setting ∷ Setting ∷ Setting ∷ Setting ∷ []) Done
 verb_row Show = other (codes "show") (Space ∷ []) Table
 verb_row Find = other (codes "find") (Space ∷ Path ∷ []) Place
+verb_row Tally = other (codes "count") (Space ∷ []) Number
 verb_row Watch = other (codes "watch") (Scope ∷ []) Opening
 verb_row Take = other (codes "take") (Count most_taken ∷ []) Posts
 verb_row Follow = other (codes "follow") (Count most_followed ∷ []) Followed
@@ -76,7 +77,7 @@ is_optional argument = false
 
 -- every verb
 abbrev pub verbs : List Verb
-verbs = Mkfs ∷ Mkdir ∷ Newns ∷ Copyns ∷ Dropns ∷ Mount ∷ Bind ∷ Rbind ∷ Move ∷ Pivot ∷ Umount ∷ Detach ∷ Setattr ∷ Show ∷ Find ∷ Watch ∷ Take ∷ Follow ∷ Close ∷ Quit ∷ Stop ∷ []
+verbs = Mkfs ∷ Mkdir ∷ Newns ∷ Copyns ∷ Dropns ∷ Mount ∷ Bind ∷ Rbind ∷ Move ∷ Pivot ∷ Umount ∷ Detach ∷ Setattr ∷ Show ∷ Find ∷ Tally ∷ Watch ∷ Take ∷ Follow ∷ Close ∷ Quit ∷ Stop ∷ []
 
 -- the verb of a word, if it is that of one
 unfoldable pub verb_of : List ℕ → Option Verb

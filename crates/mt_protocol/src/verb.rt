@@ -43,6 +43,8 @@ pub enum Verb {
     Show,
     /// `find` says where a path ends.
     Find,
+    /// `count` counts the mounts of a namespace.
+    Tally,
     /// `watch` begins a watcher.
     Watch,
     /// `take` takes posts that wait.
@@ -58,7 +60,7 @@ pub enum Verb {
 }
 
 /// Every verb, in the order of the help.
-pub const VERBS: [Verb; 21] = [
+pub const VERBS: [Verb; 22] = [
     Verb::Mkfs,
     Verb::Mkdir,
     Verb::Newns,
@@ -74,6 +76,7 @@ pub const VERBS: [Verb; 21] = [
     Verb::Setattr,
     Verb::Show,
     Verb::Find,
+    Verb::Tally,
     Verb::Watch,
     Verb::Take,
     Verb::Follow,
@@ -230,6 +233,10 @@ impl Verb {
             Verb::Find => other(b"find", &[Space, Path], Place).says(
                 "find NS PATH",
                 "says on which mount and directory a path ends",
+            ),
+            Verb::Tally => other(b"count", &[Space], Number).says(
+                "count NS",
+                "counts the mounts of a namespace",
             ),
             Verb::Watch => other(b"watch", &[Scope], Opening).says(
                 "watch NS, watch all",

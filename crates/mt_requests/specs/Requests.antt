@@ -164,6 +164,7 @@ request_with verb.Detach w = request.Run (command.Detach (number_said (first_of 
 request_with verb.Setattr w = request.Run (command.SetAttr (number_said (first_of w)) (path_names (second_of w)) (change_said (options_behind w)))
 request_with verb.Show w = request.Ask (query.Show (number_said (first_of w)))
 request_with verb.Find w = request.Ask (query.Find (number_said (first_of w)) (path_names (second_of w)))
+request_with verb.Tally w = request.Ask (query.Count (number_said (first_of w)))
 request_with verb.Watch w = request.Watch (scope_said (first_of w))
 request_with verb.Take w = request.Take (number_said (first_of w))
 request_with verb.Follow w = request.Follow (number_said (first_of w))
@@ -223,6 +224,7 @@ command_verb (command.SetAttr n path change) = verb.Setattr
 abbrev pub query_verb : Query → Verb
 query_verb (query.Show n) = verb.Show
 query_verb (query.Find n path) = verb.Find
+query_verb (query.Count n) = verb.Tally
 
 abbrev pub request_verb : Request → Verb
 request_verb (request.Run c) = command_verb c

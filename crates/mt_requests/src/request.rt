@@ -23,6 +23,8 @@ pub enum Query {
     Show(u64),
     /// `find NS PATH` says where a path ends in a namespace.
     Find { space: u64, path: Names },
+    /// `count NS` counts the mounts of a namespace.
+    Count(u64),
 }
 
 /// What a line asks for.
@@ -143,6 +145,7 @@ fn request_with(alloc: Global, verb: Verb, words: Words<'_>) -> Result<Request, 
             space,
             path: path_of(alloc, second)?,
         })),
+        Verb::Tally => Ok(Request::Ask(Query::Count(space))),
         Verb::Watch => Ok(Request::Watch(scope_said(first))),
         Verb::Take => Ok(Request::Take(number_said(first))),
         Verb::Follow => Ok(Request::Follow(number_said(first))),

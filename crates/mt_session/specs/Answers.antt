@@ -1,6 +1,6 @@
 -- The texts of answers: a refusal, what a command answers, a table, the place where a path ends. Those of what a watcher found and of posts are in mt_events.
 -- A word with no source is this project's rule.
-use Rattle.std.specs.Prelude.{ℕ, List, [], ◌∷◌, ◌++◌, Result, Ok, Err, codes, decimal, cond}
+use Rattle.std.specs.Prelude.{ℕ, List, length, [], ◌∷◌, ◌++◌, Result, Ok, Err, codes, decimal, cond}
 use Rattle.mt_skel.specs.declared.fault.Fault.{Fault}
 use Rattle.mt_skel.specs.declared.fault.Fault.TheVariants.{NoNamespace}
 use Rattle.mt_skel.specs.Fault.{name_of}
@@ -15,7 +15,7 @@ use Rattle.mt_book.specs.Step.{after}
 use Rattle.mt_book.specs.Book.{found_at}
 use Rattle.mt_book.specs.History.{space_number}
 use Rattle.mt_requests.specs.declared.request.Query.{Query}
-use Rattle.mt_requests.specs.declared.request.Query.TheVariants.{Show, Find}
+use Rattle.mt_requests.specs.declared.request.Query.TheVariants.{Show, Find, Count}
 
 -- the line of a refusal
 abbrev pub refusal : Fault → List ℕ
@@ -41,7 +41,12 @@ abbrev pub found_text : Result (ℕ × List (List ℕ)) Fault → List ℕ
 found_text (Ok p) = place_text p.0 p.1
 found_text (Err f) = refusal f
 
+-- how many mounts a namespace has after these commands
+abbrev pub tally_text : List Command → ℕ → List ℕ
+tally_text journal n = cond (is_space (after journal) n) (count_text (length (table_of (after journal) n))) (refusal NoNamespace)
+
 -- what a query is answered after these commands
 abbrev pub query_text : List Command → Query → List ℕ
 query_text journal (Show n) = shown_text journal n
 query_text journal (Find n path) = found_text (found_at (after journal) n path)
+query_text journal (Count n) = tally_text journal n

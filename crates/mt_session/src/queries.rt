@@ -2,10 +2,11 @@
 ghost use Rattle.std.specs.Prelude.{◌≡◌, ◌≢◌, IfOk, IfErr};
 ghost use Rattle.mt_book.specs.Step.{after};
 ghost use Rattle.mt_book.specs.Book.{found_at};
-ghost use Rattle.mt_session.specs.Answers.{refusal, shown_text, found_text, query_text};
+ghost use Rattle.mt_session.specs.Answers.{refusal, shown_text, found_text, query_text, tally_text};
 
 use crate::text::Text;
 use mt_book::book::Book;
+use mt_book::command::Reply;
 use mt_events::texts::push_heading;
 use mt_requests::request::Query;
 use mt_skel::fault::Fault;
@@ -51,6 +52,16 @@ fn find(alloc: Global, book: &Book, space: u64, path: &Names) -> Result<Text, Fa
     }
 }
 
+/// The line that counts a namespace's mounts.
+fn count(book: &Book, space: u64) -> Text
+    ensures { result ≡ tally_text book.now.journal space }
+{
+    match book.number(space) {
+        Ok(_) => Text::reply(Reply::Number(book.row_count(space) as u64)),
+        Err(fault) => Text::refusal(fault),
+    }
+}
+
 /// What a query is answered.
 pub(crate) fn asked(alloc: Global, book: &Book, query: &Query) -> Result<Text, Fault>
     ensures ok { IfOk result (λ text. text ≡ query_text book.now.journal query.now) }
@@ -59,5 +70,6 @@ pub(crate) fn asked(alloc: Global, book: &Book, query: &Query) -> Result<Text, F
     match query {
         Query::Show(space) => show(alloc, book, *space),
         Query::Find { space, path } => find(alloc, book, *space, path),
+        Query::Count(space) => Ok(count(book, *space)),
     }
 }
