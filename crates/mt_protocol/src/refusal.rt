@@ -13,7 +13,7 @@ use mt_skel::fault::Fault;
 use std::marker::Model;
 
 /// Every refusal of a server, in the order of the pages.
-pub const REFUSALS: [Fault; 24] = [
+pub const REFUSALS: [Fault; 25] = [
     Fault::BadLine,
     Fault::TooLong,
     Fault::BadPath,
@@ -36,6 +36,7 @@ pub const REFUSALS: [Fault; 24] = [
     Fault::WatcherOpen,
     Fault::TooManyWatchers,
     Fault::Lagged,
+    Fault::TooEarly,
     Fault::Stopped,
     Fault::NoMemory,
 ];
@@ -287,6 +288,12 @@ pub fn refusal_row(refusal: Fault) -> RefusalRow
             Nothing("it has no server, and no watchers"),
             "the number of the last post, and that of the namespace now",
             "close and watch again, or a longer queue of the server (--queue)",
+        ),
+        Fault::TooEarly => row(
+            "The server has begun just now.",
+            Nothing("it has no server"),
+            "the server",
+            "the same line again",
         ),
         Fault::Stopped => row(
             "The server was stopped.",

@@ -2,7 +2,7 @@
 -- A word with no source is this project's rule.
 use Rattle.std.specs.Prelude.{ℕ, List, codes}
 use Rattle.mt_skel.specs.declared.fault.Fault.{Fault}
-use Rattle.mt_skel.specs.declared.fault.Fault.TheVariants.{BadLine, TooLong, BadPath, JournalFull, NoFilesystem, FilesystemExists, NoNamespace, NoEntry, EntryExists, NotMountRoot, RootPlace, Unbindable, SharedParent, IntoItself, UnbindableInside, Busy, BadAttr, TooMany, NoWatcher, WatcherOpen, TooManyWatchers, Lagged, Stopped, NoMemory}
+use Rattle.mt_skel.specs.declared.fault.Fault.TheVariants.{BadLine, TooLong, BadPath, JournalFull, NoFilesystem, FilesystemExists, NoNamespace, NoEntry, EntryExists, NotMountRoot, RootPlace, Unbindable, SharedParent, IntoItself, UnbindableInside, Busy, BadAttr, TooMany, NoWatcher, WatcherOpen, TooManyWatchers, Lagged, TooEarly, Stopped, NoMemory}
 
 -- the name of a refusal is that of its variant
 abbrev pub name_of : Fault → List ℕ
@@ -28,5 +28,6 @@ name_of NoWatcher = codes "NoWatcher"
 name_of WatcherOpen = codes "WatcherOpen"
 name_of TooManyWatchers = codes "TooManyWatchers"
 name_of Lagged = codes "Lagged"
+name_of TooEarly = codes "TooEarly"
 name_of Stopped = codes "Stopped"
 name_of NoMemory = codes "NoMemory"

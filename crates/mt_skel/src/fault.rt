@@ -53,6 +53,8 @@ pub enum Fault {
     TooManyWatchers,
     /// The watcher fell behind and gets no more events.
     Lagged,
+    /// The server has begun just now.
+    TooEarly,
     /// The server was stopped.
     Stopped,
     /// A growth was refused for want of memory.
@@ -104,6 +106,7 @@ impl Fault {
             Fault::WatcherOpen => b"WatcherOpen",
             Fault::TooManyWatchers => b"TooManyWatchers",
             Fault::Lagged => b"Lagged",
+            Fault::TooEarly => b"TooEarly",
             Fault::Stopped => b"Stopped",
             Fault::NoMemory => b"NoMemory",
         }
