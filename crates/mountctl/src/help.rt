@@ -145,7 +145,12 @@ fn push_words(words: &mut Vec<&'static [u8]>, usages: &[Usage]) -> Result<(), Al
 /// The words that usages begin with, each once, but for those of lines.
 fn words_of(alloc: Global, usages: &[Usage]) -> Result<Vec<&'static [u8]>, AllocError> {
     let mut words = Vec::new(alloc);
-    push_words(&mut words, usages)?;
+    for usage in usages {
+        let word = word_of(*usage).as_bytes();
+        if Verb::of(word).is_none() && !words.as_slice().contains(&word) {
+            words.push(word)?;
+        }
+    }
     Ok(words)
 }
 
