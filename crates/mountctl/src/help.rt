@@ -131,11 +131,16 @@ fn words_of_lines(alloc: Global, change: bool) -> Result<Vec<&'static [u8]>, All
     Ok(words)
 }
 
+/// Whether a word is no line's, and is not among these.
+fn is_missing(words: &[&'static [u8]], word: &'static [u8]) -> bool {
+    Verb::of(word).is_none() && !words.contains(&word)
+}
+
 /// Appends the words that usages begin with, but for those of lines, and those that are there.
 fn push_words(words: &mut Vec<&'static [u8]>, usages: &[Usage]) -> Result<(), AllocError> {
     for usage in usages {
         let word = word_of(*usage).as_bytes();
-        if Verb::of(word).is_none() && !words.as_slice().contains(&word) {
+        if is_missing(words.as_slice(), word) {
             words.push(word)?;
         }
     }
@@ -147,7 +152,7 @@ fn words_of(alloc: Global, usages: &[Usage]) -> Result<Vec<&'static [u8]>, Alloc
     let mut words = Vec::new(alloc);
     for usage in usages {
         let word = word_of(*usage).as_bytes();
-        if Verb::of(word).is_none() && !words.as_slice().contains(&word) {
+        if is_missing(words.as_slice(), word) {
             words.push(word)?;
         }
     }
