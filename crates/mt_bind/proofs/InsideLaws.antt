@@ -24,7 +24,13 @@ use Rattle.mt_propagate.proofs.WalkLaws.{root_fits}
 use Rattle.mt_setattr.specs.declared.change.SetWords.{SetWords}
 use Rattle.mt_bind.specs.Spaces.{with_space, new_space, with_copy, copy_space, without_space}
 use Rattle.mt_bind.specs.Mounting.{mounted_with, bound, moved}
-use Rattle.mt_bind.proofs.AcceptedLaws.{fs_of, new_space_accepted, copy_space_accepted}
+use Rattle.mt_bind.specs.Opening.{opened_sources, with_copies, tree_opened, tree_made}
+use Rattle.mt_bind.proofs.AcceptedLaws.{path_end, fs_of, new_space_accepted, tree_made_accepted, opened_accepted, copy_space_accepted}
+use Rattle.mt_bind.proofs.SourceCopyLaws as source
+use Rattle.mt_bind.proofs.SourceCopyLaws.{AreSources}
+use Rattle.mt_bind.proofs.OpenedLaws as opened
+use Rattle.mt_bind.proofs.OpenedLaws.{AreShown}
+use Rattle.mt_bind.proofs.OpenedSourceLaws.{opened-sources, opened-shown, opened-inside}
 use Rattle.mt_bind.proofs.SpaceLaws.{new_root}
 use Rattle.mt_bind.proofs.NamespaceCopyLaws.{old-in, copy-in}
 use Rattle.mt_bind.proofs.CopyLaws.{state-from, IsStateOfCopy, new_peers, copy-from, copy-group, copy-master, copy-kept}
@@ -146,6 +152,42 @@ less_copied w m v n h e =
 -- an accepted new namespace
 pub made_contained : (k : ℕ) (w : WorldView) (name : List ℕ) (v : WorldView) (i : ℕ) → IsWellFormed w → IsContained k w → new_space w name ≡ Ok (v, i) → IsContained k v
 made_contained k w name v i h c e = subst (IsContained k) (new_space_accepted w name v i e).world (space_contained k w (fs_of w name) h c)
+
+-- a detached tree of a filesystem
+pub tree_made_contained : (k : ℕ) (w : WorldView) (name : List ℕ) (v : WorldView) (i : ℕ) → IsWellFormed w → IsContained k w → tree_made w name ≡ Ok (v, i) → IsContained k v
+tree_made_contained k w name v i h c e =
+    let s = space_contained k w (fs_of w name) h c in
+    subst (IsContained k) (tree_made_accepted w name v i e).world (record { groups = s.groups; chains = s.chains })
+
+-- an opened tree
+module _ (w : WorldView) (h : IsWellFormed w) (ms : List Mount) (a : AreSources w ms) (s : AreShown w ms) where
+  kept-space : (i : ℕ) (q : Mount) → mount_at w.forest i ≡ Some q → space_of (with_copies w ms) i ≡ space_of w i
+  unfolding with_copies
+  kept-space i q e = ap (λ o. unwrap_or (option_map (λ (m : Mount). m.space) o) 0) (source.old-in w h ms a i q e) ∙ sym (space_is w i q e)
+
+  opened-space : (i : ℕ) (t : State) → opened.IsStateOfCopy w h ms a s i t → space_of (with_copies w ms) i ≡ w.next_space
+  unfolding with_copies
+  opened-space i t c = ap (space_of (with_copies w ms)) c.number ∙ ap (λ o. unwrap_or (option_map (λ (m : Mount). m.space) o) 0) (source.copy-in w h ms a c.source.id c.source c.there)
+
+  -- of mounts of another namespace
+  opening_contained : (k : ℕ) → k < w.next_space → ((i : ℕ) (m : Mount) → mount_at ms i ≡ Some m → space_of w i ≢ k) → IsContained k w → IsContained k (with_copies w ms)
+  unfolding with_copies
+  opening_contained k low other c =
+      more_contained k w (with_copies w ms) h c (opened.new_peers w h ms a s) refl (opened.opened-kept w h ms a s).peering.rising kept-space
+      (λ i t g e is.
+      let c = opened.copy-from w h ms a s i t e in
+      (c.source.id, t, c.stated, is, λ q. absurd (other c.source.id c.source c.there q), λ q. absurd (let n = opened-space i t c in omega (arith, low, n, q))))
+      (λ i t g e is.
+      let c = opened.copy-from w h ms a s i t e in
+      (c.source.id, t, c.stated, inl is, λ q. absurd (other c.source.id c.source c.there q)))
+
+pub opened_contained : (k : ℕ) (w : WorldView) (n : ℕ) (path : List (List ℕ)) (recursive : Bool) (v : WorldView) (i : ℕ) → IsWellFormed w → IsContained k w → k < w.next_space → k ≢ n → tree_opened w n path recursive ≡ Ok (v, i) → IsContained k v
+opened_contained k w n path recursive v i h c low other e =
+    let a = opened_accepted w n path recursive v i e in
+    let p = path_end w n path in
+    subst (IsContained k) a.world
+    (opening_contained w h (opened_sources w recursive p) (opened-sources w n path recursive p h a.ended) (opened-shown w n path recursive p h a.ended) k low
+    (λ i m f q. other (sym q ∙ opened-inside w n path recursive p h a.ended i m f)) c)
 
 -- a namespace that ends
 module _ (w : WorldView) (h : IsWellFormed w) (n : ℕ) where

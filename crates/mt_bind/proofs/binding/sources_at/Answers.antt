@@ -1,19 +1,21 @@
-use Rattle.std.proofs.Common.{Bool, cond, sym, ap, ◌∙◌}
-use Rattle.mt_propagate.specs.World.{world_view}
-use Rattle.mt_bind.specs.Sources.{alone, tree_within}
+use Rattle.std.proofs.Common.{◌≡◌, ℕ, Bool, true, false, cond, List, [], ◌∷◌, map}
+use Rattle.std.specs.List.{filter}
+use Rattle.mt_skel.specs.Keyed.{rises}
+use Rattle.mt_mounts.specs.declared.mount.Mount.{Mount}
+use Rattle.mt_mounts.specs.declared.mount.Place.{Place}
+use Rattle.mt_mounts.specs.Forest.{id_of}
+use Rattle.mt_propagate.specs.World.{WorldView, world_view}
+use Rattle.mt_propagate.specs.Plans.{copied_source}
+use Rattle.mt_bind.specs.Sources.{alone, tree_within, is_bound_along}
 use Rattle.mt_bind.proofs.MemberLaws.{tree_is, alone_is}
-use Rattle.mt_bind.proofs.binding.sources_at.Goals.{then-recursive+in_ok-members, else-recursive+in_ok-members-2}
 use Rattle.mt_bind.proofs.binding.sources_at.Goals as goal
+
+-- the tree by the IDs of its mounts, recursive or not
+source_by : (w : WorldView) (p : Place) → rises id_of w.forest ≡ true → (recursive : Bool) (ids : List ℕ) → ids ≡ cond recursive (map id_of (filter (λ (m : Mount). is_bound_along w p m.id) w.forest)) (p.mount ∷ [])
+    → copied_source w p.mount p.dir ids false ≡ cond recursive (tree_within w p) (alone w p)
+source_by w p rising true ids e = tree_is w p rising ids e
+source_by w p rising false ids e = alone_is w p ids e
 
 pub returns-clause-sources : goal.returns-clause-sources
 returns-clause-sources c =
-    let w = world_view c.args.world.now in
-    let p = c.args.from in
-    elim c.if-recursive.branch [
-      | then-recursive+in_ok-members b ↦
-          tree_is w p c.requires.well_formed.forest.rising c.if-recursive.members.items (ap (λ ids. ids.items) b.members-is ∙ b.in_ok-members.ensures.members)
-          ∙ ap (λ (recursive : Bool). cond recursive (tree_within w p) (alone w p)) (sym b.if-recursive.true)
-      | else-recursive+in_ok-members-2 b ↦
-          alone_is w p c.if-recursive.members.items (ap (λ ids. ids.items) b.members-is ∙ b.in_ok-members-2.ensures.only)
-          ∙ ap (λ (recursive : Bool). cond recursive (tree_within w p) (alone w p)) (sym b.if-recursive.false)
-    ]
+    source_by (world_view c.args.world.now) c.args.from c.requires.well_formed.forest.rising c.args.recursive c.in_ok-members.members.items c.in_ok-members.ensures.members

@@ -59,7 +59,7 @@ returns-clause-done c =
     let more = c.len.ensures ∙ c.in_ok-originals.originals.ok.0 ∙ ap length c.in_ok-originals.ensures.mounts in
     let number = c.add_space.ensures.space ∙ ap (λ (v : WorldView). v.next_space) c.in_ok-make_room.ensures.world in
     let few = or_parts (too_many_spaces w) (too_many_mounts w (length (originals w c.args.space))) (ap (λ (k : ℕ). too_many_spaces w || too_many_mounts w k) (sym more) ∙ sym c.too_many.ensures ∙ c.if-too_many.false) in
-    rw (there, few.0, few.1) (λ i. Ok (sym (is_copy c) i, sym number i))
+    rw (there, sym c.is_tree.ensures ∙ c.if-is_tree.false, few.0, few.1) (λ i. Ok (sym (is_copy c) i, sym number i))
 
 pub returns-clause-kept : goal.returns-clause-kept
 returns-clause-kept c = subst IsWellFormed (sym (is_copy c)) (copy-kept (world_view c.args.world.now) c.requires.well_formed c.args.space c.args.less)
