@@ -22,4 +22,5 @@ pub mod Provided
 pub mod Taken
 pub mod Tried
 pub mod LinesTold
+pub mod Reasons
 pub mod Foretelling

@@ -15,6 +15,7 @@ mod lines;
 mod naming;
 pub mod numbers;
 mod provide;
+mod reasons;
 pub mod scene;
 mod script;
 mod sources;
