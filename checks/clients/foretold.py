@@ -29,6 +29,19 @@ TABLES = (
     [("docs", "tables", "host"), ("docs", "tables", "container")],
 )
 
+# Refusals that no rows of tables say more of.
+UNEXPLAINED = "TooMany", "NoEntry"
+
+# A line that is refused, of the tables of a host and a container, and what is told of it.
+REFUSED = "mount", "--move", "/home", "/run/h"
+REFUSED_SAID = b"""1 mount --move /home /run/h
+    taken to be there: directory /h of 0:26
+  no SharedParent: SRC, /home stands on mount 29 at /, which is shared, in group 1
+      29 / /dev/sda2 shared:1
+    to change that: setattr 1 / prop=private (or prop=slave, which still gets what the others mount)
+elsewhere: nothing changes in 1 other namespace
+"""
+
 # Options of a row that a line sets, and the propagation that it makes.
 SETS = b"set=ro", b"set=nosuid,noexec", b"clr=nodev", b"set=noatime clr=atime"
 KINDS = b"shared", b"slave", b"private", b"unbindable"
@@ -75,6 +88,10 @@ class Answer:
 
     def refusals(self):
         return [one["refusal"] for one in self.objects if "refusal" in one]
+
+    def unexplained(self):
+        """The refusals of which nothing more is told."""
+        return [one["refusal"] for one in self.objects if "refusal" in one and not one.get("reason", "").startswith(one["refusal"] + ": ")]
 
     def changes(self, space):
         return [one for one in self.objects if one.get("namespace") == space]
@@ -165,11 +182,19 @@ def check_question(program, mountctl, name, lines_of_tables, lines):
     check(f"{name}: what is refused of\n{said}", answer.refusals() == wanted and answer.status == len(wanted), f"{answer.refusals()} {wanted} {answer.complaint}")
     if refused:
         # What comes after a refused line is not asked.
+        check(f"{name}: why that is refused of\n{said}", set(answer.unexplained()) <= set(UNEXPLAINED), str(answer.objects))
         return
     numbers = Numbers()
     for number, (table, group) in enumerate(zip(rows, groups[len(sent) :]), 1):
         why = numbers.why_other(changed(table, answer.changes(number)), list(map(row_of, group[1:])))
         check(f"{name}: table {number} after\n{said}", why is None, str(why))
+
+
+def check_reason(mountctl):
+    """A refused line, and which mounts are in its way."""
+    with files_of([read("docs", "tables", name).splitlines() for name in ("host", "container")]) as names:
+        status, text, complaint = run(mountctl, b"", "what-if", *names, "--", *REFUSED)
+    check("a refused line with its reason", (status, text) == (1, REFUSED_SAID), f"{status} {text} {complaint}")
 
 
 def check_recorded(program, mountctl):
@@ -268,6 +293,7 @@ def check_machine(mountctl):
 
 
 def check_foretold(program, mountctl):
+    check_reason(mountctl)
     check_recorded(program, mountctl)
     if shutil.which("mount") is None:
         print("there is no mount(8): no line of it is carried out", flush=True)

@@ -3,6 +3,7 @@ pub mod Words
 pub mod Lines
 pub mod Along
 pub mod Abridged
+pub mod Unsure
 pub mod Spaces
 pub mod KnownSpaces
 pub mod Difference

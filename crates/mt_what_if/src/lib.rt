@@ -26,6 +26,7 @@ pub mod told;
 pub mod trial;
 pub mod trying;
 mod unmounts;
+mod unsure;
 mod walking;
 mod words;
 

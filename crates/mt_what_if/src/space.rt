@@ -9,10 +9,12 @@ use crate::abridged::{Told, push_abridged};
 use crate::along::{goes_along, push_alongs};
 use crate::lines::{push_changed_line, push_gone_line, push_new_line};
 use crate::numbers::Numbers;
+use crate::unsure::push_unsures;
 use crate::words::push_changes;
 use mt_info::row::Row;
 use mt_info::table::find_row;
 use mt_mounts::mount::MountId;
+use mt_peers::peers::Peers;
 use mt_render::wording::push_shown;
 use std::alloc::{AllocError, Global};
 
@@ -217,20 +219,22 @@ fn push_with_heading(text: &mut Vec<u8>, name: &[u8], lines: &[u8]) -> Result<()
 }
 
 /// Appends what changes from one table of a namespace to another one: a line with its name, and below it the mounts that left,
-/// those that are not as they were, and those that are new. Nothing, where nothing changes. Both tables are by rising ID.
-/// Fails for want of memory alone.
+/// those that are not as they were, and those that are new, and last what these tables do not tell. Nothing, where nothing changes.
+/// Both tables are by rising ID, and the states are those of the second one. Fails for want of memory alone.
 pub(crate) fn push_space(
     text: &mut Vec<u8>,
     numbers: Numbers,
+    peers: &Peers,
     name: &[u8],
     before: &[Row],
     after: &[Row],
 ) -> Result<(), AllocError>
     requires before { IsTrue (rises row_id before.now) }
     requires after { IsTrue (rises row_id after.now) }
-    ensures { OnOk result (text.new.items ≡ text.old.items ++ space_changes numbers name.now before.now after.now) }
+    ensures { OnOk result (text.new.items ≡ text.old.items ++ space_changes numbers peers.now.peers name.now before.now after.now) }
 {
     let mut lines = Vec::new(*text.allocator());
     push_space_lines(&mut lines, numbers, before, after)?;
+    push_unsures(&mut lines, numbers, peers, before, after)?;
     push_with_heading(text, name, &lines)
 }
