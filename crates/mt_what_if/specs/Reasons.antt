@@ -31,6 +31,6 @@ reason_by names t fault c = refused_text (seen_rows (world_after t)) (titles_tol
 abbrev pub reason_known : List TitledSpace → TrialView → Fault → Option (List ℕ)
 reason_known names t fault = option_and_then (reason_by names t fault) (command_refused t.refused)
 
-unfoldable pub reason_of : List TitledSpace → TrialView → Outcome → List ℕ
-reason_of names t Done = []
-reason_of names t (Refused fault) = unwrap_or (reason_known names t fault) []
+unfoldable pub reason_told : List TitledSpace → TrialView → Outcome → List ℕ
+reason_told names t Done = []
+reason_told names t (Refused fault) = unwrap_or (reason_known names t fault) []

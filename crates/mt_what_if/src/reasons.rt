@@ -5,8 +5,7 @@ ghost use Rattle.mt_propagate.specs.World.{world_view};
 ghost use Rattle.mt_propagate.specs.WellFormed.{IsWellFormed};
 ghost use Rattle.mt_reach.specs.Rows.{seen_id};
 ghost use Rattle.mt_reach.specs.Seen.{seen_rows};
-ghost use Rattle.mt_refused.specs.Texts.{refused_text};
-ghost use Rattle.mt_what_if.specs.Reasons.{titles_told, command_refused, reason_by, reason_known, reason_of};
+ghost use Rattle.mt_what_if.specs.Reasons.{titles_told, reason_by, reason_known, reason_told};
 
 use crate::known_space::KnownSpace;
 use crate::naming::numbers_of;
@@ -15,7 +14,6 @@ use crate::trying::Outcome;
 use mt_book::command::Command;
 use mt_info::findings::Findings;
 use mt_info::table::row_seen;
-use mt_mounts::mount::Mount;
 use mt_propagate::world::World;
 use mt_reach::row::SeenRow;
 use mt_reach::rows::SeenRows;
@@ -103,14 +101,14 @@ fn reason_known(
 /// The lines that say why a line is refused: a line with the name of the refusal and what is in the way, the rows of the mounts that
 /// this names, and what would change it (mt_refused). Nothing, where the line is done, or the rows say no such thing. Refused as
 /// `NoMemory` alone.
-#[tactic(auto, unfolding(crate::specs::Reasons::reason_of))]
-pub(crate) fn reason_of(
+#[tactic(auto, unfolding(crate::specs::Reasons::reason_told))]
+pub(crate) fn reason_told(
     alloc: Global,
     names: &[KnownSpace],
     trial: &Trial,
     outcome: Outcome,
 ) -> Result<Vec<u8>, Fault>
-    ensures reason { IfOk result (λ reason. reason.items ≡ reason_of names.now trial.now outcome) }
+    ensures reason { IfOk result (λ reason. reason.items ≡ reason_told names.now trial.now outcome) }
     ensures memory { IsOkUnless result Fault.NoMemory }
 {
     let Outcome::Refused(fault) = outcome else {

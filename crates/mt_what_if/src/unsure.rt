@@ -1,6 +1,5 @@
 //! What tables do not tell of a change: whether a peer group has mounts in namespaces that were not read.
 ghost use Rattle.std.specs.Prelude.{◌≡◌, ◌++◌, OnOk, IsTrue};
-ghost use Rattle.std.specs.List.{flat_map};
 ghost use Rattle.mt_skel.specs.Keyed.{rises};
 ghost use Rattle.mt_info.specs.Table.{row_id};
 ghost use Rattle.mt_what_if.specs.Unsure.{is_left, if_read, unsure_line, line_if_left, line_of_master, unsure_of, unsure_lines};
