@@ -33,7 +33,7 @@ fn rows_of(alloc: Global, world: &World) -> Result<Vec<SeenRow>, Fault>
     let mounts = world.forest.mounts()?;
     let mut rows = Vec::new(alloc);
     let mut seen = Findings::new(world);
-    'mounts: for mount in &mounts {
+    'listed: for mount in &mounts {
         let row = row_seen(&mut seen, mount.id)?;
         rows.push(SeenRow::of(mount.space, &row, alloc)?)?;
     }
