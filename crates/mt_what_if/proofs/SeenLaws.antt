@@ -1,7 +1,8 @@
 -- The rows of all namespaces of a world.
-use Rattle.std.proofs.Common.{◌≡◌, ℕ, ◌<◌, true, List, map, length, get_or, Some, refl, sym, ap, subst, ◌∙◌}
+use Rattle.std.proofs.Common.{◌≡◌, ℕ, ◌+◌, ◌<◌, true, List, [], ◌∷◌, ◌++◌, map, length, drop, get_or, Some, refl, sym, ap, subst, ◌∙◌, append_assoc}
 use Rattle.std.specs.Option.{unwrap_or}
 use Rattle.std.proofs.lemmas.Option.{slice_get-get_or}
+use Rattle.std.proofs.lemmas.List.{drop_more}
 use Rattle.mt_skel.specs.Keyed.{rises}
 use Rattle.mt_skel.proofs.ElementLaws.{In, in_row, get_in}
 use Rattle.mt_skel.proofs.SortedLaws.{rises-keys}
@@ -32,6 +33,15 @@ pub row_listed :
     → r ≡ row_of (world_view v) (mount_or_unknown (world_view v) m.id) → s ≡ seen_row m.space r → s ≡ seen_mount (world_view w) m
 row_listed w v m r s same found told seen =
     seen ∙ ap (seen_row m.space) (told ∙ ap (λ o. row_of (world_view v) (unwrap_or o unknown)) found ∙ ap (λ (u : World). row_of (world_view u) m) same)
+
+-- one more row is added
+pub rows_more :
+    (w : WorldView) (all : List Mount) (i : ℕ) (m : Mount) (s : SeenRow) (xs ys start : List SeenRow) → i < length all → m ≡ get_or all i m → s ≡ seen_mount w m
+    → ys ≡ xs ++ s ∷ [] → xs ++ map (seen_mount w) (drop i all) ≡ start → ys ++ map (seen_mount w) (drop (i + 1) all) ≡ start
+rows_more w all i m s xs ys start inside at same more e =
+    let rest = map (seen_mount w) (drop (i + 1) all) in
+    ap (λ (t : List SeenRow). t ++ rest) more ∙ append_assoc xs (s ∷ []) rest ∙ ap (λ (x : SeenRow). xs ++ x ∷ rest) same
+    ∙ sym (ap (λ (t : List Mount). xs ++ map (seen_mount w) t) (drop_more all i m inside ∙ ap (λ (x : Mount). x ∷ drop (i + 1) all) (sym at))) ∙ e
 
 -- the rows are listed by rising ID
 pub seen_rises : (w : WorldView) → IsWellFormed w → rises seen_id (seen_rows w) ≡ true
