@@ -22,7 +22,7 @@ const CONTAINER: &[u8] = b"301 290 0:44 / / rw,relatime - overlay overlay rw
 311 301 8:3 /ann /home ro,relatime master:30 - ext4 /dev/sda3 rw";
 
 /// Questions of one line or of several, and what is told of them.
-const QUESTIONS: [(Telling, &[u8], &[u8]); 4] = [
+const QUESTIONS: [(Telling, &[u8], &[u8]); 5] = [
     (
         Telling::Words,
         b"mount -t vfat /dev/sdc1 /media/usb",
@@ -72,6 +72,19 @@ all lines together:
     ~ 311 /home master:30 -> private
     ? 311 /home keeps master:30, if group 30 has a mount in a namespace that was not read
 elsewhere: 1 of 1 other namespace changes: container
+",
+    ),
+    (
+        Telling::Words,
+        b"mount --make-private /home
+mount -N 2 --make-private /home",
+        b"all lines together:
+  host:
+    ~ 40 /home shared:30 -> private
+  container:
+    ~ 311 /home master:30 -> private
+    ? 311 /home keeps master:30, if group 30 has a mount in a namespace that was not read, and no line made it private
+elsewhere: no other namespace was read
 ",
     ),
 ];
@@ -157,9 +170,9 @@ fn is_told(alloc: Global, telling: Telling, lines: &[u8], text: &[u8]) -> Result
 
 /// Each question is answered so.
 #[test]
-fn questions_are_answered(alloc: Global) -> Result<(), Fail> {
+fn questions_are_answered(rt: HostRuntime) -> Result<(), Fail> {
     for (telling, lines, text) in &QUESTIONS {
-        assert!(is_told(alloc, *telling, lines, text)?);
+        assert!(rt; is_told(rt.alloc(), *telling, lines, text)?, "{lines:?}");
     }
     Ok(())
 }

@@ -22,18 +22,25 @@ is_left nb es g = nat_le g nb.groups && is_none (first (members es g))
 unfoldable pub if_read : Numbers → ℕ → List ℕ
 if_read nb g = group_word nb g ++ codes ", if group " ++ group_word nb g ++ codes " has a mount in a namespace that was not read"
 
-unfoldable pub unsure_line : Numbers → Row → ℕ → List ℕ
-unsure_line nb s g = shown_line (codes "    ? " ++ mount_and_point nb s ++ codes " keeps master:" ++ if_read nb g)
+-- unless it was made private, which lines of its own namespace alone may do
+abbrev pub if_unset : Bool → List ℕ
+if_unset named = if named then codes ", and no line made it private" else []
 
-abbrev pub line_if_left : Numbers → List Peer → Row → ℕ → List ℕ
-line_if_left nb es s g = if is_left nb es g then unsure_line nb s g else []
+unfoldable pub kept_if : Numbers → Bool → ℕ → List ℕ
+kept_if nb named g = if_read nb g ++ if_unset named
 
-abbrev pub line_of_master : Numbers → List Peer → Row → Row → List ℕ
-line_of_master nb es s r = option_map_or (line_if_left nb es s) r.master []
+unfoldable pub unsure_line : Numbers → Bool → Row → ℕ → List ℕ
+unsure_line nb named s g = shown_line (codes "    ? " ++ mount_and_point nb s ++ codes " keeps master:" ++ kept_if nb named g)
+
+abbrev pub line_if_left : Numbers → List Peer → Bool → Row → ℕ → List ℕ
+line_if_left nb es named s g = if is_left nb es g then unsure_line nb named s g else []
+
+abbrev pub line_of_master : Numbers → List Peer → Bool → Row → Row → List ℕ
+line_of_master nb es named s r = option_map_or (line_if_left nb es named s) r.master []
 
 -- the mounts of a table of which it is told, and those of them that were there before
-unfoldable pub unsure_of : Numbers → List Peer → List Row → Row → List ℕ
-unsure_of nb es before s = option_map_or (line_of_master nb es s) (row_at row_id s.id before) []
+unfoldable pub unsure_of : Numbers → List Peer → Bool → List Row → Row → List ℕ
+unsure_of nb es named before s = option_map_or (line_of_master nb es named s) (row_at row_id s.id before) []
 
-abbrev pub unsure_lines : Numbers → List Peer → List Row → List Row → List ℕ
-unsure_lines nb es before after = flat_map (unsure_of nb es before) after
+abbrev pub unsure_lines : Numbers → List Peer → Bool → List Row → List Row → List ℕ
+unsure_lines nb es named before after = flat_map (unsure_of nb es named before) after

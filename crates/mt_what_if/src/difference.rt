@@ -45,7 +45,7 @@ fn push_between(
         text,
         numbers,
         &after.peers,
-        &space.name,
+        space,
         first.rows(),
         second.rows(),
     )?;

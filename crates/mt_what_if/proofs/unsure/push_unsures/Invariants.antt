@@ -6,5 +6,5 @@ use Rattle.mt_what_if.proofs.unsure.push_unsures.Given as goal
 -- the lines appended, and those to come
 abbrev pub invariant-rows : goal.invariant-rows
 invariant-rows l =
-    l.text.items ++ flat_map (unsure_of l.numbers l.peers.peers l.before) (drop l.row-index l.after)
-    ≡ l.initial.text.items ++ flat_map (unsure_of l.numbers l.peers.peers l.before) l.after
+    l.text.items ++ flat_map (unsure_of l.numbers l.peers.peers l.named l.before) (drop l.row-index l.after)
+    ≡ l.initial.text.items ++ flat_map (unsure_of l.numbers l.peers.peers l.named l.before) l.after
