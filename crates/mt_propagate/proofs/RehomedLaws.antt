@@ -4,7 +4,7 @@ use Rattle.std.specs.List.{list_any, AllByRecursion}
 use Rattle.std.specs.Option.{option_map, ForSome}
 use Rattle.std.proofs.lemmas.Bool.{cases_eq, ne_eqb}
 use Rattle.std.proofs.lemmas.List.{map-id}
-use Rattle.mt_skel.specs.Keyed.{put, rises, row_at}
+use Rattle.mt_skel.specs.Keyed.{put, rises, row_at, without}
 use Rattle.mt_skel.proofs.KeyedLaws.{row_at-key, row_at-filter, row_at-map, rises-filter, rises-map, rises-put, same_rows, passing}
 use Rattle.mt_skel.proofs.ElementLaws.{In, any_in}
 use Rattle.mt_skel.proofs.MiddleLaws.{each_still}
@@ -15,11 +15,14 @@ use Rattle.mt_mounts.specs.ForestView.{with_place, without_id}
 use Rattle.mt_mounts.proofs.SlotLaws.{none_found, row_put_here, row_put_later, row_kept}
 use Rattle.mt_mounts.proofs.ForestLaws.{find_row, find_passes}
 use Rattle.mt_propagate.specs.WellFormed.{HasDistinctPlaces}
+use Rattle.mt_propagate.specs.World.{WorldView}
 use Rattle.mt_propagate.specs.Copies.{Source, is_whole}
+use Rattle.mt_propagate.specs.Places.{rehomed}
+use Rattle.mt_propagate.specs.Copied.{with_rehomed}
 use Rattle.mt_propagate.specs.Carried.{IsFree, with_home, homed, CanLeave, AllCanLeave, CanRehome}
-use Rattle.mt_propagate.proofs.ListedLaws.{map-map}
+use Rattle.mt_propagate.proofs.ListedLaws.{map-map, rehomed-still}
 use Rattle.mt_propagate.proofs.RelocationLaws.{map-each}
-use Rattle.mt_propagate.proofs.RowLaws.{mapped-row, row-mapped, found-each}
+use Rattle.mt_propagate.proofs.RowLaws.{mapped-row, row-mapped, found-each, each_in}
 use Rattle.mt_propagate.proofs.WalkLaws.{stands_at}
 
 -- places are free whatever namespaces mounts have
@@ -74,14 +77,10 @@ module _ (i n : ℕ) (ms : List Mount) where
     absent-then = none_found _ (λ x e. (row_kept ms i m.id x c.rising e).1 (row_at-key id_of m.id (without_id i ms) x e ∙ its_id))
 
     pub free-then : ForSome m.place (λ p. on (without_id i ms) p ≡ None)
-    free-then = by m.place refl
-      where
-        by : (o : Option Place) → m.place ≡ o → ForSome o (λ p. on (without_id i ms) p ≡ None)
-        by None e = tt
-        by (Some p) e = none_found _ (λ x f.
-            let rising = rises-filter id_of (λ (m : Mount). not (m.id == i)) ms c.rising in
-            let there = row_kept ms i x.id x c.rising (find_row (is_at p) (without_id i ms) x rising f) in
-            there.1 (c.apart x.id i x m p there.0 row (stands_at p x (find_passes (is_at p) (without_id i ms) x f)) e))
+    free-then p e = none_found _ (λ x f.
+        let rising = rises-filter id_of (λ (m : Mount). not (m.id == i)) ms c.rising in
+        let there = row_kept ms i x.id x c.rising (find_row (is_at p) (without_id i ms) x rising f) in
+        there.1 (c.apart x.id i x m p there.0 row (stands_at p x (find_passes (is_at p) (without_id i ms) x f)) e))
 
     other-row : (q : ℕ) → q ≢ i → (o : Option Mount) → mount_at ms q ≡ o → passing (λ (m : Mount). not (m.id == i)) o ≡ option_map change o
     other-row q off None e = refl
@@ -114,11 +113,11 @@ all-leave n (x ∷ xs) ms rising apart placed =
     let change : Mount → Mount = λ m. record m { space = cond (m.id == x.id) n m.space } in (
       record { rising = rising; apart = apart; placed = placed x (inl refl) },
       all-leave n xs (with_home x.id n ms) (rises-map id_of change (λ m. refl) ms ∙ rising)
-      (λ i j a b p ea eb pa pb.
+          (λ i j a b p ea eb pa pb.
           let u = mapped-row id_of change (λ m. refl) ms i a ea in
           let v = mapped-row id_of change (λ m. refl) ms j b eb in
           apart i j u.0 v.0 p u.1 v.1 (ap (λ (m : Mount). m.place) (sym u.2) ∙ pa) (ap (λ (m : Mount). m.place) (sym v.2) ∙ pb))
-      (λ y e m row none.
+          (λ y e m row none.
           let u = mapped-row id_of change (λ m. refl) ms y.id m row in
           placed y (inr e) u.0 u.1 (ap (λ (m : Mount). m.place) (sym u.2) ∙ none)),
     )
@@ -162,3 +161,10 @@ module _ (n : ℕ) where
     tree-leaves =
         all-leave n src.mounts ms c.rising c.apart
         (λ x e m row. c.placed x.id m row (sym (c.members x.id m row) ∙ any_in (λ (y : Mount). y.id == x.id) x src.mounts e (eq-eqb x.id x.id refl)))
+
+-- where no whole tree moves, nothing changes
+pub none-rehomed : (w : WorldView) (src : Source) (dest : Place) → is_whole src ≡ false → with_rehomed w src dest ≡ w
+none-rehomed w src dest still =
+    let stays : map (rehomed w src dest) w.forest ≡ w.forest =
+    map-each (rehomed w src dest) (λ m. m) w.forest (each_in (λ m. rehomed w src dest m ≡ m) w.forest (λ m e. rehomed-still w src dest still m)) ∙ map-id w.forest in
+    λ i. record w { forest = stays i; trees = cond (still i) (without (λ k. k == src.top.space) w.trees) w.trees }
