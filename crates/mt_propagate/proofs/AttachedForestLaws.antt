@@ -5,7 +5,7 @@ use Rattle.mt_skel.specs.Skeleton.{Skeleton, holds}
 use Rattle.mt_skel.proofs.KeyedLaws.{row_at-key, rises-map}
 use Rattle.mt_mounts.specs.declared.mount.Mount.{Mount}
 use Rattle.mt_mounts.specs.declared.mount.Place.{Place}
-use Rattle.mt_mounts.specs.Forest.{id_of, mount_at, on, is_at, is_below, parent}
+use Rattle.mt_mounts.specs.Forest.{id_of, mount_at, on, is_at, is_below}
 use Rattle.mt_mounts.specs.ForestView.{with_place}
 use Rattle.mt_mounts.proofs.ForestLaws.{find_none}
 use Rattle.mt_mounts.proofs.CycleLaws.{no_cycle, no_cycle_moved, rank_of, rank_falls}

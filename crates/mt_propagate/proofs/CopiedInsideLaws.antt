@@ -28,7 +28,7 @@ use Rattle.mt_propagate.specs.Sound.{IsSource, IsDestination}
 use Rattle.mt_propagate.specs.Contained.{IsContained, IsSameOutside, CrossesNoBorder}
 use Rattle.mt_propagate.proofs.ContainLaws.{receiver_of, target_received, target_contained}
 use Rattle.mt_propagate.proofs.ContainedLaws.{master-is, contained}
-use Rattle.mt_propagate.proofs.ListedLaws.{relocated-same, settled-same, settled-id, settled-here, settled-still, settled-away, regrouped-mount}
+use Rattle.mt_propagate.proofs.ListedLaws.{relocated-same, settled-same, settled-here, settled-still, settled-away, regrouped-mount}
 use Rattle.mt_mounts.proofs.SlotLaws.{none_found}
 use Rattle.mt_propagate.proofs.WalkLaws.{stands_at}
 use Rattle.mt_propagate.proofs.JoinLaws.{both_kinds, state_row}
