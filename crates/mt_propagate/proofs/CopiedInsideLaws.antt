@@ -22,13 +22,13 @@ use Rattle.mt_propagate.specs.WellFormed.{IsWellFormed}
 use Rattle.mt_propagate.specs.Receivers.{targets}
 use Rattle.mt_propagate.specs.Copies.{Source, MountCopy, is_whole, destinations, all_copies, new_copies, copy_id}
 use Rattle.mt_propagate.specs.Groups.{GroupKey, key_of, home, key_group, is_new_key, master_key, copy_state}
-use Rattle.mt_propagate.specs.Places.{copied_mount, new_mounts, settled}
+use Rattle.mt_propagate.specs.Places.{copied_mount, new_mounts, arranged}
 use Rattle.mt_propagate.specs.Copied.{copied, regrouped, is_moved}
 use Rattle.mt_propagate.specs.Sound.{IsSource, IsDestination}
 use Rattle.mt_propagate.specs.Contained.{IsContained, IsSameOutside, CrossesNoBorder}
 use Rattle.mt_propagate.proofs.ContainLaws.{receiver_of, target_received, target_contained}
 use Rattle.mt_propagate.proofs.ContainedLaws.{master-is, contained}
-use Rattle.mt_propagate.proofs.ListedLaws.{relocated-same, settled-same, settled-here, settled-still, settled-away, regrouped-mount}
+use Rattle.mt_propagate.proofs.ListedLaws.{relocated-same, arranged-same, arranged-here, arranged-still, arranged-away, regrouped-mount}
 use Rattle.mt_mounts.proofs.SlotLaws.{none_found}
 use Rattle.mt_propagate.proofs.WalkLaws.{stands_at}
 use Rattle.mt_propagate.proofs.JoinLaws.{both_kinds, state_row}
@@ -44,7 +44,7 @@ module _ (w : WorldView) (h : IsWellFormed w) (src : Source) (dest : Place) (s :
   over a b side q = eqb-true b n (sym side ∙ eq-eqb a n q)
 
   abbrev mounts : List Mount
-  mounts = map (settled w src dest) w.forest ++ new_mounts w src dest
+  mounts = map (arranged w src dest) w.forest ++ new_mounts w src dest
 
   abbrev new_peer : MountCopy → Peer
   new_peer c = record { mount = copy_id w src dest c.target c.source; state = copy_state w src dest c }
@@ -61,22 +61,22 @@ module _ (w : WorldView) (h : IsWellFormed w) (src : Source) (dest : Place) (s :
   peers_rise = (source_kept w h src dest s d).peering.rising
 
   -- no mount comes over the border
-  settled-side : (i : ℕ) (q : Mount) → mount_at w.forest i ≡ Some q → ((settled w src dest q).space == n) ≡ (q.space == n)
-  settled-side i q e = go (is_whole src) refl
+  arranged-side : (i : ℕ) (q : Mount) → mount_at w.forest i ≡ Some q → ((arranged w src dest q).space == n) ≡ (q.space == n)
+  arranged-side i q e = go (is_whole src) refl
     where
-      go : (b : Bool) → is_whole src ≡ b → ((settled w src dest q).space == n) ≡ (q.space == n)
-      go false is = ap (λ k. k == n) (settled-still w src dest is q)
+      go : (b : Bool) → is_whole src ≡ b → ((arranged w src dest q).space == n) ≡ (q.space == n)
+      go false is = ap (λ k. k == n) (arranged-still w src dest is q)
       go true is = elim (cases_eq q.space src.top.space) [
         | inl same ↦
-            ap (λ k. k == n) (settled-here w src dest is q same)
+            ap (λ k. k == n) (arranged-here w src dest is q same)
             ∙ sym (near i q q ((whole_moves w h src dest s d is).all i q e same) e)
-        | inr off ↦ ap (λ k. k == n) (settled-away w src dest q off)
+        | inr off ↦ ap (λ k. k == n) (arranged-away w src dest q off)
       ]
 
   old-space : (i : ℕ) (q : Mount) → mount_at w.forest i ≡ Some q → (space i == n) ≡ (space_of w i == n)
   old-space i q e =
       ap (λ o. unwrap_or (option_map (λ (m : Mount). m.space) o) 0 == n) (kept w h src dest s d i q e)
-      ∙ settled-side i q e ∙ ap (λ k. k == n) (sym (space_is w i q e))
+      ∙ arranged-side i q e ∙ ap (λ k. k == n) (sym (space_is w i q e))
 
   -- a source mount that is there is on the side of the place
   near-mount : (m q : Mount) (i : ℕ) → In m src.mounts → m.id ≡ i → mount_at w.forest i ≡ Some q → (q.space == n) ≡ (space_of w dest.mount == n)
@@ -257,9 +257,9 @@ module _ (w : WorldView) (h : IsWellFormed w) (src : Source) (dest : Place) (s :
           let p = h.forest.placed m.id m (record { mount = t; dir = dest.dir }) e (stands_at (record { mount = t; dir = dest.dir }) m f.1) in
           sym p.2 ∙ sym (space_is w t p.0 p.1) ∙ hit-inside t f.0 here
 
-      stays : (m : Mount) → mount_at w.forest m.id ≡ Some m → m.space ≢ n → settled w src dest m ≡ m
+      stays : (m : Mount) → mount_at w.forest m.id ≡ Some m → m.space ≢ n → arranged w src dest m ≡ m
       stays m e off =
-          settled-same w src dest m
+          arranged-same w src dest m
           (relocated-same w src dest m (no_top (src.moved && (m.id == src.top.id)) refl) (none_found _ (λ t is. off (way-inside m t e is))))
           (no_home (is_whole src && (m.space == src.top.space)) refl)
         where
@@ -272,28 +272,28 @@ module _ (w : WorldView) (h : IsWellFormed w) (src : Source) (dest : Place) (s :
           no_top true is = absurd (off (top-inside m e (and_first src.moved (m.id == src.top.id) is) (eqb-true m.id src.top.id (and_second src.moved (m.id == src.top.id) is))))
 
       -- each mount stays in its namespace
-      same-space : (m : Mount) → (settled w src dest m).space ≡ m.space
+      same-space : (m : Mount) → (arranged w src dest m).space ≡ m.space
       same-space m = go (is_whole src) refl
         where
-          go : (b : Bool) → is_whole src ≡ b → (settled w src dest m).space ≡ m.space
-          go false is = settled-still w src dest is m
+          go : (b : Bool) → is_whole src ≡ b → (arranged w src dest m).space ≡ m.space
+          go false is = arranged-still w src dest is m
           go true is = elim (cases_eq m.space src.top.space) [
-            | inl same ↦ settled-here w src dest is m same ∙ here ∙ sym (whole-inside is) ∙ sym same
-            | inr off ↦ settled-away w src dest m off
+            | inl same ↦ arranged-here w src dest is m same ∙ here ∙ sym (whole-inside is) ∙ sym same
+            | inr off ↦ arranged-away w src dest m off
           ]
 
       same-mounts : (k : ℕ) → k ≢ n → filter (in_space k) mounts ≡ filter (in_space k) w.forest
       same-mounts k off =
-          filter-append (in_space k) (map (settled w src dest) w.forest) (new_mounts w src dest)
+          filter-append (in_space k) (map (arranged w src dest) w.forest) (new_mounts w src dest)
           ∙ (λ i. old i ++ new i) ∙ append-nil (filter (in_space k) w.forest)
         where
           apart : (m : Mount) → in_space k m ≡ true → m.space ≢ n
           apart m is same = off (sym (eqb-true m.space k is) ∙ same)
 
-          old : filter (in_space k) (map (settled w src dest) w.forest) ≡ filter (in_space k) w.forest
+          old : filter (in_space k) (map (arranged w src dest) w.forest) ≡ filter (in_space k) w.forest
           old =
-              part-mapped (in_space k) (settled w src dest) w.forest
-              (each_still (λ m. mount_at w.forest m.id ≡ Some m) (λ m. (in_space k (settled w src dest m) ≡ in_space k m) × (in_space k m ≡ true → settled w src dest m ≡ m))
+              part-mapped (in_space k) (arranged w src dest) w.forest
+              (each_still (λ m. mount_at w.forest m.id ≡ Some m) (λ m. (in_space k (arranged w src dest m) ≡ in_space k m) × (in_space k m ≡ true → arranged w src dest m ≡ m))
               (λ m e. (ap (λ v. v == k) (same-space m), λ is. stays m e (apart m is))) w.forest (found-each id_of w.forest h.forest.rising))
 
           new : filter (in_space k) (new_mounts w src dest) ≡ []
