@@ -101,7 +101,7 @@ module _ (w : WorldView) (src : Source) (dest : Place) (still : src.moved ≡ fa
   full s most = let some = some_there src.mounts src.top.id src.top s.tree.top_there in let many = copies_many in grind (arith, nat_tests)
 
 -- a test of IDs is one of their mounts
-any_ids : (t : ℕ → Bool) (ms : List Mount) → list_any t (map id_of ms) ≡ list_any (λ (m : Mount). t m.id) ms
+pub any_ids : (t : ℕ → Bool) (ms : List Mount) → list_any t (map id_of ms) ≡ list_any (λ (m : Mount). t m.id) ms
 any_ids t [] = refl
 any_ids t (m ∷ ms) = rw (any_ids t ms) refl
 
