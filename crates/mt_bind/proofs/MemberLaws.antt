@@ -75,6 +75,12 @@ module _ (w : WorldView) (p : Place) where
   pub alone_is : (ids : List ℕ) → ids ≡ p.mount ∷ [] → copied_source w p.mount p.dir ids false ≡ alone w p
   alone_is ids e = rw (e, eq-eqb p.mount p.mount refl) refl
 
+  -- either, by the IDs of its mounts
+  pub either_is : rises id_of w.forest ≡ true → (recursive : Bool) (ids : List ℕ) → ids ≡ cond recursive (map id_of (filter (λ m. is_bound_along w p m.id) w.forest)) (p.mount ∷ [])
+      → copied_source w p.mount p.dir ids false ≡ cond recursive (tree_within w p) (alone w p)
+  either_is rising true ids e = tree_is rising ids e
+  either_is rising false ids e = alone_is ids e
+
   -- neither moves
   pub stays : (recursive : Bool) → (cond recursive (tree_within w p) (alone w p)).moved ≡ false
   stays recursive = grind arith
