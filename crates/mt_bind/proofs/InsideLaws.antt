@@ -39,10 +39,10 @@ use Rattle.mt_bind.proofs.MountLaws.{IsCopying, mount_copies, bind_copies, move_
 
 -- where a source tree comes to stand
 copying_contained : (k n : ℕ) (w v : WorldView) → IsWellFormed w → IsContained k w → IsCopying n w v → IsContained k v
-copying_contained k n w v h c m = subst (IsContained k) m.made (copied-contained w h m.src m.dest m.source m.destination m.near k c)
+copying_contained k n w v h c m = subst (IsContained k) m.made (copied-contained w h m.src m.dest m.source m.destination k (λ i a q e f. ap (λ s. s == k) (m.near i a q e f)) c)
 
 copying_outside : (n : ℕ) (w v : WorldView) → IsWellFormed w → IsContained n w → IsCopying n w v → IsSameOutside n w v
-copying_outside n w v h c m = subst (IsSameOutside n w) m.made (copied-outside w h m.src m.dest m.source m.destination m.near n c m.here)
+copying_outside n w v h c m = subst (IsSameOutside n w) m.made (copied-outside w h m.src m.dest m.source m.destination n (λ i a q e f. ap (λ s. s == n) (m.near i a q e f)) c m.here)
 
 -- a mount, a bind and a move keep contained namespaces contained, and made in one they change nothing outside it
 pub mount_contained : (k : ℕ) (w : WorldView) (n : ℕ) (name : List ℕ) (path : List (List ℕ)) (set : SetWords) (v : WorldView) (i : ℕ) → IsWellFormed w → IsContained k w → mounted_with w n name path set ≡ Ok (v, i) → IsContained k v

@@ -14,3 +14,4 @@ pub mod SourceCopyLaws
 pub mod OpenedLaws
 pub mod OpenedSourceLaws
 pub mod OpeningLaws
+pub mod AttachingLaws

@@ -17,7 +17,7 @@ use Rattle.mt_bind.specs.Sources.{fresh_with, top_at, is_bound_along, source_at,
 use Rattle.mt_bind.specs.Mounting.{mounted_with, bound, moved}
 use Rattle.mt_bind.specs.Copying.{copy_of}
 use Rattle.mt_bind.specs.Opening.{opened_sources, with_copies, tree_opened, tree_made}
-use Rattle.mt_bind.specs.Attaching.{whole_tree, rehomed, with_attached, attached}
+use Rattle.mt_bind.specs.Attaching.{whole_tree, attached}
 use Rattle.mt_bind.specs.Pivoting.{root_id, pivoted_mount, with_pivot, pivoted}
 use Rattle.mt_bind.proofs.SpaceLaws.{new_root}
 use Rattle.mt_bind.proofs.NamespaceCopyLaws.{copy}
@@ -58,14 +58,9 @@ opened_sized w v n path recursive i e =
 
 -- an attached one
 pub attached_sized : (w v : WorldView) (tree n : ℕ) (path : List (List ℕ)) → length w.forest ≤ 4096 → attached w tree n path ≡ Ok v → IsSized w v 0
-unfolding with_attached
 attached_sized w v tree n path few e =
     let a = attached_accepted w tree n path v e in
-    let p = path_end w n path in
-    let u = copied w (whole_tree w tree) p in
-    let sized = copied_sized w (whole_tree w tree) p (omega (arith, few, few_pass (λ (m : Mount). m.space == tree) w.forest)) a.few in
-    let same = length-map u.forest (rehomed w tree (space_of w p.mount)) in
-    subst (λ (x : WorldView). IsSized w x 0) a.world (record { spaces = sized.spaces; mounts = sized.mounts; groups = sized.groups; within = omega (arith, sized.within, same) })
+    subst (λ (x : WorldView). IsSized w x 0) a.world (copied_sized w (whole_tree w tree) (path_end w n path) (omega (arith, few, few_pass (λ (m : Mount). m.space == tree) w.forest)) a.few)
 
 -- a copy of a namespace
 pub copy_sized : (w v : WorldView) (n : ℕ) (less : Bool) (i : ℕ) → copy_space w n less ≡ Ok (v, i) → IsSized w v 1
