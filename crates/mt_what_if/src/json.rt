@@ -52,7 +52,8 @@ fn push_refusal_member(text: &mut Vec<u8>, name: &[u8]) -> Result<(), AllocError
     ensures { OnOk result (text.new.items ≡ text.old.items ++ refusal_member name.now) }
 {
     text.extend_from_slice(b"{\"refusal\":")?;
-    push_text(text, name)
+    push_text(text, name)?;
+    Ok(())
 }
 
 /// Appends the name of a refusal, and why the line is refused.
