@@ -22,8 +22,11 @@ taken_object taken = codes "{\"taken\":" ++ json_text taken ++ codes "}\n"
 unfoldable pub refusal_member : List ℕ → List ℕ
 refusal_member name = codes "{\"refusal\":" ++ json_text name
 
+unfoldable pub reason_member : List ℕ → List ℕ
+reason_member reason = codes ",\"reason\":" ++ json_text reason
+
 unfoldable pub reason_object : List ℕ → List ℕ → List ℕ
-reason_object name reason = refusal_member name ++ codes ",\"reason\":" ++ json_text reason ++ codes "}\n"
+reason_object name reason = refusal_member name ++ reason_member reason ++ codes "}\n"
 
 -- names with commas between them
 abbrev pub further_texts : List TitledSpace → List ℕ

@@ -1,11 +1,16 @@
-use Rattle.std.proofs.Common.{◌≡◌, ◌++◌, ◌∙◌, map, ap, sym, arith, append-nil}
+use Rattle.std.proofs.Common.{◌≡◌, ◌++◌, ◌∙◌, map, ap, sym, arith, append-nil, subst}
 use Rattle.std.proofs.lemmas.List.{drop_all}
 use Rattle.mt_skel.specs.Keyed.{rises}
+use Rattle.mt_propagate.specs.declared.world.World.{World}
 use Rattle.mt_propagate.specs.World.{world_view}
+use Rattle.mt_propagate.specs.WellFormed.{IsWellFormed}
 use Rattle.mt_reach.specs.Rows.{seen_id}
 use Rattle.mt_reach.specs.Seen.{seen_mount, seen_rows}
 use Rattle.mt_what_if.proofs.SeenLaws.{mount_listed, row_listed, rows_more, seen_rises}
 use Rattle.mt_what_if.proofs.reasons.rows_of.Goals as goal
+
+pub row_seen-requires-clause-well_formed : goal.row_seen-requires-clause-well_formed
+row_seen-requires-clause-well_formed c = subst (λ (w : World). IsWellFormed (world_view w)) (sym c.listed.invariant.same) c.requires
 
 pub row_seen-requires-clause-there : goal.row_seen-requires-clause-there
 row_seen-requires-clause-there c =
