@@ -1,6 +1,6 @@
 -- A well-formed world stays so where copies of mounts come to be a detached tree.
-use Rattle.std.proofs.Common.{◌≡◌, ◌⊎◌, ℕ, ◌+◌, ◌<◌, ◌≤◌, ◌==◌, ltb, eqb-true, eq-eqb, true, false, List, [], ◌∷◌, ◌++◌, map, length, Option, Some, None, refl, sym, ap, subst, ◌∙◌, inl, inr, arith}
-use Rattle.std.specs.Prelude.{IsTrue, is_some}
+use Rattle.std.proofs.Common.{◌≡◌, ℕ, ◌+◌, ◌<◌, ◌≤◌, ◌==◌, ltb, eqb-true, eq-eqb, true, false, List, [], ◌∷◌, ◌++◌, map, length, Option, Some, refl, sym, ap, subst, ◌∙◌, inl, inr, arith}
+use Rattle.std.specs.Prelude.{is_some}
 use Rattle.std.specs.List.{list_all}
 use Rattle.std.specs.Option.{option_map, unwrap_or}
 use Rattle.std.proofs.lemmas.Bool.Decides.{nat_tests}
@@ -23,10 +23,10 @@ use Rattle.mt_propagate.proofs.NumberLaws.{climbs}
 use Rattle.mt_propagate.proofs.RowLaws.{in_all, renamed-row}
 use Rattle.mt_propagate.proofs.DetachedTreeLaws.{tree_low, root_there, space-stays}
 use Rattle.mt_propagate.proofs.ShownLaws.{shown-alike, groups-show, masters-show, mount-state, state-row}
-use Rattle.mt_bind.specs.Copying.{copy_of, peer_of}
+use Rattle.mt_bind.specs.Copying.{peer_of}
 use Rattle.mt_bind.specs.Opening.{with_copies}
 use Rattle.mt_bind.proofs.CopyLaws.{state-from}
-use Rattle.mt_bind.proofs.SourceCopyLaws.{AreSources, IsCopy, number, place, copy, copies, among as among_sources, copy-high, copy-low, old-in, copy-in, row-of, grown, grown-forest}
+use Rattle.mt_bind.proofs.SourceCopyLaws.{AreSources, number, place, copy, copies, among as among_sources, copy-high, copy-low, old-in, copy-in, row-of, grown, grown-forest}
 
 -- the mounts are there, and show directories that are there, of the filesystems that they show there
 pub record AreShown (w : WorldView) (ms : List Mount) : Type 0 where

@@ -1,6 +1,6 @@
 -- A well-formed world stays so where a detached tree is opened, or made of a filesystem.
-use Rattle.std.proofs.Common.{◌≡◌, ℕ, ◌+◌, ◌<◌, ◌==◌, ltb, eqb-true, eq-eqb, Bool, true, List, [], ◌∷◌, ◌++◌, length, Some, Ok, refl, ap, subst, ◌∙◌, inl, inr, arith}
-use Rattle.std.specs.Prelude.{is_some, None}
+use Rattle.std.proofs.Common.{◌≡◌, ℕ, ◌<◌, ◌==◌, ltb, eqb-true, eq-eqb, Bool, true, List, [], ◌∷◌, ◌++◌, length, Some, Ok, refl, subst, ◌∙◌, inl, inr, arith}
+use Rattle.std.specs.Prelude.{is_some}
 use Rattle.std.specs.List.{list_all}
 use Rattle.std.proofs.lemmas.Bool.Decides.{nat_tests}
 use Rattle.mt_skel.specs.Keyed.{among}
@@ -9,7 +9,7 @@ use Rattle.mt_skel.proofs.ElementLaws.{in_any, any_in, in_append}
 use Rattle.mt_mounts.specs.declared.mount.Mount.{Mount}
 use Rattle.mt_mounts.specs.Forest.{id_of, mount_at, root_mount}
 use Rattle.mt_propagate.specs.World.{WorldView, with_tree}
-use Rattle.mt_propagate.specs.WellFormed.{IsWellFormed, AreTrees}
+use Rattle.mt_propagate.specs.WellFormed.{IsWellFormed}
 use Rattle.mt_propagate.proofs.ListedLaws.{climbs-append}
 use Rattle.mt_propagate.proofs.RowLaws.{in_all, row-second}
 use Rattle.mt_propagate.proofs.DetachedTreeLaws.{tree_low, root_there}

@@ -6,9 +6,8 @@ use Rattle.std.proofs.lemmas.List.{length-map}
 use Rattle.mt_mounts.specs.declared.mount.Mount.{Mount}
 use Rattle.mt_mounts.specs.Forest.{id_of, is_below}
 use Rattle.mt_peers.specs.Loss.{left}
-use Rattle.mt_propagate.specs.World.{WorldView, with_tree, space_of}
+use Rattle.mt_propagate.specs.World.{WorldView, with_tree}
 use Rattle.mt_propagate.specs.Limits.{too_many_mounts}
-use Rattle.mt_propagate.specs.Copied.{copied}
 use Rattle.mt_propagate.proofs.SizeLaws.{IsSized, few_pass, copied_sized}
 use Rattle.mt_bind.specs.Spaces.{originals, new_space, with_space, copy_space, with_copy, drop_space, without_space}
 use Rattle.mt_setattr.specs.declared.change.SetWords.{SetWords}
