@@ -1,8 +1,7 @@
 -- A detached tree that comes to stand at a place: it is a source tree, the world stays well-formed, and contained namespaces stay so.
 use Rattle.std.proofs.Common.{◌≡◌, ◌≢◌, ℕ, Bool, true, false, cond, not, ◌&&◌, ◌==◌, eqb-true, eq-eqb, List, [], ◌∷◌, map, Option, Some, None, Result, Ok, refl, sym, ap, ◌∙◌, subst, inl, inr, IsTrue}
-use Rattle.std.specs.Prelude.{is_some, unwrap_or}
-use Rattle.std.specs.List.{filter, list_any}
-use Rattle.std.specs.Option.{option_map}
+use Rattle.std.specs.Prelude.{is_none, is_some, unwrap_or}
+use Rattle.std.specs.List.{list_any}
 use Rattle.std.proofs.lemmas.Bool.{ne_eqb, false_from_ne_true}
 use Rattle.mt_skel.specs.declared.fault.Fault.{Fault}
 use Rattle.mt_skel.specs.declared.fault.Fault.TheVariants.{NoNamespace, NotDetached, RootPlace, IntoItself, UnbindableInside}
@@ -20,7 +19,7 @@ use Rattle.mt_peers.proofs.MemberLaws.{some-is}
 use Rattle.mt_propagate.specs.World.{WorldView, is_space, is_tree, state_of, group_of, root_dir, space_of}
 use Rattle.mt_propagate.specs.Named.{unknown, mount_or_unknown, place_or_nowhere, is_root_place}
 use Rattle.mt_propagate.specs.WellFormed.{IsWellFormed, fs_at}
-use Rattle.mt_propagate.specs.Copies.{Source}
+use Rattle.mt_propagate.specs.Copies.{Source, is_whole}
 use Rattle.mt_propagate.specs.Plans.{member_of, top_of, copied_source}
 use Rattle.mt_propagate.specs.Sound.{IsTree, IsSource, IsDestination}
 use Rattle.mt_propagate.specs.Contained.{IsContained, CrossesNoBorder}
@@ -167,6 +166,19 @@ root_of_space w n there = by (root_mount w.forest n) refl there
     by : (o : Option Mount) → root_mount w.forest n ≡ o → is_some o ≡ true → (top : Mount) × (root_mount w.forest n ≡ Some top)
     by None e is = absurd (cc)
     by (Some top) e is = (top, e)
+
+-- what is attached moves, and its top is a root mount, of the tree
+pub whole_moves : (w : WorldView) (n : ℕ) → is_whole (whole_tree w n) ≡ true
+whole_moves w n = by (root_mount w.forest n) refl
+  where
+    by : (o : Option Mount) → root_mount w.forest n ≡ o → is_none (unwrap_or o unknown).place ≡ true
+    by None e = refl
+    by (Some top) e = (root_here n top (find_passes (is_root n) w.forest top e)).0
+
+pub whole_space : (w : WorldView) (n : ℕ) → is_space w n ≡ true → (whole_tree w n).top.space ≡ n
+whole_space w n there =
+    let top = root_of_space w n there in
+    ap (λ (o : Option Mount). (unwrap_or o unknown).space) top.1 ∙ (root_here n top.0 (find_passes (is_root n) w.forest top.0 top.1)).1
 
 -- an attaching that is accepted
 module _ (w : WorldView) (tree n : ℕ) (path : List (List ℕ)) (v : WorldView) (h : IsWellFormed w) (e : attached w tree n path ≡ Ok v) where

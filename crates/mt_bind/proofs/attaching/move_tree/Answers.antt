@@ -9,7 +9,7 @@ use Rattle.mt_mounts.specs.Forest.{id_of, root_mount}
 use Rattle.mt_mounts.proofs.SlotLaws.{mapped}
 use Rattle.mt_propagate.specs.World.{world_view, root_dir, group_of}
 use Rattle.mt_propagate.specs.Copied.{copied}
-use Rattle.mt_propagate.specs.Plans.{source_of, copied_source}
+use Rattle.mt_propagate.specs.Plans.{copied_source}
 use Rattle.mt_propagate.specs.Sound.{IsSource, IsDestination}
 use Rattle.mt_propagate.proofs.WalkLaws.{walked}
 use Rattle.mt_bind.specs.Attaching.{whole_tree, has_unbindable, with_attached, attached}
