@@ -8,10 +8,10 @@ use Rattle.mt_mounts.specs.declared.mount.Place.{Place}
 use Rattle.mt_mounts.specs.Forest.{id_of, mount_at, is_root, root_mount}
 use Rattle.mt_propagate.specs.World.{WorldView, is_space}
 use Rattle.mt_propagate.specs.WellFormed.{IsWellFormed}
-use Rattle.mt_propagate.specs.Places.{settled, new_mounts}
+use Rattle.mt_propagate.specs.Places.{arranged, new_mounts}
 use Rattle.mt_propagate.specs.Copied.{copied}
 use Rattle.mt_propagate.proofs.RowLaws.{row-mapped, row-first, row-kept}
-use Rattle.mt_propagate.proofs.ListedLaws.{settled-id, settled-still, settled-away}
+use Rattle.mt_propagate.proofs.ListedLaws.{arranged-id, arranged-still, arranged-away}
 use Rattle.mt_skel.proofs.ElementLaws.{in_row, row_in, in_found, find_in}
 use Rattle.mt_skel.proofs.MiddleLaws.{and_second, and-true}
 use Rattle.mt_bind.specs.Spaces.{with_space, without_space}
@@ -60,10 +60,10 @@ others_stay n tree w p is other x =
     let src = whole_tree w tree in
     record {
       id = x.id;
-      mount = settled w src p x.mount;
-      there = row-first id_of _ (new_mounts w src p) x.id _ (row-mapped id_of (settled w src p) (settled-id w src p) w.forest x.id x.mount x.there);
+      mount = arranged w src p x.mount;
+      there = row-first id_of _ (new_mounts w src p) x.id _ (row-mapped id_of (arranged w src p) (arranged-id w src p) w.forest x.id x.mount x.there);
       space =
-          settled-away w src p x.mount (λ same. true≢false (sym (eq-eqb tree n (sym (same ∙ whole_space w tree is) ∙ x.space)) ∙ other))
+          arranged-away w src p x.mount (λ same. true≢false (sym (eq-eqb tree n (sym (same ∙ whole_space w tree is) ∙ x.space)) ∙ other))
           ∙ x.space;
     }
 
@@ -74,8 +74,8 @@ step_has n w c v r g e d h = effect w c v r (Has n) e (record {
   space = λ f. still n w _ (λ m. m) (λ m. refl) (λ i m at. row-first id_of w.forest _ i m at) h;
   copy = λ k less there. still n w _ (λ m. m) (λ m. refl) (λ i m at. row-first id_of w.forest _ i m at) h;
   end = λ k is. others_have n k w g (ap (ends_space n) (sym is) ∙ d) h;
-  copies = λ src p unmoved. still n w (copied w src p) (settled w src p) (settled-still w src p unmoved)
-      (λ i m at. row-first id_of _ (new_mounts w src p) i _ (row-mapped id_of (settled w src p) (settled-id w src p) w.forest i m at)) h;
+  copies = λ src p unmoved. still n w (copied w src p) (arranged w src p) (arranged-still w src p unmoved)
+      (λ i m at. row-first id_of _ (new_mounts w src p) i _ (row-mapped id_of (arranged w src p) (arranged-id w src p) w.forest i m at)) h;
   pivot = λ i j p. still n w _ (pivoted_mount i j p) (λ m. refl) (row-mapped id_of (pivoted_mount i j p) (λ m. refl) w.forest) h;
   gone = λ goes can. gone_has n w goes g (can g) h;
   change = λ change i. still n w _ (changed_mount change (is_chosen w change i)) (λ m. refl) (row-mapped id_of (changed_mount change (is_chosen w change i)) (λ m. refl) w.forest) h;

@@ -13,13 +13,13 @@ use Rattle.mt_mounts.specs.Forest.{id_of, mount_at}
 use Rattle.mt_propagate.specs.World.{WorldView, is_space, space_of, with_tree}
 use Rattle.mt_propagate.specs.WellFormed.{IsWellFormed}
 use Rattle.mt_propagate.specs.Receivers.{targets}
-use Rattle.mt_propagate.specs.Places.{settled, new_mounts, copied_mount}
+use Rattle.mt_propagate.specs.Places.{arranged, new_mounts, copied_mount}
 use Rattle.mt_propagate.specs.Copies.{Source, destinations}
 use Rattle.mt_propagate.specs.Copied.{copied}
 use Rattle.mt_propagate.proofs.RowLaws.{mapped-row, row-second, appended-row, kept-row}
 use Rattle.mt_propagate.proofs.CopyRowLaws.{space_is}
 use Rattle.mt_propagate.proofs.WalkLaws.{StandsIn, walked, number_free}
-use Rattle.mt_propagate.proofs.ListedLaws.{settled-id, settled-here, settled-still, settled-away, settled-either}
+use Rattle.mt_propagate.proofs.ListedLaws.{arranged-id, arranged-here, arranged-still, arranged-away, arranged-either}
 use Rattle.mt_propagate.proofs.DetachedTreeLaws.{space_root}
 use Rattle.mt_bind.specs.Spaces.{with_space, with_copy, originals, without_space}
 use Rattle.mt_bind.specs.Copying.{copy_number, copy_of, with_copies}
@@ -84,14 +84,14 @@ new_placed w src p m there none =
     let bad : (copied_mount w src p at.0 x.0).place ≡ None = ap (λ (y : Mount). y.place) x.2 ∙ none in
     absurd (cc)
 
-copies_from : (n : ℕ) (w : WorldView) (src : Source) (p : Place) → WasThere n w (map (settled w src p) w.forest) → ComesFrom n w (map (settled w src p) w.forest ++ new_mounts w src p)
+copies_from : (n : ℕ) (w : WorldView) (src : Source) (p : Place) → WasThere n w (map (arranged w src p) w.forest) → ComesFrom n w (map (arranged w src p) w.forest ++ new_mounts w src p)
 copies_from n w src p was = from_more n w _ (new_mounts w src p) was (λ m there none. absurd (new_placed w src p m there none))
 
 -- what comes to another namespace comes to that of the place, which was there
-was_settled : (n k : ℕ) (w : WorldView) (src : Source) (p : Place) → StandsIn w k p → WasThere n w (map (settled w src p) w.forest)
-was_settled n k w src p on i m e s =
-    let x = mapped-row id_of (settled w src p) (settled-id w src p) w.forest i m e in
-    settled-either w src p (λ j. j ≡ n → Has n w) x.0 (λ t. was_all n w i x.0 x.1 t)
+was_arranged : (n k : ℕ) (w : WorldView) (src : Source) (p : Place) → StandsIn w k p → WasThere n w (map (arranged w src p) w.forest)
+was_arranged n k w src p on i m e s =
+    let x = mapped-row id_of (arranged w src p) (arranged-id w src p) w.forest i m e in
+    arranged-either w src p (λ j. j ≡ n → Has n w) x.0 (λ t. was_all n w i x.0 x.1 t)
     (λ t. record { id = p.mount; mount = on.0; there = on.1; space = sym (space_is w p.mount on.0 on.1) ∙ t })
     (ap (λ (y : Mount). y.space) (sym x.2) ∙ s)
 
@@ -107,7 +107,7 @@ step_from n w c v r g e = effect w c v r (λ x. ComesFrom n w x.forest) e (recor
       let x = in_map (copy_of w (map id_of (originals w k))) m (originals w k) there in
       omega (arith, ap (λ (y : Mount). y.space) x.2));
   end = λ k is. from_before n w _ (was_left n w _ g);
-  copies = λ src p still. copies_from n w src p (was_mapped n w (settled w src p) w.forest (settled-id w src p) (settled-still w src p still) (was_all n w));
+  copies = λ src p still. copies_from n w src p (was_mapped n w (arranged w src p) w.forest (arranged-id w src p) (arranged-still w src p still) (was_all n w));
   pivot = λ i j p. from_before n w _ (was_mapped n w (pivoted_mount i j p) w.forest (λ m. refl) (λ m. refl) (was_all n w));
   gone = λ goes can. from_before n w _ (was_mapped n w _ _ (λ m. refl) (λ m. refl) (was_left n w _ g));
   change = λ change i. from_before n w _ (was_mapped n w (changed_mount change (is_chosen w change i)) w.forest (λ m. refl) (λ m. refl) (was_all n w));
@@ -118,7 +118,7 @@ step_from n w c v r g e = effect w c v r (λ x. ComesFrom n w x.forest) e (recor
   opened = λ sources. from_more n w w.forest _ (was_all n w) (λ m there none.
       let x = in_map (copy_of w (map id_of sources)) m sources there in
       omega (arith, ap (λ (y : Mount). y.space) x.2));
-  attached = λ tree k path is there apart p on. copies_from n w (whole_tree w tree) p (was_settled n k w (whole_tree w tree) p (on g));
+  attached = λ tree k path is there apart p on. copies_from n w (whole_tree w tree) p (was_arranged n k w (whole_tree w tree) p (on g));
 })
 
 -- the table of a namespace that is there has a row
@@ -184,15 +184,15 @@ attached_ends w v r tree k path g s e = false_from_ne_true (is_space v tree) (λ
     let src = whole_tree w tree in
     let root = space_root v.forest kept.forest.rising tree is in
     let at : mount_at (copied w src p).forest root.0.id ≡ Some root.0 = ap (λ (y : WorldView). mount_at y.forest root.0.id) a.world ∙ root.1 in
-    elim (appended-row id_of (map (settled w src p) w.forest) (new_mounts w src p) root.0.id root.0 at) [
+    elim (appended-row id_of (map (arranged w src p) w.forest) (new_mounts w src p) root.0.id root.0 at) [
       | inl old ↦
-          let y = mapped-row id_of (settled w src p) (settled-id w src p) w.forest root.0.id root.0 old in
+          let y = mapped-row id_of (arranged w src p) (arranged-id w src p) w.forest root.0.id root.0 old in
           let on = (walked w k g path p a.ended).0 in
           let home : space_of w p.mount ≡ k = space_is w p.mount on.0 on.1 ∙ on.2 in
           let here = ap (λ (m : Mount). m.space) (sym y.2) ∙ root.3 in
           elim (cases_eq y.0.space src.top.space) [
-            | inl same ↦ true≢false (sym (eq-eqb k tree (sym home ∙ sym (settled-here w src p (whole_moves w tree) y.0 same) ∙ here)) ∙ a.apart)
-            | inr off ↦ off (sym (settled-away w src p y.0 off) ∙ here ∙ sym (whole_space w tree a.there))
+            | inl same ↦ true≢false (sym (eq-eqb k tree (sym home ∙ sym (arranged-here w src p (whole_moves w tree) y.0 same) ∙ here)) ∙ a.apart)
+            | inr off ↦ off (sym (arranged-away w src p y.0 off) ∙ here ∙ sym (whole_space w tree a.there))
           ]
       | inr new ↦ new_placed w src p root.0 (row_in id_of root.0.id (new_mounts w src p) root.0 new) root.2
     ])
