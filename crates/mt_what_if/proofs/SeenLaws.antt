@@ -31,7 +31,7 @@ mount_listed w v xs i d same h listed l =
 pub mount_there :
     (w v : World) (xs : List Mount) (i : ℕ) (d : Mount) → v ≡ w → IsWellFormed (world_view w) → xs ≡ w.forest.mounts → i < length xs
     → IsSome (mount_at v.forest.mounts (get_or xs i d).id)
-mount_there w v xs i d same h listed l = rw (mount_listed w v xs i d same h listed l) tt
+mount_there w v xs i d same h listed l = rw (mount_listed w v xs i d same h listed l) refl
 
 -- and its row is the one that is seen
 pub row_listed :
