@@ -6,7 +6,7 @@ use Rattle.mt_propagate.specs.World.{world_view}
 use Rattle.mt_propagate.specs.WellFormed.{IsWellFormed}
 use Rattle.mt_reach.specs.Rows.{seen_id}
 use Rattle.mt_reach.specs.Seen.{seen_mount, seen_rows}
-use Rattle.mt_what_if.proofs.SeenLaws.{mount_listed, row_listed, rows_more, seen_rises}
+use Rattle.mt_what_if.proofs.SeenLaws.{mount_there, row_passed, seen_rises}
 use Rattle.mt_what_if.proofs.reasons.rows_of.Goals as goal
 
 pub row_seen-requires-clause-well_formed : goal.row_seen-requires-clause-well_formed
@@ -14,24 +14,17 @@ row_seen-requires-clause-well_formed c = subst (λ (w : World). IsWellFormed (wo
 
 pub row_seen-requires-clause-there : goal.row_seen-requires-clause-there
 row_seen-requires-clause-there c =
-    rw (mount_listed c.args.world.now c.listed.seen c.deref-mount-items.result.now c.listed.mount-index c.mount-item.result c.listed.invariant.same c.requires
-    (c.deref-mount-items.ensures.value ∙ c.in_ok-mounts.ensures.mounts) c.listed-test.true c.mount-item.is) tt
+    mount_there c.args.world.now c.listed.seen c.deref-mount-items.result.now c.listed.mount-index _ c.listed.invariant.same c.requires
+    (c.deref-mount-items.ensures.value ∙ c.in_ok-mounts.ensures.mounts) c.listed-test.true
 
 pub listed-preserved : goal.listed-preserved
-listed-preserved c =
-    let w = c.args.world.now in
-    let all = c.deref-mount-items.result.now in
-    let i = c.listed.mount-index in
-    let m = c.mount-item.result in
-    let inside = omega (arith, c.listed-test.true) in
-    let here = mount_listed w c.listed.seen all i m c.listed.invariant.same c.requires (c.deref-mount-items.ensures.value ∙ c.in_ok-mounts.ensures.mounts) inside c.mount-item.is in
-    record {
-      rows =
-          rows_more (world_view w) all i m c.in_ok-of.field-0 c.listed.rows.items c.push.new.self.items _ inside c.mount-item.is
-          (row_listed w c.listed.seen m c.in_ok-row.row c.in_ok-of.field-0 c.listed.invariant.same here c.in_ok-row.ensures.row c.in_ok-of.ensures.row)
-          c.in_ok-push.ensures.items c.listed.invariant.rows;
-      same = c.in_ok-row.ensures.kept ∙ c.listed.invariant.same;
-    }
+listed-preserved c = record {
+  rows =
+      row_passed c.args.world.now c.listed.seen c.deref-mount-items.result.now c.listed.mount-index _ c.in_ok-row.row c.in_ok-of.field-0
+      c.listed.rows.items c.push.new.self.items _ c.listed.invariant.same c.requires (c.deref-mount-items.ensures.value ∙ c.in_ok-mounts.ensures.mounts)
+      c.listed-test.true c.in_ok-row.ensures.row c.in_ok-of.ensures.row c.in_ok-push.ensures.items c.listed.invariant.rows;
+  same = c.in_ok-row.ensures.kept ∙ c.listed.invariant.same;
+}
 
 pub returns-clause-rising : goal.returns-clause-rising
 returns-clause-rising c =
