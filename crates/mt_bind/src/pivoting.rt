@@ -16,7 +16,7 @@ use mt_skel::fault::Fault;
 use mt_skel::name::Name;
 
 /// Whether a mount is another one or stands on it, at whatever height.
-fn is_below(forest: &Forest, top: MountId, id: MountId) -> bool
+pub fn is_below(forest: &Forest, top: MountId, id: MountId) -> bool
     ensures { result ≡ is_below forest.now.mounts top id }
 {
     let mut here = id;

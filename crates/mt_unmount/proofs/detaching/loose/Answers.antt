@@ -4,10 +4,10 @@ use Rattle.mt_propagate.specs.World.{world_view}
 use Rattle.mt_unmount.specs.Detaching.{is_candidate}
 use Rattle.mt_unmount.specs.Holding.{AreHeld}
 use Rattle.mt_unmount.proofs.CandidateLaws.{not-held}
-use Rattle.mt_unmount.proofs.detaching.gone.Goals as goal
+use Rattle.mt_unmount.proofs.detaching.loose.Goals as goal
 
-pub returns-clause-gone : goal.returns-clause-gone
-returns-clause-gone c =
+pub returns-clause-loose : goal.returns-clause-loose
+returns-clause-loose c =
     let w = world_view c.args.world.now in
     let i = c.args.id in
     let among_them : among c.new-candidates.result ≡ is_candidate w i = λ t. λ j. (c.new-candidates.ensures.same j ∙ ap (λ (l : List ℕ). among l j) c.in_ok-candidates.ensures.candidates) t in
