@@ -188,10 +188,10 @@ module _ (w : WorldView) (h : IsWellFormed w) (n : ℕ) (less : Bool) where
 
     -- together they make the copy
     pub copy-made : (v : WorldView) → v.forest ≡ u.forest ++ cs → v.peering.peers ≡ u.peering.peers ++ peers_of rs → (v.skel ≡ u.skel) × (v.peering.next ≡ u.peering.next)
-        → (v.next_mount ≡ u.next_mount + length cs) × (v.next_space ≡ u.next_space + 1) → v.trees ≡ u.trees → v ≡ with_copy w n less
+        → (v.next_mount ≡ u.next_mount + length cs) × (v.next_space ≡ u.next_space + 1) → v.trees ≡ u.trees → v.locks ≡ u.locks → v ≡ with_copy w n less
     unfolding with_copy
-    copy-made v forest states same next trees =
+    copy-made v forest states same next trees locks =
         let count : length cs ≡ length (originals w n) = ap length a.mounts ∙ length-map (originals w n) (copy w n) in
-        let added : v ≡ record { skel = u.skel; forest = u.forest ++ cs; peering = record { peers = u.peering.peers ++ peers_of rs; next = u.peering.next }; next_mount = u.next_mount + length cs; next_space = u.next_space + 1; trees = u.trees } =
-        λ i. record { skel = same.0 i; forest = forest i; peering = record { peers = states i; next = same.1 i }; next_mount = next.0 i; next_space = next.1 i; trees = trees i } in
+        let added : v ≡ record { skel = u.skel; forest = u.forest ++ cs; peering = record { peers = u.peering.peers ++ peers_of rs; next = u.peering.next }; next_mount = u.next_mount + length cs; next_space = u.next_space + 1; trees = u.trees; locks = u.locks } =
+        λ i. record { skel = same.0 i; forest = forest i; peering = record { peers = states i; next = same.1 i }; next_mount = next.0 i; next_space = next.1 i; trees = trees i; locks = locks i } in
         added ∙ (λ i. let x = a.still i in record x { forest = x.forest ++ a.mounts i; peering = record x.peering { peers = x.peering.peers ++ a.states i }; next_mount = x.next_mount + count i; next_space = x.next_space + 1 })

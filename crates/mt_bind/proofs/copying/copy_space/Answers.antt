@@ -50,7 +50,7 @@ add_space-requires-clause-states c = added-rise (world_view c.args.world.now) c.
 is_copy : (c : goal.After-drop-originals-2) → world_view c.add_space.new.world ≡ with_copy (world_view c.args.world.now) c.args.space c.args.less
 is_copy c =
     copy-made (world_view c.args.world.now) c.requires.well_formed c.args.space c.args.less (world_view c.make_room.new.world) _ _ (made (goal.at.returns-clause-done c).After-deref-4) (world_view c.add_space.new.world)
-    c.add_space.ensures.forest c.add_space.ensures.peers c.add_space.ensures.same c.add_space.ensures.next c.add_space.ensures.trees
+    c.add_space.ensures.forest c.add_space.ensures.peers c.add_space.ensures.same c.add_space.ensures.next c.add_space.ensures.trees c.add_space.ensures.locks
 
 pub returns-clause-done : goal.returns-clause-done
 returns-clause-done c =

@@ -68,7 +68,7 @@ is_opened : (c : goal.After-drop-sources-2) → world_view c.add_space.new.world
 is_opened c =
     let d = goal.at.returns-clause-done c in
     opened-made _ _ _ (tree d.After-in_ok-sources) (shown d.After-in_ok-sources) _ _ _ (made d.After-deref-4) (world_view c.add_space.new.world)
-    c.add_space.ensures.forest c.add_space.ensures.peers c.add_space.ensures.same c.add_space.ensures.next c.add_space.ensures.trees
+    c.add_space.ensures.forest c.add_space.ensures.peers c.add_space.ensures.same c.add_space.ensures.next c.add_space.ensures.trees c.add_space.ensures.locks
 
 pub returns-clause-done : goal.returns-clause-done
 returns-clause-done c =
