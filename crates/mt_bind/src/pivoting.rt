@@ -16,7 +16,7 @@ use mt_skel::fault::Fault;
 use mt_skel::name::Name;
 
 /// Whether a mount is another one or stands on it, at whatever height.
-pub fn is_below(forest: &Forest, top: MountId, id: MountId) -> bool
+fn is_below(forest: &Forest, top: MountId, id: MountId) -> bool
     ensures { result ≡ is_below forest.now.mounts top id }
 {
     let mut here = id;
@@ -30,6 +30,13 @@ pub fn is_below(forest: &Forest, top: MountId, id: MountId) -> bool
         here = parent;
     }
     here == top
+}
+
+/// Whether a mount is another one or stands on it, at whatever height.
+pub fn is_in_tree_of(world: &World, top: MountId, id: MountId) -> bool
+    ensures { result ≡ is_below world.now.forest.mounts top id }
+{
+    is_below(&world.forest, top, id)
 }
 
 /// Whether the mount on which a mount stands is in a peer group, or the mount of a place is.

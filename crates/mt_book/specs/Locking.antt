@@ -6,12 +6,12 @@ use Rattle.mt_skel.specs.Keyed.{among, has, rises}
 use Rattle.mt_mounts.specs.declared.mount.Mount.{Mount}
 use Rattle.mt_mounts.specs.Forest.{mount_at, mounts_in, parent, is_below}
 use Rattle.mt_mounts.specs.Walk.{walk}
-use Rattle.mt_locks.specs.MountLocks.{mount_of}
+use Rattle.mt_locks.specs.MountLocks.{locked_mount}
 use Rattle.mt_locks.specs.Locks.{no_locks, owner_of, locks_of, is_locked}
 use Rattle.mt_propagate.specs.World.{WorldView, state_of, space_of}
 use Rattle.mt_propagate.specs.Named.{mount_or_unknown, place_or_nowhere}
 use Rattle.mt_unmount.specs.Sliding.{place_of}
-use Rattle.mt_unmount.specs.Detaching.{met, named_place}
+use Rattle.mt_unmount.specs.Detaching.{met_mounts, named_place}
 use Rattle.mt_guard.specs.Refusals.{changes_locked}
 use Rattle.mt_book.specs.declared.command.Command.{Command}
 use Rattle.mt_book.specs.declared.command.Command.TheVariants.{CopySpace, DropSpace, Mount as MountCommand, MountWith, Bind, Move, Pivot, Unmount, Detach, SetAttr, OpenTree, MoveTree}
@@ -33,9 +33,9 @@ abbrev pub without_lock : Command → Command
 without_lock (CopySpace n privilege) = CopySpace n (without_lock_word privilege)
 without_lock c = c
 
-abbrev pub is_detach : Command → Bool
-is_detach (Detach n path) = true
-is_detach c = false
+abbrev pub detaches : Command → Bool
+detaches (Detach n path) = true
+detaches c = false
 
 -- an accepted command does to the mounts what it does whatever is locked
 abbrev pub StepsAreActs : Type 0
@@ -44,7 +44,7 @@ StepsAreActs = (w : WorldView) (c : Command) (v : WorldView) (r : Reply) → ste
 -- and but for a detach, it gives the world that it gives where nothing is locked, and the same answer: locks only refuse
 abbrev pub LocksOnlyRefuse : Type 0
 LocksOnlyRefuse =
-    (w : WorldView) (c : Command) (v : WorldView) (r : Reply) → is_detach c ≡ false → step w c ≡ Ok (v, r)
+    (w : WorldView) (c : Command) (v : WorldView) (r : Reply) → detaches c ≡ false → step w c ≡ Ok (v, r)
     → step (without_locks w) (without_lock c) ≡ Ok (without_locks v, r)
 
 -- where nothing is locked, nothing comes locked without the word `lock`, and nothing is refused for a lock: so it is as if there were no locks
@@ -57,8 +57,8 @@ NoneAreLocked = (cs : List Command) → AllByRecursion (λ c. makes_locks c ≡ 
 -- what is locked, of which mounts: mounts that are there, by rising ID, each once, and of attributes only what is set; no root mount is locked on
 -- a place
 pub record AreLocks (w : WorldView) : Type 0 where
-  pub rising : IsTrue (rises mount_of w.locks.mounts)
-  pub there : (i : ℕ) → has mount_of i w.locks.mounts ≡ true → (m : Mount) × (mount_at w.forest i ≡ Some m)
+  pub rising : IsTrue (rises locked_mount w.locks.mounts)
+  pub there : (i : ℕ) → has locked_mount i w.locks.mounts ≡ true → (m : Mount) × (mount_at w.forest i ≡ Some m)
   pub placed : (i : ℕ) → is_locked w.locks i ≡ true → place_of w i ≢ None
   pub set : (i : ℕ) → changes_locked (locks_of w.locks i) (mount_or_unknown w i).attrs (mount_or_unknown w i).attrs ≡ false
 
@@ -84,8 +84,8 @@ named_space c = None
 
 -- the mounts that an unmount or a detach meets
 abbrev pub met_by : WorldView → Command → List ℕ
-met_by w (Unmount n path) = met w (place_or_nowhere (walk w.skel w.forest n path)).mount
-met_by w (Detach n path) = met w (named_place w n path).mount
+met_by w (Unmount n path) = met_mounts w (place_or_nowhere (walk w.skel w.forest n path)).mount
+met_by w (Detach n path) = met_mounts w (named_place w n path).mount
 met_by w c = []
 
 -- a mount has neither a group nor a master

@@ -335,8 +335,9 @@ fn locks_in(world: &World, space: SpaceId) -> Result<Vec<MountLocks>, Fault>
     ensures locks { IfOk result (λ locks. locks.items ≡ locks_in (world_view world.now) space) }
     ensures memory { IsOkUnless result Fault.NoMemory }
 {
+    let rows = world.locks.mounts();
     let mut locks = Vec::new(world.forest.allocator());
-    'mounts: for row in world.locks.mounts() {
+    'locking: for row in rows {
         if space_of(world, row.mount) == space {
             locks.push(*row)?;
         }

@@ -5,7 +5,7 @@ use Rattle.std.specs.List.{AllByRecursion}
 use Rattle.mt_skel.specs.Keyed.{rises}
 use Rattle.mt_skel.specs.Rising.{is_above}
 use Rattle.mt_locks.specs.declared.mount_locks.MountLocks.{MountLocks}
-use Rattle.mt_locks.specs.MountLocks.{mount_of}
+use Rattle.mt_locks.specs.MountLocks.{locked_mount}
 use Rattle.mt_info.specs.LockLine.{lock_line, IsLockRow}
 
 -- the line of a mount of this ID, which is above the last one, if there was one
@@ -20,6 +20,6 @@ IsLockAbove last lines = (k : MountLocks) × IsLockRow k × (is_above last k.mou
 pub record AreLockLines (count : ℕ) (lines : List (List ℕ)) : Type 0 where
   pub rows : List MountLocks
   pub valid : AllByRecursion IsLockRow rows
-  pub rising : IsTrue (rises mount_of rows)
+  pub rising : IsTrue (rises locked_mount rows)
   pub many : length rows ≡ count
   pub all : lines ≡ map lock_line rows

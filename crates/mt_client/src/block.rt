@@ -113,7 +113,7 @@ fn pass_locks<R: Input + Drop, O: Output>(
     ensures fault { IfErr result (λ fault. IsPassFault O.Output fault (AreLockLines count) [] lines.old lines.new out.old out.new) }
 {
     let mut last = None;
-    'rows: for _row in 0..count {
+    'locking: for _row in 0..count {
         last = Some(pass_lock(lines, last, out)?);
     }
     Ok(())

@@ -12,8 +12,8 @@ use Rattle.mt_setattr.specs.Words.{new_with}
 use Rattle.mt_bind.specs.Sources.{source_at, tree_of}
 use Rattle.mt_bind.specs.Opening.{opened_sources}
 use Rattle.mt_bind.specs.Attaching.{whole_tree}
-use Rattle.mt_unmount.specs.Detaching.{met, topmost}
-use Rattle.mt_guard.specs.Coming.{numbered_from, coming, opened_locks, copied_locks, next_owner, where_led}
+use Rattle.mt_unmount.specs.Detaching.{met_mounts, topmost}
+use Rattle.mt_guard.specs.Coming.{numbered_from, come_locked, opened_locks, copied_locks, next_owner, where_led}
 
 -- what a command changes of what is locked: the mounts that it meets are not locked on their places any more, new ones come with
 -- locks, and maybe a namespace with an owner
@@ -37,23 +37,23 @@ with_locks l v = record v { locks = kept_locks v.forest l }
 module _ (w : WorldView) where
   -- mounts come to a place in a namespace, and to its targets
   abbrev pub mount_locking : ℕ → SetWords → Result Place Fault → Locking
-  mount_locking n set to = record keeping { came = where_led to (coming w n (fresh_source 0 (new_with set))) }
+  mount_locking n set to = record keeping { came = where_led to (come_locked w n (fresh_source 0 (new_with set))) }
 
   abbrev pub bind_locking : ℕ → Bool → Result Place Fault → Result Place Fault → Locking
-  bind_locking n recursive from to = record keeping { came = where_led from (λ s. where_led to (coming w n (source_at w recursive s))) }
+  bind_locking n recursive from to = record keeping { came = where_led from (λ s. where_led to (come_locked w n (source_at w recursive s))) }
 
   abbrev pub move_locking : ℕ → Result Place Fault → Result Place Fault → Locking
-  move_locking n from to = record keeping { came = where_led from (λ s. where_led to (coming w n (tree_of w s.mount))) }
+  move_locking n from to = record keeping { came = where_led from (λ s. where_led to (come_locked w n (tree_of w s.mount))) }
 
   abbrev pub attach_locking : ℕ → ℕ → Result Place Fault → Locking
-  attach_locking tree n to = record keeping { came = where_led to (coming w n (whole_tree w tree)) }
+  attach_locking tree n to = record keeping { came = where_led to (come_locked w n (whole_tree w tree)) }
 
   -- an unmount meets mounts, so that none of them that stays is locked on its place: whoever unmounts where they came from may do so
   abbrev pub unmount_locking : Result Place Fault → Locking
-  unmount_locking at = record keeping { met = where_led at (λ p. met w p.mount) }
+  unmount_locking at = record keeping { met = where_led at (λ p. met_mounts w p.mount) }
 
   abbrev pub detach_locking : Result Place Fault → Locking
-  detach_locking at = record keeping { met = where_led at (λ p. met w (topmost w at).mount) }
+  detach_locking at = record keeping { met = where_led at (λ p. met_mounts w (topmost w at).mount) }
 
   -- a namespace comes, which is a detached tree or a copy; one that is less privileged, with locks, is its own owner
   abbrev pub open_locking : ℕ → Bool → Result Place Fault → Locking

@@ -32,23 +32,23 @@ module _ (w : WorldView) where
   -- of a copy is locked what is locked of its source, and in a foreign namespace all; but the top of what is copied is not locked on its
   -- place, so that all of it together can be taken away (mount_namespaces(7): mounts that come as one unit from a more privileged
   -- namespace are locked together)
-  abbrev pub copy_locks : Bool → ℕ → Mount → MountLocks
-  copy_locks foreign top m =
+  abbrev pub locks_of_copy : Bool → ℕ → Mount → MountLocks
+  locks_of_copy foreign top m =
       let k : MountLocks = locks_with (not (m.id == top) && (is_locked w.locks m.id || foreign)) m.id in
       cond foreign (with_all_attrs m.attrs k) k
 
   -- at each of these mounts a copy of each of those, if there may be as many
   abbrev pub copies_locks : ℕ → ℕ → List Mount → List ℕ → List MountLocks
   copies_locks here top ms ts =
-      cond (too_many_mounts w (length ts * length ms)) [] (flat_map (λ t. map (copy_locks (is_foreign here (space_of w t)) top) ms) ts)
+      cond (too_many_mounts w (length ts * length ms)) [] (flat_map (λ t. map (locks_of_copy (is_foreign here (space_of w t)) top) ms) ts)
 
   -- what comes to a place in the namespace `here`, and to its propagation targets
-  abbrev pub coming : ℕ → Source → Place → List MountLocks
-  coming here src p = copies_locks here src.top.id src.mounts (cond src.moved (targets w p) (p.mount ∷ targets w p))
+  abbrev pub come_locked : ℕ → Source → Place → List MountLocks
+  come_locked here src p = copies_locks here src.top.id src.mounts (cond src.moved (targets w p) (p.mount ∷ targets w p))
 
   -- what is copied into a tree has the locks of its source, but for the place of the root mount (open_tree(2), OPEN_TREE_CLONE)
   abbrev pub opened_locks : ℕ → List Mount → List MountLocks
-  opened_locks top ms = map (copy_locks false top) ms
+  opened_locks top ms = map (locks_of_copy false top) ms
 
   -- a copy in a copied namespace has the locks of its original; in a less privileged one with locks all attributes are locked, and the
   -- place, if there is one (mount_namespaces(7))

@@ -45,18 +45,18 @@ changes_locked k a b =
 
 module _ (w : WorldView) where
   -- what a bind copies: the mount of the source, or the tree of mounts below it
-  abbrev pub copied_ids : Bool → Place → List ℕ
-  copied_ids recursive p = cond recursive (map id_of (filter (λ m. is_bound_along w p m.id) w.forest)) (p.mount ∷ [])
+  abbrev pub bound_ids : Bool → Place → List ℕ
+  bound_ids recursive p = cond recursive (map id_of (filter (λ m. is_bound_along w p m.id) w.forest)) (p.mount ∷ [])
 
-  -- the copy of a mount shows where another one stands on that: all of it but the top is copied whole
-  abbrev pub shows : Place → ℕ → ℕ → Bool
-  shows p on i = not (on == p.mount) || stands_within w p.dir i
+  -- the copy of a mount copy_shows where another one stands on that: all of it but the top is copied whole
+  abbrev pub copy_shows : Place → ℕ → ℕ → Bool
+  copy_shows p on i = not (on == p.mount) || stands_within w p.dir i
 
   -- a mount is left out that stands where a copy shows it, and is not copied
   abbrev pub leaves_out : Bool → Place → ℕ → Bool
   leaves_out recursive p i =
-      let ids : List ℕ = copied_ids recursive p in
-      not (among ids i) && option_map_or (λ on. among ids on && shows p on i) (parent w.forest i) false
+      let ids : List ℕ = bound_ids recursive p in
+      not (among ids i) && option_map_or (λ on. among ids on && copy_shows p on i) (parent w.forest i) false
 
   -- one that is locked on its place, so that the copy would show what it covers (mount_namespaces(7): mounts that came as one unit are
   -- locked together)

@@ -3,7 +3,7 @@ ghost use Rattle.std.specs.Prelude.{◌≡◌, ◌*◌, ◌<◌, ◌^◌, ◌++�
 ghost use Rattle.mt_propagate.specs.World.{world_view};
 ghost use Rattle.mt_propagate.specs.Named.{mount_or_unknown};
 ghost use Rattle.mt_propagate.specs.Limits.{too_many_mounts};
-ghost use Rattle.mt_guard.specs.Coming.{numbered_from, is_foreign, locks_with, copy_locks, copies_locks, original_locks};
+ghost use Rattle.mt_guard.specs.Coming.{numbered_from, is_foreign, locks_with, locks_of_copy, copies_locks, original_locks};
 
 use mt_locks::mount_locks::MountLocks;
 use mt_mounts::mount::{Mount, MountId, SpaceId};
@@ -20,7 +20,7 @@ pub(crate) fn numbered(world: &World, rows: &[MountLocks]) -> Result<Vec<MountLo
 {
     let mut all = Vec::with_capacity(world.forest.allocator(), rows.len())?;
     let mut next = world.next_mount;
-    'rows: for row in rows {
+    for row in rows {
         all.push(MountLocks {
             mount: next,
             ..*row
@@ -48,8 +48,8 @@ fn locks_with(world: &World, place: bool, id: MountId) -> MountLocks
 }
 
 /// What is locked of a copy of a mount, which is the top of what is copied or not, in a foreign namespace or not.
-fn copy_locks(world: &World, foreign: bool, top: MountId, mount: &Mount) -> MountLocks
-    ensures { result ≡ copy_locks (world_view world.now) foreign top mount.now }
+fn locks_of_copy(world: &World, foreign: bool, top: MountId, mount: &Mount) -> MountLocks
+    ensures { result ≡ locks_of_copy (world_view world.now) foreign top mount.now }
 {
     let place = mount.id != top && (world.locks.is_locked(mount.id) || foreign);
     let locks = locks_with(world, place, mount.id);
@@ -68,11 +68,11 @@ pub(crate) fn push_copies(
     mounts: &[Mount],
     rows: &mut Vec<MountLocks>,
 ) -> Result<(), Fault>
-    ensures rows { OnOk result (rows.new.items ≡ rows.old.items ++ map (copy_locks (world_view world.now) foreign top) mounts.now) }
+    ensures rows { OnOk result (rows.new.items ≡ rows.old.items ++ map (locks_of_copy (world_view world.now) foreign top) mounts.now) }
     ensures memory { IsOkUnless result Fault.NoMemory }
 {
-    'mounts: for mount in mounts {
-        rows.push(copy_locks(world, foreign, top, mount))?;
+    for mount in mounts {
+        rows.push(locks_of_copy(world, foreign, top, mount))?;
     }
     Ok(())
 }
@@ -103,7 +103,7 @@ pub(crate) fn copies_locks(
     if are_too_many(world, targets.len(), mounts.len()) {
         return Ok(rows);
     }
-    'targets: for target in targets {
+    for target in targets {
         let foreign = is_foreign(world, here, space_of(world, *target));
         push_copies(world, foreign, top, mounts, &mut rows)?;
     }
@@ -133,7 +133,7 @@ pub(crate) fn copied_locks(
     ensures memory { IsOkUnless result Fault.NoMemory }
 {
     let mut rows = Vec::with_capacity(world.forest.allocator(), mounts.len())?;
-    'mounts: for mount in mounts {
+    for mount in mounts {
         rows.push(original_locks(world, all, mount))?;
     }
     Ok(rows)
@@ -145,7 +145,7 @@ pub(crate) fn mounts_with(world: &World, ids: &[MountId]) -> Result<Vec<Mount>, 
     ensures memory { IsOkUnless result Fault.NoMemory }
 {
     let mut mounts = Vec::with_capacity(world.forest.allocator(), ids.len())?;
-    'ids: for id in ids {
+    for id in ids {
         mounts.push(mount_or_unknown(world, *id))?;
     }
     Ok(mounts)

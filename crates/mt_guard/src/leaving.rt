@@ -9,7 +9,7 @@ use mt_propagate::named::{is_mount_root, is_root_mount};
 use mt_propagate::world::World;
 use mt_skel::fault::Fault;
 use mt_skel::name::Name;
-use mt_unmount::detaching::met;
+use mt_unmount::detaching::met_mounts;
 
 /// What will be locked where an unmount names the mount at a place.
 ///
@@ -25,7 +25,7 @@ fn unlocked_at(world: &World, place: Place) -> Result<Locks, Fault> {
     if world.locks.is_locked(place.mount) {
         return Err(Fault::Locked);
     }
-    let met = met(world, place.mount)?;
+    let met = met_mounts(world, place.mount)?;
     world.locks.changed(&met, &[], None)
 }
 

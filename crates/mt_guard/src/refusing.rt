@@ -8,9 +8,9 @@ ghost use Rattle.mt_propagate.specs.World.{world_view};
 ghost use Rattle.mt_bind.specs.Sources.{stands_within};
 ghost use Rattle.mt_locks.specs.Locks.{locked_ids};
 ghost use Rattle.mt_setattr.specs.Change.{is_chosen};
-ghost use Rattle.mt_guard.specs.Refusals.{same_flag, same_atime, changes_locked, shows, unlocks, unlocks_some};
+ghost use Rattle.mt_guard.specs.Refusals.{same_flag, same_atime, changes_locked, copy_shows, unlocks, unlocks_some};
 
-use mt_bind::pivoting::is_below;
+use mt_bind::pivoting::is_in_tree_of;
 use mt_locks::mount_locks::MountLocks;
 use mt_mounts::mount::{Atime, Attrs, MountId, Place};
 use mt_propagate::copies::mount_or_unknown;
@@ -30,31 +30,31 @@ fn stands_within(world: &World, dir: Dir, id: MountId) -> bool
     }
 }
 
-/// Whether the copy of a mount shows where another one stands on that.
-fn shows(world: &World, from: Place, on: MountId, id: MountId) -> bool
-    ensures { result ≡ shows (world_view world.now) from on id }
+/// Whether the copy of a mount copy_shows where another one stands on that.
+fn copy_shows(world: &World, from: Place, on: MountId, id: MountId) -> bool
+    ensures { result ≡ copy_shows (world_view world.now) from on id }
 {
     on != from.mount || stands_within(world, from.dir, id)
 }
 
 /// Whether a bind that copies these mounts leaves out another one that stands where a copy shows it.
 fn leaves_out(world: &World, from: Place, copied: &[MountId], id: MountId) -> bool
-    ensures { result ≡ (not (among copied.now id) && option_map_or (λ on. among copied.now on && shows (world_view world.now) from on id) (parent world.now.forest.mounts id) false) }
+    ensures { result ≡ (not (among copied.now id) && option_map_or (λ on. among copied.now on && copy_shows (world_view world.now) from on id) (parent world.now.forest.mounts id) false) }
 {
     if is_among(copied, id) {
         return false;
     }
     match world.forest.parent(id) {
-        Some(on) => is_among(copied, on) && shows(world, from, on, id),
+        Some(on) => is_among(copied, on) && copy_shows(world, from, on, id),
         None => false,
     }
 }
 
 /// Whether a bind that copies these mounts leaves out one that is locked on its place.
 pub(crate) fn uncovers(world: &World, from: Place, copied: &[MountId]) -> bool
-    ensures { result ≡ list_any (λ id. not (among copied.now id) && option_map_or (λ on. among copied.now on && shows (world_view world.now) from on id) (parent world.now.forest.mounts id) false) (locked_ids (world_view world.now).locks) }
+    ensures { result ≡ list_any (λ id. not (among copied.now id) && option_map_or (λ on. among copied.now on && copy_shows (world_view world.now) from on id) (parent world.now.forest.mounts id) false) (locked_ids (world_view world.now).locks) }
 {
-    'mounts: for row in world.locks.mounts() {
+    for row in world.locks.mounts() {
         if row.place && leaves_out(world, from, copied, row.mount) {
             return true;
         }
@@ -96,7 +96,7 @@ fn changes_locked(locks: &MountLocks, before: &Attrs, after: &Attrs) -> bool
 fn is_chosen(world: &World, change: &Change, top: MountId, id: MountId) -> bool
     ensures { result ≡ is_chosen (world_view world.now) change.now top id }
 {
-    top == id || change.recursive && is_below(&world.forest, top, id)
+    top == id || change.recursive && is_in_tree_of(world, top, id)
 }
 
 /// Whether a change of a mount, or of its tree, takes away what is locked of another one.
@@ -114,7 +114,7 @@ fn unlocks(world: &World, change: &Change, top: MountId, locks: &MountLocks) -> 
 pub(crate) fn unlocks_some(world: &World, change: &Change, top: MountId) -> bool
     ensures { result ≡ unlocks_some (world_view world.now) change.now top }
 {
-    'mounts: for row in world.locks.mounts() {
+    for row in world.locks.mounts() {
         if unlocks(world, change, top, row) {
             return true;
         }

@@ -16,7 +16,7 @@ use mt_skel::name::Name;
 /// What will be locked where nothing comes and nothing is unlocked.
 ///
 /// It refuses nothing, but as `NoMemory`.
-pub fn kept_locks(world: &World) -> Result<Locks, Fault>
+pub fn same_locks(world: &World) -> Result<Locks, Fault>
     ensures done { IfOk result (λ locks. keep_judged (world_view world.now) ≡ Ok locks) }
     ensures memory { IsOkUnless result Fault.NoMemory }
 {
@@ -53,7 +53,7 @@ pub fn pivot_locks(
     if world.locks.is_locked(named.mount) {
         return Err(Fault::Locked);
     }
-    kept_locks(world)
+    same_locks(world)
 }
 
 /// What will be locked where attributes are changed: what is locked.
@@ -81,5 +81,5 @@ pub fn change_locks(
     if unlocks_some(world, change, place.mount) {
         return Err(Fault::LockedAttr);
     }
-    kept_locks(world)
+    same_locks(world)
 }

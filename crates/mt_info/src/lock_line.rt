@@ -44,7 +44,7 @@ fn push_lock_line(text: &mut Vec<u8>, locks: &MountLocks) -> Result<(), AllocErr
 pub fn push_lock_lines(text: &mut Vec<u8>, rows: &[MountLocks]) -> Result<(), AllocError>
     ensures text { OnOk result (text.new.items ≡ text.old.items ++ flat_map whole_lock_line rows.now) }
 {
-    'rows: for row in rows {
+    for row in rows {
         push_lock_line(text, row)?;
     }
     Ok(())

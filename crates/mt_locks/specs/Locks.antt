@@ -1,13 +1,13 @@
 -- What is locked of all mounts, and the owners of namespaces (mount_namespaces(7), restrictions on mount namespaces).
 -- A word with no source is this project's rule.
-use Rattle.std.specs.Prelude.{ℕ, Bool, cond, ◌&&◌, List, [], ◌++◌, map, Option, is_some}
-use Rattle.std.specs.List.{filter}
+use Rattle.std.specs.Prelude.{ℕ, Bool, cond, ◌&&◌, ◌==◌, List, [], ◌++◌, map, Option, is_some}
+use Rattle.std.specs.List.{filter, find, list_any}
 use Rattle.std.specs.Option.{option_map_or, option_to_list, unwrap_or}
-use Rattle.mt_skel.specs.Keyed.{row_at, among}
+use Rattle.mt_skel.specs.Keyed.{among}
 use Rattle.mt_mounts.specs.declared.mount.Mount.{Mount}
 use Rattle.mt_mounts.specs.Forest.{mount_at, root_mount}
 use Rattle.mt_locks.specs.declared.mount_locks.MountLocks.{MountLocks}
-use Rattle.mt_locks.specs.MountLocks.{mount_of, unlocked, without_place, locks_some}
+use Rattle.mt_locks.specs.MountLocks.{locked_mount, unlocked, without_place, locks_some}
 
 -- the namespaces that have another owner than 0, each with its owner, which stands for a user namespace; and what is locked of each
 -- mount of which something is locked (mount_namespaces(7); that owners are numbers is this project's rule)
@@ -19,23 +19,21 @@ pub record LocksView : Type 0 where
 abbrev pub no_locks : LocksView
 no_locks = record { owners = []; mounts = [] }
 
-abbrev pub owned_space : ℕ × ℕ → ℕ
-owned_space o = o.0
-
 -- the owner of a namespace
 abbrev pub owner_of : LocksView → ℕ → ℕ
-owner_of l n = option_map_or (λ (o : ℕ × ℕ). o.1) (row_at owned_space n l.owners) 0
+owner_of l n = option_map_or (λ (o : ℕ × ℕ). o.1) (find (λ (o : ℕ × ℕ). o.0 == n) l.owners) 0
 
 -- what is locked of a mount
 abbrev pub locks_of : LocksView → ℕ → MountLocks
-locks_of l i = unwrap_or (row_at mount_of i l.mounts) (unlocked i)
+locks_of l i = unwrap_or (find (λ (k : MountLocks). k.mount == i) l.mounts) (unlocked i)
 
--- the mounts that are locked on their places, and that a mount is one of them
-abbrev pub locked_ids : LocksView → List ℕ
-locked_ids l = map mount_of (filter (λ k. k.place) l.mounts)
-
+-- a mount is locked on its place
 abbrev pub is_locked : LocksView → ℕ → Bool
-is_locked l i = among (locked_ids l) i
+is_locked l i = list_any (λ (k : MountLocks). k.place && (k.mount == i)) l.mounts
+
+-- the mounts that are
+abbrev pub locked_ids : LocksView → List ℕ
+locked_ids l = map locked_mount (filter (λ (k : MountLocks). k.place) l.mounts)
 
 -- what is locked of a mount, once some mounts are not locked on their places any more
 abbrev pub unlocked_by : List ℕ → MountLocks → MountLocks
@@ -48,6 +46,6 @@ changed_locks met came owner l = record { owners = l.owners ++ option_to_list ow
 -- what is locked of mounts that are there, and the owners of namespaces that are there
 abbrev pub kept_locks : List Mount → LocksView → LocksView
 kept_locks ms l = record {
-  owners = filter (λ o. is_some (root_mount ms (owned_space o))) l.owners;
-  mounts = filter (λ k. is_some (mount_at ms k.mount) && locks_some k) l.mounts;
+  owners = filter (λ (o : ℕ × ℕ). is_some (root_mount ms o.0)) l.owners;
+  mounts = filter (λ (k : MountLocks). is_some (mount_at ms k.mount) && locks_some k) l.mounts;
 }

@@ -5,8 +5,8 @@ use Rattle.mt_mounts.specs.declared.mount.Attrs.{Attrs}
 use Rattle.mt_locks.specs.declared.mount_locks.MountLocks.{MountLocks}
 
 -- the mount of which something is locked
-abbrev pub mount_of : MountLocks → ℕ
-mount_of k = k.mount
+abbrev pub locked_mount : MountLocks → ℕ
+locked_mount k = k.mount
 
 -- nothing is locked of a mount
 abbrev pub unlocked : ℕ → MountLocks

@@ -1,8 +1,10 @@
 //! What is locked of all mounts.
-ghost use Rattle.std.specs.Prelude.{◌≡◌, ◌&&◌, ◌==◌, ◌++◌, length, map, is_some, IfOk, OnOk, IsOkUnless};
-ghost use Rattle.std.specs.Option.{option_to_list};
-ghost use Rattle.mt_mounts.specs.Forest.{mount_at, root_mount};
-ghost use Rattle.mt_locks.specs.MountLocks.{locks_some};
+ghost use Rattle.std.specs.Prelude.{◌≡◌, ℕ, ◌&&◌, ◌==◌, ◌++◌, length, map, is_some, IfOk, OnOk, IsOkUnless};
+ghost use Rattle.std.specs.List.{filter, find, list_any};
+ghost use Rattle.std.specs.Option.{option_map_or, option_to_list, unwrap_or};
+ghost use Rattle.mt_mounts.specs.Forest.{mount_at};
+ghost use Rattle.mt_locks.specs.declared.mount_locks.MountLocks.{MountLocks as AnyLocks};
+ghost use Rattle.mt_locks.specs.MountLocks.{locked_mount, unlocked, locks_some};
 ghost use Rattle.mt_locks.specs.Locks.{no_locks, owner_of, locks_of, locked_ids, is_locked, unlocked_by, changed_locks, kept_locks};
 
 use crate::mount_locks::MountLocks;
@@ -76,36 +78,21 @@ impl Locks {
     pub fn owner_of(&self, space: SpaceId) -> SpaceId
         ensures { result ≡ owner_of self.now space }
     {
-        'owners: for row in &self.owners {
-            if row.0 == space {
-                return row.1;
-            }
-        }
-        0
+        owner_among(&self.owners, space)
     }
 
     /// What is locked of a mount.
     pub fn of(&self, id: MountId) -> MountLocks
         ensures { result ≡ locks_of self.now id }
     {
-        'mounts: for row in &self.mounts {
-            if row.mount == id {
-                return *row;
-            }
-        }
-        MountLocks::new(id)
+        locks_among(&self.mounts, id)
     }
 
     /// Whether a mount is locked on its place.
     pub fn is_locked(&self, id: MountId) -> bool
         ensures { result ≡ is_locked self.now id }
     {
-        'mounts: for row in &self.mounts {
-            if row.place && row.mount == id {
-                return true;
-            }
-        }
-        false
+        is_locked_among(&self.mounts, id)
     }
 
     /// What is locked, of each mount of which something is.
@@ -120,40 +107,7 @@ impl Locks {
         ensures ids { IfOk result (λ ids. ids.items ≡ locked_ids self.now) }
         ensures memory { IsOkUnless result Fault.NoMemory }
     {
-        let mut ids = Vec::new(*self.mounts.allocator());
-        'mounts: for row in &self.mounts {
-            if row.place {
-                ids.push(row.mount)?;
-            }
-        }
-        Ok(ids)
-    }
-
-    /// The owners, and one more, if there is one.
-    fn owners_with(
-        &self,
-        owner: Option<(SpaceId, SpaceId)>,
-    ) -> Result<Vec<(SpaceId, SpaceId)>, Fault>
-        ensures owners { IfOk result (λ owners. owners.items ≡ self.now.owners ++ option_to_list owner) }
-        ensures memory { IsOkUnless result Fault.NoMemory }
-    {
-        let mut owners = Vec::from_slice(*self.owners.allocator(), &self.owners)?;
-        if let Some(row) = owner {
-            owners.push(row)?;
-        }
-        Ok(owners)
-    }
-
-    /// What is locked, once these mounts are not locked on their places any more.
-    fn unlocked_by(&self, met: &[MountId]) -> Result<Vec<MountLocks>, Fault>
-        ensures mounts { IfOk result (λ mounts. mounts.items ≡ map (unlocked_by met.now) self.now.mounts) }
-        ensures memory { IsOkUnless result Fault.NoMemory }
-    {
-        let mut mounts = Vec::with_capacity(*self.mounts.allocator(), self.mounts.len())?;
-        'mounts: for row in &self.mounts {
-            mounts.push(unlocked_by(met, *row))?;
-        }
-        Ok(mounts)
+        ids_locked(*self.mounts.allocator(), &self.mounts)
     }
 
     /// What will be locked where these mounts are not locked on their places any more, others come with these locks, and
@@ -167,8 +121,8 @@ impl Locks {
         ensures changed { IfOk result (λ locks. locks ≡ changed_locks met.now came.now owner self.now) }
         ensures memory { IsOkUnless result Fault.NoMemory }
     {
-        let owners = self.owners_with(owner)?;
-        let mut mounts = self.unlocked_by(met)?;
+        let owners = owners_with(*self.owners.allocator(), &self.owners, owner)?;
+        let mut mounts = all_unlocked_by(*self.mounts.allocator(), met, &self.mounts)?;
         mounts.extend_from_slice(came)?;
         Ok(Locks { owners, mounts })
     }
@@ -185,11 +139,70 @@ impl Locks {
     }
 }
 
-/// Whether something is locked of a mount that is there.
-fn is_kept(forest: &Forest, row: &MountLocks) -> bool
-    ensures { result ≡ (is_some (mount_at forest.now.mounts row.now.mount) && locks_some row.now) }
+/// The owner of a namespace, by those that have another owner than 0.
+fn owner_among(owners: &[(SpaceId, SpaceId)], space: SpaceId) -> SpaceId
+    ensures { result ≡ option_map_or (λ (o : ℕ × ℕ). o.1) (find (λ (o : ℕ × ℕ). o.0 == space) owners.now) 0 }
 {
-    forest.get(row.mount).is_some() && row.locks_some()
+    for row in owners {
+        if row.0 == space {
+            return row.1;
+        }
+    }
+    0
+}
+
+/// What is locked of a mount, by those of which something is.
+fn locks_among(mounts: &[MountLocks], id: MountId) -> MountLocks
+    ensures { result ≡ unwrap_or (find (λ (k : AnyLocks). k.mount == id) mounts.now) (unlocked id) }
+{
+    for row in mounts {
+        if row.mount == id {
+            return *row;
+        }
+    }
+    MountLocks::new(id)
+}
+
+/// Whether a mount is locked on its place, by those of which something is locked.
+fn is_locked_among(mounts: &[MountLocks], id: MountId) -> bool
+    ensures { result ≡ list_any (λ (k : AnyLocks). k.place && (k.mount == id)) mounts.now }
+{
+    for row in mounts {
+        if row.place && row.mount == id {
+            return true;
+        }
+    }
+    false
+}
+
+/// Those of these mounts that are locked on their places.
+fn ids_locked(alloc: Global, mounts: &[MountLocks]) -> Result<Vec<MountId>, Fault>
+    ensures ids { IfOk result (λ ids. ids.items ≡ map locked_mount (filter (λ (k : AnyLocks). k.place) mounts.now)) }
+    ensures memory { IsOkUnless result Fault.NoMemory }
+{
+    let mut ids = Vec::new(alloc);
+    for row in mounts {
+        if row.place {
+            ids.push(row.mount)?;
+        }
+    }
+    Ok(ids)
+}
+
+/// Owners, and one more, if there is one.
+fn owners_with(
+    alloc: Global,
+    owners: &[(SpaceId, SpaceId)],
+    owner: Option<(SpaceId, SpaceId)>,
+) -> Result<Vec<(SpaceId, SpaceId)>, Fault>
+    ensures owners { IfOk result (λ all. all.items ≡ owners.now ++ option_to_list owner) }
+    ensures memory { IsOkUnless result Fault.NoMemory }
+{
+    let mut all = Vec::from_slice(alloc, owners)?;
+    if let Some(row) = owner {
+        all.push(row)?;
+    }
+    Ok(all)
 }
 
 /// What is locked of a mount, if these are not locked on their places any more.
@@ -201,4 +214,27 @@ fn unlocked_by(met: &[MountId], row: MountLocks) -> MountLocks
     } else {
         row
     }
+}
+
+/// What is locked of mounts, once some are not locked on their places any more.
+fn all_unlocked_by(
+    alloc: Global,
+    met: &[MountId],
+    mounts: &[MountLocks],
+) -> Result<Vec<MountLocks>, Fault>
+    ensures mounts { IfOk result (λ all. all.items ≡ map (unlocked_by met.now) mounts.now) }
+    ensures memory { IsOkUnless result Fault.NoMemory }
+{
+    let mut all = Vec::with_capacity(alloc, mounts.len())?;
+    for row in mounts {
+        all.push(unlocked_by(met, *row))?;
+    }
+    Ok(all)
+}
+
+/// Whether something is locked of a mount that is there.
+fn is_kept(forest: &Forest, row: &MountLocks) -> bool
+    ensures { result ≡ (is_some (mount_at forest.now.mounts row.now.mount) && locks_some row.now) }
+{
+    forest.get(row.mount).is_some() && row.locks_some()
 }

@@ -38,12 +38,12 @@ abbrev pub is_detached : WorldView → ℕ → ℕ → Bool
 is_detached w i j = is_candidate w i j && list_all (is_candidate w i) (inside w j)
 
 -- an unmount meets the mount that it names, and what that one receives
-abbrev pub met : WorldView → ℕ → List ℕ
-met w i = i ∷ received w i
+abbrev pub met_mounts : WorldView → ℕ → List ℕ
+met_mounts w i = i ∷ received w i
 
 -- a mount goes for itself if it was met, or is not locked on its place (mount_namespaces(7), restrictions on mount namespaces)
 abbrev pub is_free : WorldView → ℕ → ℕ → Bool
-is_free w i j = among (met w i) j || not (is_locked w.locks j)
+is_free w i j = among (met_mounts w i) j || not (is_locked w.locks j)
 
 -- a mount that may go goes if it goes for itself, or if the mount on which it stands goes: so it is told by the mounts from it up
 abbrev pub goes_up : (ℕ → Bool) → (ℕ → Bool) → List ℕ → Bool

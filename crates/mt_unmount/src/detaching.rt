@@ -6,7 +6,7 @@ ghost use Rattle.mt_mounts.specs.Forest.{parents_up};
 ghost use Rattle.mt_propagate.specs.World.{world_view};
 ghost use Rattle.mt_propagate.specs.WellFormed.{IsWellFormed};
 ghost use Rattle.mt_propagate.specs.Touched.{since_view};
-ghost use Rattle.mt_unmount.specs.Detaching.{standing_at, received, candidates, is_detached, met, is_free, goes_up, is_taken, detached};
+ghost use Rattle.mt_unmount.specs.Detaching.{standing_at, received, candidates, is_detached, met_mounts, is_free, goes_up, is_taken, detached};
 ghost use Rattle.mt_unmount.specs.Taking.{AreGone};
 
 use crate::gone::Gone;
@@ -89,8 +89,8 @@ fn loose(world: &World, id: MountId) -> Result<Gone, Fault>
 }
 
 /// The mounts that an unmount of one meets: it, and what it receives.
-pub fn met(world: &World, id: MountId) -> Result<Vec<MountId>, Fault>
-    ensures met { IfOk result (λ ids. ids.items ≡ met (world_view world.now) id) }
+pub fn met_mounts(world: &World, id: MountId) -> Result<Vec<MountId>, Fault>
+    ensures met { IfOk result (λ ids. ids.items ≡ met_mounts (world_view world.now) id) }
     ensures memory { IsOkUnless result Fault.NoMemory }
 {
     let mut ids = Vec::new(world.forest.allocator());
@@ -105,7 +105,7 @@ fn bound(world: &World, id: MountId) -> Result<Gone, Fault>
     ensures memory { IsOkUnless result Fault.NoMemory }
 {
     let locked = Gone::new(world.locks.locked_ids()?);
-    let met = Gone::new(met(world, id)?);
+    let met = Gone::new(met_mounts(world, id)?);
     Ok(locked.without(&met))
 }
 

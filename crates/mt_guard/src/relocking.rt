@@ -9,7 +9,7 @@ use mt_propagate::world::World;
 
 /// Puts locks into a world: those of the mounts that are there, and the owners of the namespaces that are there. Takes no
 /// memory.
-pub fn settle(world: &mut World, locks: Locks)
+pub fn relock(world: &mut World, locks: Locks)
     ensures world { world_view world.new ≡ with_locks locks (world_view world.old) }
     ensures since { since_view world.new ≡ since_view world.old }
 {
