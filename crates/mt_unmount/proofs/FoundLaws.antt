@@ -9,6 +9,7 @@ use Rattle.std.specs.Result.{is_ok}
 use Rattle.std.proofs.lemmas.Grind.{get_or_default_zero}
 use Rattle.std.proofs.lemmas.List.Folds.{Any-from_list_any, list_any_at}
 use Rattle.std.proofs.lemmas.Bool.{cases_lt, false_from_ne_true}
+use Rattle.std.proofs.lemmas.Bool.Decides.{nat_tests}
 use Rattle.std.proofs.lemmas.List.Kept.{AllPairs-from_increasing}
 use Rattle.std.proofs.lemmas.List.Sorted.{searched}
 use Rattle.std.proofs.lemmas.Map.Views.{any-filter_same}
@@ -80,10 +81,4 @@ listed-is goes ids are = λ t. λ j. are.each j t
 -- a number is left by a filter if it is there and passes
 pub among-filter : (p : ℕ → Bool) (xs : List ℕ) (q : ℕ) → among (filter p xs) q ≡ (among xs q && p q)
 among-filter p [] q = refl
-among-filter p (x ∷ xs) q = go (nat_eq x q) refl (p x) refl (among-filter p xs q)
-  where
-    go : (b : Bool) → nat_eq x q ≡ b → (d : Bool) → p x ≡ d → among (filter p xs) q ≡ (among xs q && p q) → among (cond d (x ∷ filter p xs) (filter p xs)) q ≡ ((b || among xs q) && p q)
-    go true same true f ih = ap (λ b. b || among (filter p xs) q) same ∙ sym f ∙ ap p (eqb-true x q same)
-    go true same false f ih = ih ∙ ap (λ b. among xs q && b) (sym (ap p (eqb-true x q same)) ∙ f) ∙ and_comm (among xs q) false ∙ sym (sym (ap p (eqb-true x q same)) ∙ f)
-    go false other true f ih = ap (λ b. b || among (filter p xs) q) other ∙ ih
-    go false other false f ih = ih
+among-filter p (x ∷ xs) q = let ih = among-filter p xs q in grind (arith, nat_tests)
