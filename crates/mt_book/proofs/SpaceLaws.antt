@@ -99,8 +99,7 @@ attached_from n k tree w p on i m e none s =
 
 step_from : (n : ℕ) (w : WorldView) (c : Command) (v : WorldView) (r : Reply) → IsWellFormed w → step w c ≡ Ok (v, r) → ComesFrom n w v.forest
 unfolding with_space with_copy without_space copied with_pivot with_change with_copies
-step_from n w c v r g e = effect w c v r (λ x. ComesFrom n w x.forest) e (record {
-  locked = λ u l from. from;
+step_from n w c v r g e = effect w c v r (λ x. ComesFrom n w x.forest) e (λ u l from. from) (record {
   skel = λ t made. from_before n w _ (was_all n w);
   space = λ f. from_more n w w.forest _ (was_all n w) (λ m there none. elim there [
     | inl here ↦ omega (arith, ap (λ (y : Mount). y.space) here)
