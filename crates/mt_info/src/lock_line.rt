@@ -37,7 +37,8 @@ fn push_lock_line(text: &mut Vec<u8>, locks: &MountLocks) -> Result<(), AllocErr
     push_number(text, locks.mount)?;
     text.push(b' ')?;
     push_lock_words(text, locks)?;
-    text.push(b'\n')
+    text.push(b'\n')?;
+    Ok(())
 }
 
 /// Appends the lines that tell what is locked of mounts, each with its line end.
