@@ -27,3 +27,4 @@ pub mod ValidLaws
 pub mod MirrorLaws
 pub mod InsideLaws
 pub mod LockLaws
+pub mod ErasedLaws
