@@ -12,7 +12,7 @@ pub fn example_of(verb: Verb) -> &'static str
         Verb::Mkfs => "mkfs usb vfat /dev/sdb1",
         Verb::Mkdir => "mkdir usb /photos",
         Verb::Newns => "newns root",
-        Verb::Copyns => "copyns 1 less",
+        Verb::Copyns => "copyns 1 less lock",
         Verb::Dropns => "dropns 2",
         Verb::Mount => "mount 1 usb /media set=ro,nosuid",
         Verb::Bind => "bind 1 /srv /mnt",

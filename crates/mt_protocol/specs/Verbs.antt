@@ -6,7 +6,7 @@ use Rattle.std.specs.Option.{option_map_or}
 use Rattle.std.specs.Str.{bytes_eq}
 use Rattle.mt_lines.specs.Words.{words}
 use Rattle.mt_protocol.specs.declared.argument.Argument.{Argument}
-use Rattle.mt_protocol.specs.declared.argument.Argument.TheVariants.{Space, Scope, Count, Label, Path, Less, Recursive, Attributes, Setting}
+use Rattle.mt_protocol.specs.declared.argument.Argument.TheVariants.{Space, Scope, Count, Label, Path, Less, Lock, Recursive, Attributes, Setting}
 use Rattle.mt_protocol.specs.declared.form.Form.{Form}
 use Rattle.mt_protocol.specs.declared.form.Form.TheVariants.{Done, Number, Place, Table, Opening, Posts, Followed, Never}
 use Rattle.mt_protocol.specs.declared.verb.Verb.{Verb}
@@ -32,7 +32,7 @@ abbrev pub verb_row : Verb → VerbRow
 verb_row Mkfs = command (codes "mkfs") (Label ∷ Label ∷ Label ∷ []) Number
 verb_row Mkdir = command (codes "mkdir") (Label ∷ Path ∷ []) Done
 verb_row Newns = command (codes "newns") (Label ∷ []) Number
-verb_row Copyns = command (codes "copyns") (Space ∷ Less ∷ []) Number
+verb_row Copyns = command (codes "copyns") (Space ∷ Less ∷ Lock ∷ []) Number
 verb_row Dropns = command (codes "dropns") (Space ∷ []) Done
 verb_row Mount = command (codes "mount") (Space ∷ Label ∷ Path ∷ Attributes ∷ []) Number
 verb_row Bind = command (codes "bind") (Space ∷ Path ∷ Path ∷ []) Number
@@ -73,6 +73,7 @@ is_command verb = (verb_row verb).command
 -- an argument that may be left out
 abbrev pub is_optional : Argument → Bool
 is_optional Less = true
+is_optional Lock = true
 is_optional Recursive = true
 is_optional Attributes = true
 is_optional Setting = true

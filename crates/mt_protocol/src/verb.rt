@@ -6,7 +6,7 @@ ghost use Rattle.mt_protocol.specs.Verbs.{verb_row, verb_word, verb_arguments, v
 
 use crate::argument::Argument;
 use crate::argument::Argument::{
-    Attributes, Count, Label, Less, Path, Recursive, Scope, Setting, Space,
+    Attributes, Count, Label, Less, Lock, Path, Recursive, Scope, Setting, Space,
 };
 use crate::form::Form;
 use crate::form::Form::{Done, Followed, Number, Opening, Place, Posts, Table};
@@ -189,9 +189,9 @@ impl Verb {
                 "newns FS",
                 "makes a namespace with a filesystem as its root mount",
             ),
-            Verb::Copyns => command(b"copyns", &[Space, Less], Number).says(
-                "copyns NS [less]",
-                "makes a copy of a namespace, or a less privileged one",
+            Verb::Copyns => command(b"copyns", &[Space, Less, Lock], Number).says(
+                "copyns NS [less [lock]]",
+                "makes a copy of a namespace, or a less privileged one, or one with locks",
             ),
             Verb::Dropns => command(b"dropns", &[Space], Done).says(
                 "dropns NS",

@@ -16,7 +16,8 @@ use Rattle.mt_events.specs.Texts.{count_text, table_text, opening_text, posts_te
 use Rattle.mt_book.specs.declared.command.Command.{Command}
 use Rattle.mt_book.specs.declared.command.Command.TheVariants.{MakeFs, MakeDir, NewSpace, CopySpace, DropSpace, Mount, MountWith, Bind, Move, Pivot, Unmount, Detach, SetAttr, OpenTree, NewTree, MoveTree}
 use Rattle.mt_book.specs.declared.command.Reply.TheVariants.{Done, Number}
-use Rattle.mt_book.specs.Step.{with_skel, with_made_number, with_done, step, after}
+use Rattle.mt_locks.specs.Locks.{LocksView}
+use Rattle.mt_book.specs.Step.{with_skel, with_made_number, with_done, act, judged, guarded, step, after}
 use Rattle.mt_book.specs.Book.{found_at}
 use Rattle.mt_book.specs.History.{space_number}
 use Rattle.mt_floor.specs.declared.watch.Phase.{Phase}
@@ -63,25 +64,35 @@ done : (q : Result WorldView Fault) → IsAnswerOf form.Done (stepped_text (with
 done (Ok w) = inr refl
 done (Err x) = inl (x, refl)
 
+act_answer : (w : WorldView) (c : Command) → IsAnswerOf (verb_form (command_verb c)) (stepped_text (act w c))
+unfolding act
+act_answer w (MakeFs name kind source) = skelled form.Number w (λ s. Number (length s.filesystems)) _ (λ s. (length s.filesystems, refl))
+act_answer w (MakeDir fs path) = skelled form.Done w (λ s. Done) _ (λ s. refl)
+act_answer w (NewSpace fs) = made_number _
+act_answer w (CopySpace n privilege) = made_number _
+act_answer w (DropSpace n) = done _
+act_answer w (Mount n fs path) = made_number _
+act_answer w (MountWith n fs path set) = made_number _
+act_answer w (Bind n src dst true) = made_number _
+act_answer w (Bind n src dst false) = made_number _
+act_answer w (Move n src dst) = done _
+act_answer w (Pivot n new old) = done _
+act_answer w (Unmount n path) = done _
+act_answer w (Detach n path) = done _
+act_answer w (SetAttr n path change) = done _
+act_answer w (OpenTree n path recursive) = made_number _
+act_answer w (NewTree fs) = made_number _
+act_answer w (MoveTree tree n path) = done _
+
+-- or a refusal for a lock
+guarded_answer : (f : Form) (j : Result LocksView Fault) (q : Result (WorldView × Reply) Fault) → IsAnswerOf f (stepped_text q) → IsAnswerOf f (stepped_text (guarded j q))
+guarded_answer f (Ok l) (Ok p) answer = answer
+guarded_answer f (Ok l) (Err x) answer = answer
+guarded_answer f (Err x) q answer = inl (x, refl)
+
 command_answer : (w : WorldView) (c : Command) → IsAnswerOf (verb_form (command_verb c)) (stepped_text (step w c))
 unfolding step
-command_answer w (MakeFs name kind source) = skelled form.Number w (λ s. Number (length s.filesystems)) _ (λ s. (length s.filesystems, refl))
-command_answer w (MakeDir fs path) = skelled form.Done w (λ s. Done) _ (λ s. refl)
-command_answer w (NewSpace fs) = made_number _
-command_answer w (CopySpace n less) = made_number _
-command_answer w (DropSpace n) = done _
-command_answer w (Mount n fs path) = made_number _
-command_answer w (MountWith n fs path set) = made_number _
-command_answer w (Bind n src dst true) = made_number _
-command_answer w (Bind n src dst false) = made_number _
-command_answer w (Move n src dst) = done _
-command_answer w (Pivot n new old) = done _
-command_answer w (Unmount n path) = done _
-command_answer w (Detach n path) = done _
-command_answer w (SetAttr n path change) = done _
-command_answer w (OpenTree n path recursive) = made_number _
-command_answer w (NewTree fs) = made_number _
-command_answer w (MoveTree tree n path) = done _
+command_answer w c = guarded_answer (verb_form (command_verb c)) (judged w c) (act w c) (act_answer w c)
 
 -- tables and places
 table_answer : (journal : List Command) (n : ℕ) → IsAnswerOf form.Table (shown_text journal n)
