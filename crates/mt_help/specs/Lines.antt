@@ -5,7 +5,7 @@ use Rattle.mt_skel.specs.declared.fault.Fault.{Fault}
 use Rattle.mt_skel.specs.declared.fault.Fault.TheVariants.{BadAttr, Busy, Detached, EntryExists, FilesystemExists, IntoItself, Lagged, Locked, LockedAttr, LockedInside, NoEntry, NoFilesystem, NoNamespace, NoWatcher, NotDetached, NotMountRoot, RootPlace, SharedParent, Stopped, TooMany, TooManyWatchers, Unbindable, UnbindableInside, WatcherOpen}
 use Rattle.mt_protocol.specs.Verbs.{verb_form, is_command}
 use Rattle.mt_protocol.specs.declared.form.Form.{Form}
-use Rattle.mt_protocol.specs.declared.form.Form.TheVariants.{Done, Number, Place, Table, Opening, Posts, Followed, Never}
+use Rattle.mt_protocol.specs.declared.form.Form.TheVariants.{Done, Number, Place, Table, Locks, Opening, Posts, Followed, Never}
 use Rattle.mt_protocol.specs.declared.verb.Verb.{Verb}
 use Rattle.mt_protocol.specs.declared.verb.Verb.TheVariants as verb
 use Rattle.mt_help.specs.declared.page.RefusalSaid.{RefusalSaid}
@@ -31,6 +31,7 @@ example_of verb.Opentree = codes "opentree 1 /srv rec"
 example_of verb.Newtree = codes "newtree usb"
 example_of verb.Movetree = codes "movetree 2 1 /mnt"
 example_of verb.Show = codes "show 1"
+example_of verb.Locks = codes "locks 2"
 example_of verb.Find = codes "find 1 /media/old"
 example_of verb.Watch = codes "watch all"
 example_of verb.Take = codes "take 8"
@@ -58,6 +59,7 @@ refusals_of verb.Opentree = NoNamespace ∷ NoEntry ∷ Unbindable ∷ LockedIns
 refusals_of verb.Newtree = NoFilesystem ∷ TooMany ∷ []
 refusals_of verb.Movetree = NoNamespace ∷ NotDetached ∷ NoEntry ∷ RootPlace ∷ IntoItself ∷ UnbindableInside ∷ TooMany ∷ []
 refusals_of verb.Show = NoNamespace ∷ []
+refusals_of verb.Locks = NoNamespace ∷ []
 refusals_of verb.Find = NoNamespace ∷ NoEntry ∷ []
 refusals_of verb.Watch = WatcherOpen ∷ NoNamespace ∷ TooManyWatchers ∷ Stopped ∷ []
 refusals_of verb.Take = NoWatcher ∷ Lagged ∷ Stopped ∷ []
@@ -72,6 +74,7 @@ answer_said Done = codes "ok"
 answer_said Number = codes "ok, and the number of what is made"
 answer_said Place = codes "ok, the number of the mount, and the directory of its filesystem"
 answer_said Table = codes "ok, the count of the rows and the number of the last change, and the rows"
+answer_said Locks = codes "ok and a count of mounts, and of each its ID and what is locked of it"
 answer_said Opening = codes "ok and a count of lines, and as many: of each namespace a heading and its rows"
 answer_said Posts = codes "ok and a count of posts, and their lines"
 answer_said Followed = codes "the lines of posts as they come, and then ok and how many posts they are"

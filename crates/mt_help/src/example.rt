@@ -26,6 +26,7 @@ pub fn example_of(verb: Verb) -> &'static str
         Verb::Newtree => "newtree usb",
         Verb::Movetree => "movetree 2 1 /mnt",
         Verb::Show => "show 1",
+        Verb::Locks => "locks 2",
         Verb::Find => "find 1 /media/old",
         Verb::Watch => "watch all",
         Verb::Take => "take 8",

@@ -23,7 +23,7 @@ pub fn refusals_of(verb: Verb) -> &'static [Fault]
         ],
         Verb::Newns => &[Fault::NoFilesystem, Fault::TooMany],
         Verb::Copyns => &[Fault::NoNamespace, Fault::Detached, Fault::TooMany],
-        Verb::Dropns | Verb::Show => &[Fault::NoNamespace],
+        Verb::Dropns | Verb::Show | Verb::Locks => &[Fault::NoNamespace],
         Verb::Mount => &[
             Fault::NoFilesystem,
             Fault::NoNamespace,

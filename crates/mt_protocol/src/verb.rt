@@ -9,7 +9,7 @@ use crate::argument::Argument::{
     Attributes, Count, Label, Less, Lock, Path, Recursive, Scope, Setting, Space,
 };
 use crate::form::Form;
-use crate::form::Form::{Done, Followed, Number, Opening, Place, Posts, Table};
+use crate::form::Form::{Done, Followed, Locks, Number, Opening, Place, Posts, Table};
 use std::marker::Model;
 
 /// What the first word of a line asks for.
@@ -49,6 +49,8 @@ pub enum Verb {
     Movetree,
     /// `show` lists the mounts of a namespace.
     Show,
+    /// `locks` lists what is locked in a namespace.
+    Locks,
     /// `find` says where a path ends.
     Find,
     /// `watch` begins a watcher.
@@ -66,7 +68,7 @@ pub enum Verb {
 }
 
 /// Every verb, in the order of the help.
-pub const VERBS: [Verb; 24] = [
+pub const VERBS: [Verb; 25] = [
     Verb::Mkfs,
     Verb::Mkdir,
     Verb::Newns,
@@ -84,6 +86,7 @@ pub const VERBS: [Verb; 24] = [
     Verb::Newtree,
     Verb::Movetree,
     Verb::Show,
+    Verb::Locks,
     Verb::Find,
     Verb::Watch,
     Verb::Take,
@@ -249,6 +252,10 @@ impl Verb {
             Verb::Show => other(b"show", &[Space], Table).says(
                 "show NS",
                 "lists the mounts of a namespace",
+            ),
+            Verb::Locks => other(b"locks", &[Space], Locks).says(
+                "locks NS",
+                "lists what is locked of the mounts of a namespace",
             ),
             Verb::Find => other(b"find", &[Space, Path], Place).says(
                 "find NS PATH",

@@ -21,6 +21,8 @@ use std::alloc::Global;
 pub enum Query {
     /// `show NS` shows the table of a namespace.
     Show(u64),
+    /// `locks NS` lists what is locked in a namespace.
+    Locks(u64),
     /// `find NS PATH` says where a path ends in a namespace.
     Find { space: u64, path: Names },
 }
@@ -165,6 +167,7 @@ fn request_with(alloc: Global, verb: Verb, words: Words<'_>) -> Result<Request, 
             path: path_of(alloc, third)?,
         })),
         Verb::Show => Ok(Request::Ask(Query::Show(space))),
+        Verb::Locks => Ok(Request::Ask(Query::Locks(space))),
         Verb::Find => Ok(Request::Ask(Query::Find {
             space,
             path: path_of(alloc, second)?,

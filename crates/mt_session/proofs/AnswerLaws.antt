@@ -18,7 +18,7 @@ use Rattle.mt_book.specs.declared.command.Command.TheVariants.{MakeFs, MakeDir, 
 use Rattle.mt_book.specs.declared.command.Reply.TheVariants.{Done, Number}
 use Rattle.mt_locks.specs.Locks.{LocksView}
 use Rattle.mt_book.specs.Step.{with_skel, with_made_number, with_done, act, judged, guarded, step, after}
-use Rattle.mt_book.specs.Book.{found_at}
+use Rattle.mt_book.specs.Book.{found_at, locks_in}
 use Rattle.mt_book.specs.History.{space_number}
 use Rattle.mt_floor.specs.declared.watch.Phase.{Phase}
 use Rattle.mt_floor.specs.declared.watch.Phase.TheVariants.{Open as IsOpen, Lagged, Ended}
@@ -27,10 +27,10 @@ use Rattle.mt_floor.specs.Schedule.{FloorView, command_refusal, opening_refusal,
 use Rattle.mt_requests.specs.declared.request.Request.{Request}
 use Rattle.mt_requests.specs.declared.request.Request.TheVariants.{Run, Ask, Watch, Take, Follow, Close, Quit, Stop}
 use Rattle.mt_requests.specs.declared.request.Query.{Query}
-use Rattle.mt_requests.specs.declared.request.Query.TheVariants.{Show, Find}
+use Rattle.mt_requests.specs.declared.request.Query.TheVariants.{Show, Locks, Find}
 use Rattle.mt_requests.specs.Requests.{command_verb, query_verb, request_verb}
 use Rattle.mt_requests.proofs.CountLaws.{lines_tell}
-use Rattle.mt_session.specs.Answers.{refusal, found_text, shown_text, query_text, reply_text}
+use Rattle.mt_session.specs.Answers.{refusal, found_text, shown_text, lock_lines_text, locks_text, query_text, reply_text}
 use Rattle.mt_session.specs.Requests.{SessionState, stepped_text, by_phase, rest_text, taken_text, end_of_followed, closed_text, next_posts, answer_to}
 use Rattle.mt_session.specs.Forms.{Refuses, HasForm, AnswersHaveForms}
 use Rattle.mt_session.specs.Session.{Growth, Granted, Refused, Unshown, request_of_line, may_fail, may_be_unshown, answer_of, answer_with, answer_to_turn}
@@ -102,12 +102,20 @@ table_answer journal n =
       | false ↦ inl (NoNamespace, refl)
     ]
 
+locks_answer : (journal : List Command) (n : ℕ) → IsAnswerOf form.Locks (locks_text journal n)
+locks_answer journal n =
+    elim (is_space (after journal) n) as (λ b. IsAnswerOf form.Locks (cond b (lock_lines_text (locks_in (after journal) n)) (refusal NoNamespace))) [
+      | true ↦ inr (locks_in (after journal) n, refl)
+      | false ↦ inl (NoNamespace, refl)
+    ]
+
 place_answer : (found : Result (ℕ × List (List ℕ)) Fault) → IsAnswerOf form.Place (found_text found)
 place_answer (Ok p) = inr (p.0, p.1, refl)
 place_answer (Err x) = inl (x, refl)
 
 query_answer : (journal : List Command) (q : Query) → IsAnswerOf (verb_form (query_verb q)) (query_text journal q)
 query_answer journal (Show n) = table_answer journal n
+query_answer journal (Locks n) = locks_answer journal n
 query_answer journal (Find n path) = place_answer (found_at (after journal) n path)
 
 -- posts, and what is told where none wait
