@@ -64,3 +64,58 @@ pub record AreLocks (w : WorldView) : Type 0 where
 
 abbrev pub LocksAreInOrder : Type 0
 LocksAreInOrder = (cs : List Command) → AreLocks (after cs)
+
+-- ---- what is covered stays covered
+
+-- the namespace in which a command looks up its paths, or that it ends
+abbrev pub named_space : Command → Option ℕ
+named_space (DropSpace n) = Some n
+named_space (MountCommand n fs path) = Some n
+named_space (MountWith n fs path set) = Some n
+named_space (Bind n src dst recursive) = Some n
+named_space (Move n src dst) = Some n
+named_space (Pivot n new old) = Some n
+named_space (Unmount n path) = Some n
+named_space (Detach n path) = Some n
+named_space (SetAttr n path change) = Some n
+named_space (OpenTree n path recursive) = Some n
+named_space (MoveTree tree n path) = Some n
+named_space c = None
+
+-- the mounts that an unmount or a detach meets
+abbrev pub met_by : WorldView → Command → List ℕ
+met_by w (Unmount n path) = met_mounts w (place_or_nowhere (walk w.skel w.forest n path)).mount
+met_by w (Detach n path) = met_mounts w (named_place w n path).mount
+met_by w c = []
+
+-- a mount has neither a group nor a master
+abbrev pub IsPrivate : WorldView → ℕ → Type 0
+IsPrivate w i = ((state_of w i).group ≡ None) × ((state_of w i).master ≡ None)
+
+-- a tree is attached in a namespace of another owner, with a mount that has a group or a master: it crosses
+abbrev pub IsNoCrossing : WorldView → Command → Type 0
+IsNoCrossing w (MoveTree tree n path) = (owner_of w.locks tree ≡ owner_of w.locks n) ⊎ ((i : ℕ) (m : Mount) → mount_at (mounts_in w.forest tree) i ≡ Some m → IsPrivate w i)
+IsNoCrossing w c = Unit {0}
+
+-- no accepted one did
+abbrev pub NoneCrossed : List Command → Type 0
+NoneCrossed cs = (before : List Command) (c : Command) (later : List Command) (v : WorldView) (r : Reply) → cs ≡ before ++ c ∷ later → step (after before) c ≡ Ok (v, r) → IsNoCrossing (after before) c
+
+-- how a mount that was locked on its place is afterwards: locked on the place that it had; or gone, and so is the mount on which it stood; or
+-- met by an unmount; or locked on a mount that came, and that stands, or the first of those below it does, on the place that it had
+abbrev pub IsStillCovering : WorldView → Command → WorldView → ℕ → Type 0
+IsStillCovering w c v i =
+    ((is_locked v.locks i ≡ true) × (place_of v i ≡ place_of w i))
+    ⊎ ((mount_at v.forest i ≡ None) × ((k : ℕ) → parent w.forest i ≡ Some k → mount_at v.forest k ≡ None))
+    ⊎ IsTrue (among (met_by w c) i)
+    ⊎ ((is_locked v.locks i ≡ true) × ((k : ℕ) × (w.next_mount ≤ k) × (place_of v k ≡ place_of w i) × IsTrue (is_below v.forest k i)))
+
+-- A mount is locked on its place in a namespace. As long as no tree has crossed, no command that names a namespace of the same owner
+-- uncovers what is below it (mount_namespaces(7): such mounts may not be unmounted one by one, which would uncover what they hide)
+abbrev pub CoveredStaysCovered : Type 0
+CoveredStaysCovered =
+    (cs : List Command) (c : Command) (v : WorldView) (r : Reply) (n i : ℕ) → NoneCrossed (cs ++ c ∷ []) → step (after cs) c ≡ Ok (v, r)
+    → named_space c ≡ Some n
+    → is_locked (after cs).locks i ≡ true
+    → owner_of (after cs).locks n ≡ owner_of (after cs).locks (space_of (after cs) i)
+    → IsStillCovering (after cs) c v i
