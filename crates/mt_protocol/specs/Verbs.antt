@@ -8,17 +8,21 @@ use Rattle.mt_lines.specs.Words.{words}
 use Rattle.mt_protocol.specs.declared.argument.Argument.{Argument}
 use Rattle.mt_protocol.specs.declared.argument.Argument.TheVariants.{Space, Scope, Count, Label, Path, Less, Recursive, Attributes, Setting}
 use Rattle.mt_protocol.specs.declared.form.Form.{Form}
-use Rattle.mt_protocol.specs.declared.form.Form.TheVariants.{Done, Number, Place, Table, Opening, Posts, Followed, Never}
+use Rattle.mt_protocol.specs.declared.form.Form.TheVariants.{Done, Number, Place, Table, Opening, Posts, Commands, Followed, Never}
 use Rattle.mt_protocol.specs.declared.verb.Verb.{Verb}
-use Rattle.mt_protocol.specs.declared.verb.Verb.TheVariants.{Mkfs, Mkdir, Newns, Copyns, Dropns, Mount, Bind, Rbind, Move, Pivot, Umount, Detach, Setattr, Opentree, Newtree, Movetree, Show, Find, Watch, Take, Follow, Close, Quit, Stop}
+use Rattle.mt_protocol.specs.declared.verb.Verb.TheVariants.{Mkfs, Mkdir, Newns, Copyns, Dropns, Mount, Bind, Rbind, Move, Pivot, Umount, Detach, Setattr, Opentree, Newtree, Movetree, Show, Find, Journal, Watch, Take, Follow, Close, Quit, Stop}
 use Rattle.mt_protocol.specs.Rows.{VerbRow}
 
--- the most posts of one `take`, and of one `follow`
+-- the most posts of one `take`, and commands of one `journal`; and the most posts of one `follow`
 abbrev pub most_taken : ℕ
 most_taken = 1024
 
 abbrev pub most_followed : ℕ
 most_followed = 1048576
+
+-- the greatest number of a command that a `journal` begins with: any of 64 bits
+abbrev pub most_from : ℕ
+most_from = 18446744073709551615
 
 -- the row of a command, and of another line
 abbrev command : List ℕ → List Argument → Form → VerbRow
@@ -47,6 +51,7 @@ verb_row Newtree = command (codes "newtree") (Label ∷ []) Number
 verb_row Movetree = command (codes "movetree") (Space ∷ Space ∷ Path ∷ []) Done
 verb_row Show = other (codes "show") (Space ∷ []) Table
 verb_row Find = other (codes "find") (Space ∷ Path ∷ []) Place
+verb_row Journal = other (codes "journal") (Count most_from ∷ Count most_taken ∷ []) Commands
 verb_row Watch = other (codes "watch") (Scope ∷ []) Opening
 verb_row Take = other (codes "take") (Count most_taken ∷ []) Posts
 verb_row Follow = other (codes "follow") (Count most_followed ∷ []) Followed
@@ -80,7 +85,7 @@ is_optional argument = false
 
 -- every verb
 abbrev pub verbs : List Verb
-verbs = Mkfs ∷ Mkdir ∷ Newns ∷ Copyns ∷ Dropns ∷ Mount ∷ Bind ∷ Rbind ∷ Move ∷ Pivot ∷ Umount ∷ Detach ∷ Setattr ∷ Opentree ∷ Newtree ∷ Movetree ∷ Show ∷ Find ∷ Watch ∷ Take ∷ Follow ∷ Close ∷ Quit ∷ Stop ∷ []
+verbs = Mkfs ∷ Mkdir ∷ Newns ∷ Copyns ∷ Dropns ∷ Mount ∷ Bind ∷ Rbind ∷ Move ∷ Pivot ∷ Umount ∷ Detach ∷ Setattr ∷ Opentree ∷ Newtree ∷ Movetree ∷ Show ∷ Find ∷ Journal ∷ Watch ∷ Take ∷ Follow ∷ Close ∷ Quit ∷ Stop ∷ []
 
 -- the verb of a word, if it is that of one
 unfoldable pub verb_of : List ℕ → Option Verb
@@ -94,3 +99,7 @@ first_of (word ∷ words) = word
 -- which lines answer a line that is not refused, by its first word
 abbrev pub form_of : List ℕ → Form
 form_of line = option_map_or verb_form (verb_of (first_of (words line))) Never
+
+-- the first word of a line is that of a command
+abbrev pub begins_command : List ℕ → Bool
+begins_command line = option_map_or is_command (verb_of (first_of (words line))) false

@@ -1,0 +1,124 @@
+-- The line of a command: what is read as that command.
+-- A word with no source is this project's rule.
+use Rattle.std.specs.Prelude.{◌≡◌, ℕ, Bool, ◌==◌, cond, if◌then◌else◌, List, [], ◌∷◌, ◌++◌, length, ◌≤◌, not, IsTrue, Option, Some, None, Ok, codes, decimal}
+use Rattle.std.specs.List.{flat_map, list_all, join_with_byte}
+use Rattle.mt_skel.specs.Escapes.{escaped_byte}
+use Rattle.mt_skel.specs.Names.{names_text}
+use Rattle.mt_peers.specs.declared.state.Kind.{Kind}
+use Rattle.mt_peers.specs.declared.state.Kind.TheVariants.{Shared, Private, Slave, Unbindable}
+use Rattle.mt_setattr.specs.declared.change.Change.{Change}
+use Rattle.mt_setattr.specs.declared.change.SetWords.{SetWords}
+use Rattle.mt_setattr.specs.declared.change.ClrWords.{ClrWords}
+use Rattle.mt_protocol.specs.Verbs.{verb_word}
+use Rattle.mt_book.specs.declared.command.Command.{Command}
+use Rattle.mt_book.specs.declared.command.Command.TheVariants.{MakeFs, MakeDir, NewSpace, CopySpace, DropSpace, Mount, MountWith, Bind, Move, Pivot, Unmount, Detach, SetAttr, OpenTree, NewTree, MoveTree}
+use Rattle.mt_requests.specs.declared.request.Request.TheVariants.{Run}
+use Rattle.mt_requests.specs.Requests.{command_verb, request_of}
+
+-- a byte in a line that is sent: space, newline and backslash are written as escapes, and every other byte stands for itself, a tab too, so that no line is longer than one that says the same
+abbrev pub sent_byte : ℕ → List ℕ
+sent_byte b = if b == 9 then b ∷ [] else escaped_byte b
+
+-- bytes in a line that is sent
+abbrev pub sent : List ℕ → List ℕ
+sent bytes = flat_map sent_byte bytes
+
+-- a path is its names, each preceded by a slash, and the root is only a slash
+abbrev pub path_bytes : List (List ℕ) → List ℕ
+path_bytes [] = codes "/"
+path_bytes (n ∷ ns) = names_text (n ∷ ns)
+
+abbrev pub path_word : List (List ℕ) → List ℕ
+path_word names = sent (path_bytes names)
+
+-- the words among these of which it is said that they are there
+abbrev pub words_there : List (Bool × List ℕ) → List (List ℕ)
+words_there [] = []
+words_there (r ∷ rs) = cond r.0 (r.1 ∷ words_there rs) (words_there rs)
+
+-- the attributes that can be set, each with whether it is
+abbrev pub set_rows : SetWords → List (Bool × List ℕ)
+set_rows s =
+    (s.ro, codes "ro") ∷ (s.nosuid, codes "nosuid") ∷ (s.nodev, codes "nodev") ∷ (s.noexec, codes "noexec") ∷ (s.nosymfollow, codes "nosymfollow")
+    ∷ (s.nodiratime, codes "nodiratime") ∷ (s.relatime, codes "relatime") ∷ (s.noatime, codes "noatime") ∷ (s.strictatime, codes "strictatime") ∷ []
+
+-- and those that can be cleared
+abbrev pub clr_rows : ClrWords → List (Bool × List ℕ)
+clr_rows s =
+    (s.ro, codes "ro") ∷ (s.nosuid, codes "nosuid") ∷ (s.nodev, codes "nodev") ∷ (s.noexec, codes "noexec") ∷ (s.nosymfollow, codes "nosymfollow")
+    ∷ (s.nodiratime, codes "nodiratime") ∷ (s.atime, codes "atime") ∷ []
+
+-- an option: a key, and words joined by commas; none where there is no word
+abbrev pub listed : List ℕ → List (List ℕ) → List (List ℕ)
+listed key [] = []
+listed key (w ∷ ws) = (key ++ join_with_byte 44 (w ∷ ws)) ∷ []
+
+-- the same, appended behind a space: a list of words that each stand behind a comma, of which the first goes
+abbrev pub option_text : List ℕ → List ℕ → List ℕ
+option_text key [] = []
+option_text key (comma ∷ words) = 32 ∷ key ++ words
+
+abbrev pub set_option : SetWords → List (List ℕ)
+set_option set = listed (codes "set=") (words_there (set_rows set))
+
+abbrev pub clr_option : ClrWords → List (List ℕ)
+clr_option clr = listed (codes "clr=") (words_there (clr_rows clr))
+
+abbrev pub kind_word : Kind → List ℕ
+kind_word Shared = codes "shared"
+kind_word Private = codes "private"
+kind_word Slave = codes "slave"
+kind_word Unbindable = codes "unbindable"
+
+abbrev pub prop_option : Option Kind → List (List ℕ)
+prop_option None = []
+prop_option (Some kind) = (codes "prop=" ++ kind_word kind) ∷ []
+
+-- a word that is there only if something holds
+abbrev pub word_if : Bool → List ℕ → List (List ℕ)
+word_if holds word = cond holds (word ∷ []) []
+
+-- the options of a change
+abbrev pub change_options : Change → List (List ℕ)
+change_options c = word_if c.recursive (codes "rec") ++ (set_option c.set ++ (clr_option c.clr ++ prop_option c.prop))
+
+-- the words of a command behind its verb
+abbrev pub command_words : Command → List (List ℕ)
+command_words (MakeFs name kind source) = sent name ∷ sent kind ∷ sent source ∷ []
+command_words (MakeDir fs path) = sent fs ∷ path_word path ∷ []
+command_words (NewSpace fs) = sent fs ∷ []
+command_words (CopySpace n less) = decimal n ∷ word_if less (codes "less")
+command_words (DropSpace n) = decimal n ∷ []
+command_words (Mount n fs path) = decimal n ∷ sent fs ∷ path_word path ∷ []
+command_words (MountWith n fs path set) = decimal n ∷ sent fs ∷ path_word path ∷ set_option set
+command_words (Bind n src dst recursive) = decimal n ∷ path_word src ∷ path_word dst ∷ []
+command_words (Move n src dst) = decimal n ∷ path_word src ∷ path_word dst ∷ []
+command_words (Pivot n new old) = decimal n ∷ path_word new ∷ path_word old ∷ []
+command_words (Unmount n path) = decimal n ∷ path_word path ∷ []
+command_words (Detach n path) = decimal n ∷ path_word path ∷ []
+command_words (SetAttr n path change) = decimal n ∷ path_word path ∷ change_options change
+command_words (OpenTree n path recursive) = decimal n ∷ path_word path ∷ word_if recursive (codes "rec")
+command_words (NewTree fs) = sent fs ∷ []
+command_words (MoveTree tree n path) = decimal tree ∷ decimal n ∷ path_word path ∷ []
+
+-- words, each behind a space
+abbrev pub behind_spaces : List (List ℕ) → List ℕ
+behind_spaces words = flat_map (λ w. 32 ∷ w) words
+
+-- the line of a command, without its line end
+unfoldable pub command_line : Command → List ℕ
+command_line c = verb_word (command_verb c) ++ behind_spaces (command_words c)
+
+-- the lines of commands, each with its line end
+abbrev pub commands_text : List Command → List ℕ
+commands_text cs = flat_map (λ c. command_line c ++ 10 ∷ []) cs
+
+-- the line of a command that a line has said is read as that command
+abbrev pub CommandsAreReadBack : Type 0
+CommandsAreReadBack = (line : List ℕ) (c : Command) → request_of line ≡ Ok (Run c) → request_of (command_line c) ≡ Ok (Run c)
+
+-- and is no longer than the line, which has no line end in it, and has none itself
+abbrev pub CommandsGetNoLonger : Type 0
+CommandsGetNoLonger =
+    (line : List ℕ) (c : Command) → IsTrue (list_all (λ b. not (b == 10)) line) → request_of line ≡ Ok (Run c)
+    → (length (command_line c) ≤ length line) × IsTrue (list_all (λ b. not (b == 10)) (command_line c))
