@@ -39,6 +39,7 @@ from clients.python import check_python
 from clients.questions import check_questions
 from clients.reasons import check_reasons
 from clients.refusals import check_refusals
+from clients.saves import check_saves
 from clients.starts import check_starts
 from clients.terminals import check_terminals
 from clients.worlds import check_worlds
@@ -108,6 +109,7 @@ CLIENT_PARTS = {
     "hosts": check_hosts,
     "questions": check_questions,
     "played": check_played,
+    "saves": check_saves,
     "foretold": check_foretold,
 }
 
