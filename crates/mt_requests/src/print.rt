@@ -224,7 +224,7 @@ fn push_words(line: &mut Vec<u8>, command: &Command) -> Result<(), AllocError>
     match command {
         Command::MakeFs { name, kind, source } => push_labels(line, name, kind, source),
         Command::MakeDir { fs, path } => push_label_path(line, fs, path),
-        Command::NewSpace { fs } | Command::NewTree { fs } => push_label(line, fs),
+        Command::NewSpace { fs } => push_label(line, fs),
         Command::CopySpace { space, less } => push_space_word(line, *space, *less, b"less"),
         Command::DropSpace { space } => push_space(line, *space),
         Command::Mount { space, fs, path } => push_mount(line, *space, fs, path),
@@ -236,12 +236,11 @@ fn push_words(line: &mut Vec<u8>, command: &Command) -> Result<(), AllocError>
         } => push_mount_with(line, *space, fs, path, *set),
         Command::Bind {
             space, src, dst, ..
-        }
-        | Command::Move { space, src, dst } => push_two_places(line, *space, src, dst),
+        } => push_two_places(line, *space, src, dst),
+        Command::Move { space, src, dst } => push_two_places(line, *space, src, dst),
         Command::Pivot { space, new, old } => push_two_places(line, *space, new, old),
-        Command::Unmount { space, path } | Command::Detach { space, path } => {
-            push_place(line, *space, path)
-        }
+        Command::Unmount { space, path } => push_place(line, *space, path),
+        Command::Detach { space, path } => push_place(line, *space, path),
         Command::SetAttr {
             space,
             path,
@@ -252,6 +251,7 @@ fn push_words(line: &mut Vec<u8>, command: &Command) -> Result<(), AllocError>
             path,
             recursive,
         } => push_opentree(line, *space, path, *recursive),
+        Command::NewTree { fs } => push_label(line, fs),
         Command::MoveTree { tree, space, path } => push_movetree(line, *tree, *space, path),
     }
 }

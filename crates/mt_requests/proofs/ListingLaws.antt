@@ -1,0 +1,217 @@
+-- Options of a command as they stand in its line, and how they are read.
+use Rattle.std.proofs.Common.{◌≡◌, ℕ, ◌&&◌, ◌||◌, ◌==◌, not, cond, if◌then◌else◌, Bool, true, false, List, [], ◌∷◌, ◌++◌, drop, codes, Option, Some, None, refl, sym, ap, ◌∙◌, arith, append-nil, append_assoc}
+use Rattle.std.proofs.lemmas.Grind.{flat_map-append}
+use Rattle.std.proofs.lemmas.Bool.Decides.{nat_tests}
+use Rattle.std.proofs.lemmas.List.Folds.{list_all-append}
+use Rattle.std.specs.List.{flat_map, list_all, list_any, join_with_byte}
+use Rattle.std.specs.Str.{bytes_eq}
+use Rattle.mt_peers.specs.declared.state.Kind.{Kind}
+use Rattle.mt_peers.specs.declared.state.Kind.TheVariants.{Shared, Private, Slave, Unbindable}
+use Rattle.mt_setattr.specs.declared.change.Change.{Change}
+use Rattle.mt_setattr.specs.declared.change.SetWords.{SetWords}
+use Rattle.mt_setattr.specs.declared.change.ClrWords.{ClrWords}
+use Rattle.mt_skel.proofs.MiddleLaws.{and-true, and_first, and_second}
+use Rattle.mt_lines.specs.Words.{pieces}
+use Rattle.mt_lines.proofs.PieceLaws.{lacks_byte, pieces_joined}
+use Rattle.mt_protocol.specs.declared.argument.Argument.TheVariants.{Setting}
+use Rattle.mt_requests.specs.Options.{is_set_word, is_clr_word, nothing_set, nothing_cleared, set_words, clr_words, change_with, change_of}
+use Rattle.mt_requests.specs.Requests.{are_counted}
+use Rattle.mt_requests.specs.Printed.{words_there, set_rows, clr_rows, listed, option_text, set_option, clr_option, prop_option, word_if, change_options, behind_spaces}
+
+-- ---- texts
+
+-- words of which the first stands alone, and each other one behind the byte between
+joined : (c : ℕ) (w : List ℕ) (ws : List (List ℕ)) → join_with_byte c (w ∷ ws) ≡ w ++ flat_map (λ v. c ∷ v) ws
+joined c w [] = sym (append-nil w)
+joined c w (v ∷ ws) = ap (λ t. w ++ c ∷ t) (joined c v ws)
+
+-- words behind a space each are what is between spaces, behind the first
+pub spaced : (w : List ℕ) (ws : List (List ℕ)) → w ++ behind_spaces ws ≡ join_with_byte 32 (w ∷ ws)
+spaced w ws = sym (joined 32 w ws)
+
+pub option_lists : (key : List ℕ) (ws : List (List ℕ)) → option_text key (flat_map (λ w. 44 ∷ w) ws) ≡ behind_spaces (listed key ws)
+option_lists key [] = refl
+option_lists key (w ∷ ws) =
+    ap (λ t. 32 ∷ (key ++ t)) (sym (joined 44 w ws)) ∙ sym (append-nil (32 ∷ (key ++ join_with_byte 44 (w ∷ ws))))
+
+-- three groups of words, appended one after the other
+pub three_groups : (s0 s1 s2 s3 : List ℕ) (a b d : List (List ℕ)) → s1 ≡ s0 ++ behind_spaces a → s2 ≡ s1 ++ behind_spaces b → s3 ≡ s2 ++ behind_spaces d → s3 ≡ s0 ++ behind_spaces (a ++ (b ++ d))
+three_groups s0 s1 s2 s3 a b d e1 e2 e3 =
+    e3 ∙ ap (λ s. s ++ behind_spaces d) (e2 ∙ ap (λ s. s ++ behind_spaces b) e1) ∙ moved s0 (behind_spaces a) (behind_spaces b) (behind_spaces d)
+    ∙ ap (λ t. s0 ++ t) (sym (flat_map-append (λ w. 32 ∷ w) a (b ++ d) ∙ ap (λ t. behind_spaces a ++ t) (flat_map-append (λ w. 32 ∷ w) b d)))
+  where
+    moved : (s x y z : List ℕ) → ((s ++ x) ++ y) ++ z ≡ s ++ (x ++ (y ++ z))
+    moved s x y z = simp append_assoc refl
+
+-- ---- lists
+
+-- what all rows pass, those that are there pass
+all_there : (p : List ℕ → Bool) (rows : List (Bool × List ℕ)) → list_all (λ (r : Bool × List ℕ). p r.1) rows ≡ true → list_all p (words_there rows) ≡ true
+all_there p [] h = refl
+all_there p ((true, w) ∷ rows) h = and-true (p w) (list_all p (words_there rows)) (and_first (p w) _ h) (all_there p rows (and_second (p w) _ h))
+all_there p ((false, w) ∷ rows) h = all_there p rows (and_second (p w) _ h)
+
+-- whether a word is there, by its row
+any_there : (w : List ℕ) (rows : List (Bool × List ℕ)) → list_any (λ x. bytes_eq x w) (words_there rows) ≡ list_any (λ (r : Bool × List ℕ). bytes_eq r.1 w && r.0) rows
+any_there w [] = refl
+any_there w ((true, v) ∷ rows) = let ih = any_there w rows in grind (arith, nat_tests, ih)
+any_there w ((false, v) ∷ rows) = let ih = any_there w rows in grind (arith, nat_tests, ih)
+
+or_false : (b : Bool) → (b || false) ≡ b
+or_false true = refl
+or_false false = refl
+
+-- what a list sets, by its words, where each can be set
+abbrev pub set_of_words_if : Bool → List (List ℕ) → Option SetWords
+set_of_words_if right ws =
+    if right
+    then Some (record {
+      ro = list_any (λ x. bytes_eq x (codes "ro")) ws;
+      nosuid = list_any (λ x. bytes_eq x (codes "nosuid")) ws;
+      nodev = list_any (λ x. bytes_eq x (codes "nodev")) ws;
+      noexec = list_any (λ x. bytes_eq x (codes "noexec")) ws;
+      nosymfollow = list_any (λ x. bytes_eq x (codes "nosymfollow")) ws;
+      nodiratime = list_any (λ x. bytes_eq x (codes "nodiratime")) ws;
+      relatime = list_any (λ x. bytes_eq x (codes "relatime")) ws;
+      noatime = list_any (λ x. bytes_eq x (codes "noatime")) ws;
+      strictatime = list_any (λ x. bytes_eq x (codes "strictatime")) ws;
+    })
+    else None
+
+abbrev pub set_of_words : List (List ℕ) → Option SetWords
+set_of_words ws = set_of_words_if (list_all is_set_word ws) ws
+
+abbrev clr_of_words : List (List ℕ) → Option ClrWords
+clr_of_words ws =
+    if list_all is_clr_word ws
+    then Some (record {
+      ro = list_any (λ x. bytes_eq x (codes "ro")) ws;
+      nosuid = list_any (λ x. bytes_eq x (codes "nosuid")) ws;
+      nodev = list_any (λ x. bytes_eq x (codes "nodev")) ws;
+      noexec = list_any (λ x. bytes_eq x (codes "noexec")) ws;
+      nosymfollow = list_any (λ x. bytes_eq x (codes "nosymfollow")) ws;
+      nodiratime = list_any (λ x. bytes_eq x (codes "nodiratime")) ws;
+      atime = list_any (λ x. bytes_eq x (codes "atime")) ws;
+    })
+    else None
+
+set_there : (s : SetWords) → set_of_words (words_there (set_rows s)) ≡ Some s
+set_there s =
+    let rows = set_rows s in
+    let found = λ (w : List ℕ). any_there w rows in
+    rw (all_there is_set_word rows refl)
+    (λ i. Some (record {
+      ro = (found (codes "ro") ∙ or_false s.ro) i;
+      nosuid = (found (codes "nosuid") ∙ or_false s.nosuid) i;
+      nodev = (found (codes "nodev") ∙ or_false s.nodev) i;
+      noexec = (found (codes "noexec") ∙ or_false s.noexec) i;
+      nosymfollow = (found (codes "nosymfollow") ∙ or_false s.nosymfollow) i;
+      nodiratime = (found (codes "nodiratime") ∙ or_false s.nodiratime) i;
+      relatime = (found (codes "relatime") ∙ or_false s.relatime) i;
+      noatime = (found (codes "noatime") ∙ or_false s.noatime) i;
+      strictatime = (found (codes "strictatime") ∙ or_false s.strictatime) i;
+    }))
+
+clr_there : (s : ClrWords) → clr_of_words (words_there (clr_rows s)) ≡ Some s
+clr_there s =
+    let rows = clr_rows s in
+    let found = λ (w : List ℕ). any_there w rows in
+    rw (all_there is_clr_word rows refl)
+    (λ i. Some (record {
+      ro = (found (codes "ro") ∙ or_false s.ro) i;
+      nosuid = (found (codes "nosuid") ∙ or_false s.nosuid) i;
+      nodev = (found (codes "nodev") ∙ or_false s.nodev) i;
+      noexec = (found (codes "noexec") ∙ or_false s.noexec) i;
+      nosymfollow = (found (codes "nosymfollow") ∙ or_false s.nosymfollow) i;
+      nodiratime = (found (codes "nodiratime") ∙ or_false s.nodiratime) i;
+      atime = (found (codes "atime") ∙ or_false s.atime) i;
+    }))
+
+-- what is read of a list of these words, if there are some, and of no list
+abbrev pub set_back : List (List ℕ) → Option SetWords
+set_back [] = Some nothing_set
+set_back (w ∷ ws) = set_words (join_with_byte 44 (w ∷ ws))
+
+abbrev pub clr_back : List (List ℕ) → Option ClrWords
+clr_back [] = Some nothing_cleared
+clr_back (w ∷ ws) = clr_words (join_with_byte 44 (w ∷ ws))
+
+pub set_read : (s : SetWords) → set_back (words_there (set_rows s)) ≡ Some s
+set_read s = go (words_there (set_rows s)) refl
+  where
+    go : (ws : List (List ℕ)) → words_there (set_rows s) ≡ ws → set_back ws ≡ Some s
+    go [] is = ap set_of_words (sym is) ∙ set_there s
+    go (w ∷ ws) is =
+        ap set_of_words (pieces_joined 44 w ws (ap (list_all (lacks_byte 44)) (sym is) ∙ all_there (lacks_byte 44) (set_rows s) refl) ∙ sym is) ∙ set_there s
+
+pub clr_read : (s : ClrWords) → clr_back (words_there (clr_rows s)) ≡ Some s
+clr_read s = go (words_there (clr_rows s)) refl
+  where
+    go : (ws : List (List ℕ)) → words_there (clr_rows s) ≡ ws → clr_back ws ≡ Some s
+    go [] is = ap clr_of_words (sym is) ∙ clr_there s
+    go (w ∷ ws) is =
+        ap clr_of_words (pieces_joined 44 w ws (ap (list_all (lacks_byte 44)) (sym is) ∙ all_there (lacks_byte 44) (clr_rows s) refl) ∙ sym is) ∙ clr_there s
+
+-- ---- all options
+
+abbrev all_options : Bool → List (List ℕ) → List (List ℕ) → Option Kind → List (List ℕ)
+all_options rec ws vs prop = word_if rec (codes "rec") ++ (listed (codes "set=") ws ++ (listed (codes "clr=") vs ++ prop_option prop))
+
+options_read : (rec : Bool) (ws vs : List (List ℕ)) (prop : Option Kind) → change_of (all_options rec ws vs prop) ≡ change_with (set_back ws) (clr_back vs) (Some prop) rec
+options_read true [] [] None = refl
+options_read rec ws vs prop = refl
+
+options_counted : (rec : Bool) (ws vs : List (List ℕ)) (prop : Option Kind) → are_counted (Setting ∷ Setting ∷ Setting ∷ Setting ∷ []) (all_options rec ws vs prop) ≡ true
+options_counted true [] [] None = refl
+options_counted rec ws vs prop = refl
+
+-- the options of a change say it, and are no more than there may be
+pub change_read : (c : Change) → change_of (change_options c) ≡ Some c
+change_read c =
+    options_read c.recursive (words_there (set_rows c.set)) (words_there (clr_rows c.clr)) c.prop
+    ∙ (λ i. change_with (set_read c.set i) (clr_read c.clr i) (Some c.prop) c.recursive)
+
+pub change_counted : (c : Change) → are_counted (Setting ∷ Setting ∷ Setting ∷ Setting ∷ []) (change_options c) ≡ true
+change_counted c = options_counted c.recursive (words_there (set_rows c.set)) (words_there (clr_rows c.clr)) c.prop
+
+-- ---- no space
+
+lacks_both : (c : ℕ) (xs ys : List ℕ) → lacks_byte c xs ≡ true → lacks_byte c ys ≡ true → lacks_byte c (xs ++ ys) ≡ true
+lacks_both c xs ys h k = list_all-append (λ b. not (b == c)) xs ys ∙ and-true (lacks_byte c xs) (lacks_byte c ys) h k
+
+joined_lacks : (c : ℕ) (w : List ℕ) (ws : List (List ℕ)) → lacks_byte c (44 ∷ []) ≡ true → list_all (lacks_byte c) (w ∷ ws) ≡ true → lacks_byte c (join_with_byte 44 (w ∷ ws)) ≡ true
+joined_lacks c w [] comma h = and_first (lacks_byte c w) true h
+joined_lacks c w (v ∷ ws) comma h =
+    lacks_both c w (44 ∷ join_with_byte 44 (v ∷ ws)) (and_first (lacks_byte c w) _ h)
+    (lacks_both c (44 ∷ []) (join_with_byte 44 (v ∷ ws)) comma (joined_lacks c v ws comma (and_second (lacks_byte c w) _ h)))
+
+listed_lacks : (c : ℕ) (key : List ℕ) (ws : List (List ℕ)) → lacks_byte c (44 ∷ []) ≡ true → lacks_byte c key ≡ true → list_all (lacks_byte c) ws ≡ true → list_all (lacks_byte c) (listed key ws) ≡ true
+listed_lacks c key [] comma k h = refl
+listed_lacks c key (w ∷ ws) comma k h =
+    and-true (lacks_byte c (key ++ join_with_byte 44 (w ∷ ws))) true (lacks_both c key (join_with_byte 44 (w ∷ ws)) k (joined_lacks c w ws comma h)) refl
+
+pub set_lacks_space : (s : SetWords) → list_all (lacks_byte 32) (set_option s) ≡ true
+set_lacks_space s = listed_lacks 32 (codes "set=") (words_there (set_rows s)) refl refl (all_there (lacks_byte 32) (set_rows s) refl)
+
+clr_lacks_space : (s : ClrWords) → list_all (lacks_byte 32) (clr_option s) ≡ true
+clr_lacks_space s = listed_lacks 32 (codes "clr=") (words_there (clr_rows s)) refl refl (all_there (lacks_byte 32) (clr_rows s) refl)
+
+prop_lacks_space : (prop : Option Kind) → list_all (lacks_byte 32) (prop_option prop) ≡ true
+prop_lacks_space None = refl
+prop_lacks_space (Some Shared) = refl
+prop_lacks_space (Some Private) = refl
+prop_lacks_space (Some Slave) = refl
+prop_lacks_space (Some Unbindable) = refl
+
+rec_lacks_space : (rec : Bool) → list_all (lacks_byte 32) (word_if rec (codes "rec")) ≡ true
+rec_lacks_space true = refl
+rec_lacks_space false = refl
+
+all_both : (xs ys : List (List ℕ)) → list_all (lacks_byte 32) xs ≡ true → list_all (lacks_byte 32) ys ≡ true → list_all (lacks_byte 32) (xs ++ ys) ≡ true
+all_both xs ys h k = list_all-append (lacks_byte 32) xs ys ∙ and-true (list_all (lacks_byte 32) xs) (list_all (lacks_byte 32) ys) h k
+
+pub change_lacks_space : (c : Change) → list_all (lacks_byte 32) (change_options c) ≡ true
+change_lacks_space c =
+    all_both (word_if c.recursive (codes "rec")) (set_option c.set ++ (clr_option c.clr ++ prop_option c.prop)) (rec_lacks_space c.recursive)
+    (all_both (set_option c.set) (clr_option c.clr ++ prop_option c.prop) (set_lacks_space c.set)
+    (all_both (clr_option c.clr) (prop_option c.prop) (clr_lacks_space c.clr) (prop_lacks_space c.prop)))
