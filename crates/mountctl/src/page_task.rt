@@ -94,11 +94,7 @@ fn read_journal(rt: &HostRuntime, stream: &UnixStream) -> Result<Played, Unplaye
 }
 
 /// The data of the page of a server's journal, which a new server of its own answers.
-fn play_journal(
-    rt: &HostRuntime,
-    stream: &UnixStream,
-    title: &[u8],
-) -> Result<PageData, Unplayed> {
+fn play_journal(rt: &HostRuntime, stream: &UnixStream, title: &[u8]) -> Result<PageData, Unplayed> {
     let session = read_journal(rt, stream)?;
     play_alone(rt, session, title)
 }
@@ -176,11 +172,7 @@ fn make_journal_page(
     wait: u64,
 ) -> Result<ExitCode, ExitCode> {
     let stream = connected(rt, socket, wait)?;
-    Ok(end_page(
-        rt,
-        socket,
-        play_journal(rt, &stream, title.as_bytes()),
-    ))
+    Ok(end_page(rt, socket, play_journal(rt, &stream, title.as_bytes())))
 }
 
 /// The words without `--journal`, where it stands first or last among them. None where it does not.

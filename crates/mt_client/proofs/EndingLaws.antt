@@ -29,7 +29,7 @@ use Rattle.mt_client.proofs.RelayLaws.{come_prepended, none_from, first_alike, s
 use Rattle.std.specs.Str.{bytes_eq}
 use Rattle.std.proofs.lemmas.Slice.Eq.{bytes_eq-Decides}
 use Rattle.mt_protocol.specs.declared.form.Form.TheVariants.{Done, Number, Place, Table, Opening, Posts, Commands, Followed, Never}
-use Rattle.mt_protocol.specs.Verbs.{first_of, begins_command}
+use Rattle.mt_protocol.specs.Verbs.{first_of, has_command_verb}
 use Rattle.mt_lines.specs.declared.stream.Cut.{Cut}
 use Rattle.mt_lines.specs.declared.stream.Output.{Ghosts as OutputGhosts}
 use Rattle.mt_client.specs.Calls.{IsOut, IsOutInPart}
@@ -107,13 +107,13 @@ post_behind seen middle none lines later k e =
     none (seen ∷ lines) later (record { first = seen; others = lines; post = k.0; all = refl; counted = post_counted seen lines k.0 k.1 k.2; valid = k.1; text = printed_post (seen ∷ lines) k.0 k.2 }) (ap (prepend_lines (seen ∷ [])) e)
 
 -- the line of a command, alone and behind none
-pub command_made : (seen : List ℕ) → begins_command seen ≡ true → (ls : List (List ℕ)) → ls ≡ seen ∷ [] → IsBlockOf Command 0 ls
+pub command_made : (seen : List ℕ) → has_command_verb seen ≡ true → (ls : List (List ℕ)) → ls ≡ seen ∷ [] → IsBlockOf Command 0 ls
 command_made seen is ls one = ((seen, is, one), ap length one)
 
-pub no_command : (seen : List ℕ) (middle : Option (List Item)) → begins_command seen ≡ false → NoneFirst IsCommandLines (prepend_lines (seen ∷ []) middle)
+pub no_command : (seen : List ℕ) (middle : Option (List Item)) → has_command_verb seen ≡ false → NoneFirst IsCommandLines (prepend_lines (seen ∷ []) middle)
 no_command seen middle is lines later k e =
     let t = first_taken later (come_prepended (seen ∷ []) middle) k.2 e in
-    let both : true ≡ false = sym k.1 ∙ ap begins_command t.0 ∙ is in
+    let both : true ≡ false = sym k.1 ∙ ap has_command_verb t.0 ∙ is in
     cc
 
 -- two blocks that come first have as many lines

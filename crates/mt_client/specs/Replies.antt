@@ -8,7 +8,7 @@ use Rattle.mt_info.specs.Laws.{IsRow}
 use Rattle.mt_info.specs.RowLine.{line}
 use Rattle.mt_info.specs.declared.row.Row.{Row}
 use Rattle.mt_events.specs.Posts.{PostView, post_text}
-use Rattle.mt_protocol.specs.Verbs.{begins_command}
+use Rattle.mt_protocol.specs.Verbs.{has_command_verb}
 use Rattle.mt_protocol.specs.declared.form.Form.{Form}
 use Rattle.mt_protocol.specs.declared.form.Form.TheVariants.{Table, Opening, Posts, Commands, Followed}
 use Rattle.mt_client.specs.declared.block.Block.{Block}
@@ -45,7 +45,7 @@ pub record IsPostLines (lines : List (List ℕ)) : Type 0 where
 
 -- the line of a command
 abbrev pub IsCommandLines : List (List ℕ) → Type 0
-IsCommandLines lines = (line : List ℕ) × (begins_command line ≡ true) × (lines ≡ line ∷ [])
+IsCommandLines lines = (line : List ℕ) × (has_command_verb line ≡ true) × (lines ≡ line ∷ [])
 
 abbrev pub IsBlock : Block → List (List ℕ) → Type 0
 IsBlock Namespace lines = IsPartLines lines

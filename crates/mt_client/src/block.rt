@@ -12,7 +12,7 @@ use crate::relay::{next_text, print, print_line};
 use mt_lines::line::LineReader;
 use mt_lines::stream::{Input, Output};
 use mt_mounts::mount::MountId;
-use mt_protocol::form::{Form, begins_command};
+use mt_protocol::form::{Form, has_command_verb};
 use std::alloc::Global;
 
 /// What the lines behind the first line of an answer are.
@@ -124,7 +124,7 @@ fn pass_command<R: Input + Drop, O: Output>(
     ensures passed { IfOk result (λ behind. PassesOn O.Output (last_line lines.old ∷ []) (IsBlockOf Block.Command behind) lines.old lines.new out.old out.new) }
     ensures fault { IfErr result (λ fault. IsPassFault O.Output fault IsCommandLines (last_line lines.old ∷ []) lines.old lines.new out.old out.new) }
 {
-    if !begins_command(lines.line()) {
+    if !has_command_verb(lines.line()) {
         return Err(ClientFault::Connection);
     }
     print_line(out, lines.line())?;

@@ -20,10 +20,6 @@ most_taken = 1024
 abbrev pub most_followed : ℕ
 most_followed = 1048576
 
--- the greatest number of a command that a `journal` begins with: any of 64 bits
-abbrev pub most_from : ℕ
-most_from = 18446744073709551615
-
 -- the row of a command, and of another line
 abbrev command : List ℕ → List Argument → Form → VerbRow
 command word arguments form = record { word = word; arguments = arguments; form = form; command = true }
@@ -31,7 +27,7 @@ command word arguments form = record { word = word; arguments = arguments; form 
 abbrev other : List ℕ → List Argument → Form → VerbRow
 other word arguments form = record { word = word; arguments = arguments; form = form; command = false }
 
--- the table; arguments that may be left out are the last
+-- the table; arguments that may be left out are the last, and a `journal` begins at any number but 0
 abbrev pub verb_row : Verb → VerbRow
 verb_row Mkfs = command (codes "mkfs") (Label ∷ Label ∷ Label ∷ []) Number
 verb_row Mkdir = command (codes "mkdir") (Label ∷ Path ∷ []) Done
@@ -51,7 +47,7 @@ verb_row Newtree = command (codes "newtree") (Label ∷ []) Number
 verb_row Movetree = command (codes "movetree") (Space ∷ Space ∷ Path ∷ []) Done
 verb_row Show = other (codes "show") (Space ∷ []) Table
 verb_row Find = other (codes "find") (Space ∷ Path ∷ []) Place
-verb_row Journal = other (codes "journal") (Count most_from ∷ Count most_taken ∷ []) Commands
+verb_row Journal = other (codes "journal") (Count 18446744073709551615 ∷ Count most_taken ∷ []) Commands
 verb_row Watch = other (codes "watch") (Scope ∷ []) Opening
 verb_row Take = other (codes "take") (Count most_taken ∷ []) Posts
 verb_row Follow = other (codes "follow") (Count most_followed ∷ []) Followed
@@ -101,5 +97,5 @@ abbrev pub form_of : List ℕ → Form
 form_of line = option_map_or verb_form (verb_of (first_of (words line))) Never
 
 -- the first word of a line is that of a command
-abbrev pub begins_command : List ℕ → Bool
-begins_command line = option_map_or is_command (verb_of (first_of (words line))) false
+abbrev pub has_command_verb : List ℕ → Bool
+has_command_verb line = option_map_or is_command (verb_of (first_of (words line))) false

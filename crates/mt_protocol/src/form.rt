@@ -1,7 +1,7 @@
 //! The forms of answers.
 ghost use Rattle.std.specs.Prelude.{◌≡◌};
 ghost use Rattle.mt_lines.specs.Words.{words};
-ghost use Rattle.mt_protocol.specs.Verbs.{first_of, form_of, begins_command};
+ghost use Rattle.mt_protocol.specs.Verbs.{first_of, form_of, has_command_verb};
 
 use crate::verb::Verb;
 use mt_lines::words::words;
@@ -50,8 +50,8 @@ pub fn form_of(line: &[u8]) -> Form
 }
 
 /// Whether the first word of a line is that of a command.
-pub fn begins_command(line: &[u8]) -> bool
-    ensures { result ≡ begins_command line.now }
+pub fn has_command_verb(line: &[u8]) -> bool
+    ensures { result ≡ has_command_verb line.now }
 {
     match Verb::of(first_word(line)) {
         Some(verb) => verb.is_command(),

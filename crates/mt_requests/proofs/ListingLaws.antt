@@ -11,34 +11,35 @@ use Rattle.mt_setattr.specs.declared.change.Change.{Change}
 use Rattle.mt_setattr.specs.declared.change.SetWords.{SetWords}
 use Rattle.mt_setattr.specs.declared.change.ClrWords.{ClrWords}
 use Rattle.mt_skel.proofs.MiddleLaws.{and-true, and_first, and_second}
-use Rattle.mt_lines.specs.Words.{pieces}
+use Rattle.mt_info.specs.Building.{behind}
+use Rattle.mt_info.specs.RowLine.{word_if}
 use Rattle.mt_lines.proofs.PieceLaws.{lacks_byte, pieces_joined}
 use Rattle.mt_protocol.specs.declared.argument.Argument.TheVariants.{Setting}
 use Rattle.mt_requests.specs.Options.{is_set_word, is_clr_word, nothing_set, nothing_cleared, set_words, clr_words, change_with, change_of}
 use Rattle.mt_requests.specs.Requests.{are_counted}
-use Rattle.mt_requests.specs.Printed.{words_there, set_rows, clr_rows, listed, option_text, set_option, clr_option, prop_option, word_if, change_options, behind_spaces}
+use Rattle.mt_requests.specs.Printed.{words_there, set_rows, clr_rows, listed_option, behind_comma, said_set, said_clr, said_prop, change_options}
 
 -- ---- texts
 
 -- words of which the first stands alone, and each other one behind the byte between
-joined : (c : ℕ) (w : List ℕ) (ws : List (List ℕ)) → join_with_byte c (w ∷ ws) ≡ w ++ flat_map (λ v. c ∷ v) ws
+joined : (c : ℕ) (w : List ℕ) (ws : List (List ℕ)) → join_with_byte c (w ∷ ws) ≡ w ++ behind c ws
 joined c w [] = sym (append-nil w)
 joined c w (v ∷ ws) = ap (λ t. w ++ c ∷ t) (joined c v ws)
 
 -- words behind a space each are what is between spaces, behind the first
-pub spaced : (w : List ℕ) (ws : List (List ℕ)) → w ++ behind_spaces ws ≡ join_with_byte 32 (w ∷ ws)
+pub spaced : (w : List ℕ) (ws : List (List ℕ)) → w ++ behind 32 ws ≡ join_with_byte 32 (w ∷ ws)
 spaced w ws = sym (joined 32 w ws)
 
-pub option_lists : (key : List ℕ) (ws : List (List ℕ)) → option_text key (flat_map (λ w. 44 ∷ w) ws) ≡ behind_spaces (listed key ws)
+pub option_lists : (key : List ℕ) (ws : List (List ℕ)) → behind_comma key (behind 44 ws) ≡ behind 32 (listed_option key ws)
 option_lists key [] = refl
 option_lists key (w ∷ ws) =
     ap (λ t. 32 ∷ (key ++ t)) (sym (joined 44 w ws)) ∙ sym (append-nil (32 ∷ (key ++ join_with_byte 44 (w ∷ ws))))
 
 -- three groups of words, appended one after the other
-pub three_groups : (s0 s1 s2 s3 : List ℕ) (a b d : List (List ℕ)) → s1 ≡ s0 ++ behind_spaces a → s2 ≡ s1 ++ behind_spaces b → s3 ≡ s2 ++ behind_spaces d → s3 ≡ s0 ++ behind_spaces (a ++ (b ++ d))
+pub three_groups : (s0 s1 s2 s3 : List ℕ) (a b d : List (List ℕ)) → s1 ≡ s0 ++ behind 32 a → s2 ≡ s1 ++ behind 32 b → s3 ≡ s2 ++ behind 32 d → s3 ≡ s0 ++ behind 32 (a ++ (b ++ d))
 three_groups s0 s1 s2 s3 a b d e1 e2 e3 =
-    e3 ∙ ap (λ s. s ++ behind_spaces d) (e2 ∙ ap (λ s. s ++ behind_spaces b) e1) ∙ moved s0 (behind_spaces a) (behind_spaces b) (behind_spaces d)
-    ∙ ap (λ t. s0 ++ t) (sym (flat_map-append (λ w. 32 ∷ w) a (b ++ d) ∙ ap (λ t. behind_spaces a ++ t) (flat_map-append (λ w. 32 ∷ w) b d)))
+    e3 ∙ ap (λ s. s ++ behind 32 d) (e2 ∙ ap (λ s. s ++ behind 32 b) e1) ∙ moved s0 (behind 32 a) (behind 32 b) (behind 32 d)
+    ∙ ap (λ t. s0 ++ t) (sym (flat_map-append (λ w. 32 ∷ w) a (b ++ d) ∙ ap (λ t. behind 32 a ++ t) (flat_map-append (λ w. 32 ∷ w) b d)))
   where
     moved : (s x y z : List ℕ) → ((s ++ x) ++ y) ++ z ≡ s ++ (x ++ (y ++ z))
     moved s x y z = simp append_assoc refl
@@ -155,7 +156,7 @@ clr_read s = go (words_there (clr_rows s)) refl
 -- ---- all options
 
 abbrev all_options : Bool → List (List ℕ) → List (List ℕ) → Option Kind → List (List ℕ)
-all_options rec ws vs prop = word_if rec (codes "rec") ++ (listed (codes "set=") ws ++ (listed (codes "clr=") vs ++ prop_option prop))
+all_options rec ws vs prop = word_if rec (codes "rec") ++ (listed_option (codes "set=") ws ++ (listed_option (codes "clr=") vs ++ said_prop prop))
 
 options_read : (rec : Bool) (ws vs : List (List ℕ)) (prop : Option Kind) → change_of (all_options rec ws vs prop) ≡ change_with (set_back ws) (clr_back vs) (Some prop) rec
 options_read true [] [] None = refl
@@ -185,18 +186,18 @@ joined_lacks c w (v ∷ ws) comma h =
     lacks_both c w (44 ∷ join_with_byte 44 (v ∷ ws)) (and_first (lacks_byte c w) _ h)
     (lacks_both c (44 ∷ []) (join_with_byte 44 (v ∷ ws)) comma (joined_lacks c v ws comma (and_second (lacks_byte c w) _ h)))
 
-listed_lacks : (c : ℕ) (key : List ℕ) (ws : List (List ℕ)) → lacks_byte c (44 ∷ []) ≡ true → lacks_byte c key ≡ true → list_all (lacks_byte c) ws ≡ true → list_all (lacks_byte c) (listed key ws) ≡ true
+listed_lacks : (c : ℕ) (key : List ℕ) (ws : List (List ℕ)) → lacks_byte c (44 ∷ []) ≡ true → lacks_byte c key ≡ true → list_all (lacks_byte c) ws ≡ true → list_all (lacks_byte c) (listed_option key ws) ≡ true
 listed_lacks c key [] comma k h = refl
 listed_lacks c key (w ∷ ws) comma k h =
     and-true (lacks_byte c (key ++ join_with_byte 44 (w ∷ ws))) true (lacks_both c key (join_with_byte 44 (w ∷ ws)) k (joined_lacks c w ws comma h)) refl
 
-pub set_lacks_space : (s : SetWords) → list_all (lacks_byte 32) (set_option s) ≡ true
+pub set_lacks_space : (s : SetWords) → list_all (lacks_byte 32) (said_set s) ≡ true
 set_lacks_space s = listed_lacks 32 (codes "set=") (words_there (set_rows s)) refl refl (all_there (lacks_byte 32) (set_rows s) refl)
 
-clr_lacks_space : (s : ClrWords) → list_all (lacks_byte 32) (clr_option s) ≡ true
+clr_lacks_space : (s : ClrWords) → list_all (lacks_byte 32) (said_clr s) ≡ true
 clr_lacks_space s = listed_lacks 32 (codes "clr=") (words_there (clr_rows s)) refl refl (all_there (lacks_byte 32) (clr_rows s) refl)
 
-prop_lacks_space : (prop : Option Kind) → list_all (lacks_byte 32) (prop_option prop) ≡ true
+prop_lacks_space : (prop : Option Kind) → list_all (lacks_byte 32) (said_prop prop) ≡ true
 prop_lacks_space None = refl
 prop_lacks_space (Some Shared) = refl
 prop_lacks_space (Some Private) = refl
@@ -212,6 +213,6 @@ all_both xs ys h k = list_all-append (lacks_byte 32) xs ys ∙ and-true (list_al
 
 pub change_lacks_space : (c : Change) → list_all (lacks_byte 32) (change_options c) ≡ true
 change_lacks_space c =
-    all_both (word_if c.recursive (codes "rec")) (set_option c.set ++ (clr_option c.clr ++ prop_option c.prop)) (rec_lacks_space c.recursive)
-    (all_both (set_option c.set) (clr_option c.clr ++ prop_option c.prop) (set_lacks_space c.set)
-    (all_both (clr_option c.clr) (prop_option c.prop) (clr_lacks_space c.clr) (prop_lacks_space c.prop)))
+    all_both (word_if c.recursive (codes "rec")) (said_set c.set ++ (said_clr c.clr ++ said_prop c.prop)) (rec_lacks_space c.recursive)
+    (all_both (said_set c.set) (said_clr c.clr ++ said_prop c.prop) (set_lacks_space c.set)
+    (all_both (said_clr c.clr) (said_prop c.prop) (clr_lacks_space c.clr) (prop_lacks_space c.prop)))

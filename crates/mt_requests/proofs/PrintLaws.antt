@@ -8,6 +8,7 @@ use Rattle.mt_skel.specs.Names.{is_label}
 use Rattle.mt_skel.proofs.MiddleLaws.{and-true}
 use Rattle.mt_lines.specs.Words.{words}
 use Rattle.mt_lines.proofs.PieceLaws.{lacks_byte, pieces_joined}
+use Rattle.mt_info.specs.Building.{behind}
 use Rattle.mt_info.proofs.WordLaws.{decimal-lacks}
 use Rattle.mt_setattr.specs.declared.change.Change.{Change}
 use Rattle.mt_setattr.specs.declared.change.SetWords.{SetWords}
@@ -20,7 +21,7 @@ use Rattle.mt_requests.specs.declared.request.Request.{Request}
 use Rattle.mt_requests.specs.declared.request.Request.TheVariants.{Run}
 use Rattle.mt_requests.specs.Requests.{command_verb, label_bytes, label_fault, path_names, path_fault, prior_of_two, prior_fault, bad_unless, number_said, attributes_said, change_said, second_of, third_of, options_behind, are_counted, word_faults, words_fault, request_with, read_by, by_words, request_of}
 use Rattle.mt_requests.specs.Options.{change_of}
-use Rattle.mt_requests.specs.Printed.{sent, path_bytes, path_word, words_there, set_rows, set_option, word_if, change_options, command_words, behind_spaces, command_line, CommandsAreReadBack}
+use Rattle.mt_requests.specs.Printed.{sent, bytes_of_path, sent_path, words_there, set_rows, said_set, change_options, command_words, line_of_command, CommandsAreReadBack}
 use Rattle.mt_requests.proofs.FaultLaws.{HasNoFault, no_faults, fine_texts}
 use Rattle.mt_requests.proofs.SentLaws.{sent-lacks-space}
 use Rattle.mt_requests.proofs.SentWordLaws.{IsGoodPath, label_fine, bytes_back, path_fine, path_back, number_fine, number_back}
@@ -60,10 +61,10 @@ pub record IsReadAs (v : Verb) (ws : List (List ℕ)) (c : Command) : Type 0 whe
   pub fine : HasNoFault (word_faults (verb_arguments v) ws)
   pub made : request_with v ws ≡ Run c
 
-read_words : (v : Verb) (ws : List (List ℕ)) (c : Command) → IsReadAs v ws c → request_of (verb_word v ++ behind_spaces ws) ≡ Ok (Run c)
+read_words : (v : Verb) (ws : List (List ℕ)) (c : Command) → IsReadAs v ws c → request_of (verb_word v ++ behind 32 ws) ≡ Ok (Run c)
 unfolding request_of
 read_words v ws c r =
-    let pieces : words (verb_word v ++ behind_spaces ws) ≡ verb_word v ∷ ws = ap words (spaced (verb_word v) ws) ∙ pieces_joined 32 (verb_word v) ws r.bare in
+    let pieces : words (verb_word v ++ behind 32 ws) ≡ verb_word v ∷ ws = ap words (spaced (verb_word v) ws) ∙ pieces_joined 32 (verb_word v) ws r.bare in
     let none : words_fault (verb_arguments v) ws ≡ None = ap (λ b. cond {A = Option Fault} b (prior_fault (word_faults (verb_arguments v) ws)) (Some BadLine)) r.counted ∙ none_prior (word_faults (verb_arguments v) ws) r.fine in
     ap by_words pieces ∙ ap (λ o. option_map_or (λ v. read_by v ws) o (Err BadLine)) r.known
     ∙ ap (λ o. option_map_or (λ f. Err f) o (Ok (request_with v ws))) none ∙ ap (λ x. Ok x) r.made
@@ -75,31 +76,27 @@ and_bare w ws h k = and-true (lacks_byte 32 w) (list_all (lacks_byte 32) ws) h k
 with_label : (l : List ℕ) (ws : List (List ℕ)) → list_all (lacks_byte 32) ws ≡ true → list_all (lacks_byte 32) (sent l ∷ ws) ≡ true
 with_label l ws h = and_bare (sent l) ws (sent-lacks-space l) h
 
-with_path : (p : List (List ℕ)) (ws : List (List ℕ)) → list_all (lacks_byte 32) ws ≡ true → list_all (lacks_byte 32) (path_word p ∷ ws) ≡ true
-with_path p ws h = and_bare (path_word p) ws (sent-lacks-space (path_bytes p)) h
+with_path : (p : List (List ℕ)) (ws : List (List ℕ)) → list_all (lacks_byte 32) ws ≡ true → list_all (lacks_byte 32) (sent_path p ∷ ws) ≡ true
+with_path p ws h = and_bare (sent_path p) ws (sent-lacks-space (bytes_of_path p)) h
 
 with_number : (n : ℕ) (ws : List (List ℕ)) → n < 2 ^ 64 → list_all (lacks_byte 32) ws ≡ true → list_all (lacks_byte 32) (decimal n ∷ ws) ≡ true
 with_number n ws lt h = and_bare (decimal n) ws (decimal-lacks n lt) h
 
 -- ---- each command
 
-two_paths : (n : ℕ) (a b : List (List ℕ)) → n < 2 ^ 64 → list_all (lacks_byte 32) (decimal n ∷ path_word a ∷ path_word b ∷ []) ≡ true
+two_paths : (n : ℕ) (a b : List (List ℕ)) → n < 2 ^ 64 → list_all (lacks_byte 32) (decimal n ∷ sent_path a ∷ sent_path b ∷ []) ≡ true
 two_paths n a b lt = with_number n _ lt (with_path a _ (with_path b [] refl))
 
-word_back : (w : List ℕ) (there : Bool) → lacks_byte 32 w ≡ true → list_all (lacks_byte 32) (word_if there w) ≡ true
-word_back w true h = and_bare w [] h refl
-word_back w false h = refl
-
-mounted_back : (n : ℕ) (fs : List ℕ) (path : List (List ℕ)) (set : SetWords) → IsSaid (command.MountWith n fs path set) → IsReadAs verb.Mount (decimal n ∷ sent fs ∷ path_word path ∷ set_option set) (command.MountWith n fs path set)
+mounted_back : (n : ℕ) (fs : List ℕ) (path : List (List ℕ)) (set : SetWords) → IsSaid (command.MountWith n fs path set) → IsReadAs verb.Mount (decimal n ∷ sent fs ∷ sent_path path ∷ said_set set) (command.MountWith n fs path set)
 unfolding verb_of
 mounted_back n fs path set h = go (words_there (set_rows set)) refl (set_read set)
   where
-    go : (ws : List (List ℕ)) → words_there (set_rows set) ≡ ws → set_back (words_there (set_rows set)) ≡ Some set → IsReadAs verb.Mount (decimal n ∷ sent fs ∷ path_word path ∷ set_option set) (command.MountWith n fs path set)
+    go : (ws : List (List ℕ)) → words_there (set_rows set) ≡ ws → set_back (words_there (set_rows set)) ≡ Some set → IsReadAs verb.Mount (decimal n ∷ sent fs ∷ sent_path path ∷ said_set set) (command.MountWith n fs path set)
     go [] is back = absurd (h.3 is)
     go (w ∷ ws) is back =
-        let said : set_option set ≡ (codes "set=" ++ join_with_byte 44 (w ∷ ws)) ∷ [] = rw is refl in
+        let said : said_set set ≡ (codes "set=" ++ join_with_byte 44 (w ∷ ws)) ∷ [] = rw is refl in
         let read = sym (ap set_back is) ∙ back in
-        subst (λ options. IsReadAs verb.Mount (decimal n ∷ sent fs ∷ path_word path ∷ options) (command.MountWith n fs path set)) (sym said)
+        subst (λ options. IsReadAs verb.Mount (decimal n ∷ sent fs ∷ sent_path path ∷ options) (command.MountWith n fs path set)) (sym said)
         (record {
           known = refl;
           bare = and_bare (codes "mount") _ refl (with_number n _ h.0 (with_label fs _ (with_path path _ (subst (λ options. list_all (lacks_byte 32) options ≡ true) said (set_lacks_space set)))));
@@ -293,5 +290,5 @@ line_said line c e = words_said (words line) c e
 
 -- the line of a command that a line has said is read as that command
 pub read_back : CommandsAreReadBack
-unfolding command_line
+unfolding line_of_command
 read_back line c e = read_words (command_verb c) (command_words c) c (said_back c (line_said line c e))

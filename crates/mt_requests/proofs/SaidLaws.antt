@@ -16,7 +16,7 @@ use Rattle.mt_lines.proofs.NumberLaws.{number_is}
 use Rattle.mt_setattr.specs.declared.change.SetWords.{SetWords}
 use Rattle.mt_requests.specs.Options.{is_set_word, attributes_of, set_words, nothing_set, has_key}
 use Rattle.mt_requests.specs.Requests.{text_length, label_fault, label_bytes, components, is_path, has_long_piece, path_fault, path_names, bad_unless, number_said, attributes_said}
-use Rattle.mt_requests.specs.Printed.{path_bytes, words_there, set_rows}
+use Rattle.mt_requests.specs.Printed.{bytes_of_path, words_there, set_rows}
 use Rattle.mt_requests.proofs.TextLaws.{IsText, text, label_bytes-is, good_label}
 use Rattle.mt_requests.proofs.PathLaws.{good_path}
 use Rattle.mt_requests.proofs.SentWordLaws.{IsGoodPath}
@@ -37,23 +37,23 @@ pieces_some : (c : ℕ) (text : List ℕ) → pieces c text ≢ []
 pieces_some c [] e = cc
 pieces_some c (b ∷ text) e = grind (arith, nat_tests, pieces_some c text)
 
-names_there : (text : List ℕ) (ps : List (List ℕ)) → pieces 47 text ≡ ps → path_bytes ps ≡ 47 ∷ text
+names_there : (text : List ℕ) (ps : List (List ℕ)) → pieces 47 text ≡ ps → bytes_of_path ps ≡ 47 ∷ text
 names_there text [] is = absurd (pieces_some 47 text is)
 names_there text (p ∷ ps) is = ap names_text (sym is) ∙ sym (text_between text)
 
 -- the text of the names of a path is the path
-pub path_there : (bytes : List ℕ) → is_path bytes ≡ true → path_bytes (components bytes) ≡ bytes
+pub path_there : (bytes : List ℕ) → is_path bytes ≡ true → bytes_of_path (components bytes) ≡ bytes
 path_there [] h = cc
 path_there (b ∷ bytes) h = go (bytes_eq (b ∷ bytes) (codes "/")) refl (b == 47) refl (and_parts (starts_with nat_eq (b ∷ bytes) (codes "/")) (list_all is_name (components (b ∷ bytes))) h).0
   where
-    go : (root : Bool) → bytes_eq (b ∷ bytes) (codes "/") ≡ root → (slash : Bool) → (b == 47) ≡ slash → starts_with nat_eq (b ∷ bytes) (codes "/") ≡ true → path_bytes (components (b ∷ bytes)) ≡ b ∷ bytes
+    go : (root : Bool) → bytes_eq (b ∷ bytes) (codes "/") ≡ root → (slash : Bool) → (b == 47) ≡ slash → starts_with nat_eq (b ∷ bytes) (codes "/") ≡ true → bytes_of_path (components (b ∷ bytes)) ≡ b ∷ bytes
     go true root slash is begins =
         let same : (b ∷ bytes) ≡ codes "/" = (bytes_eq-Decides (b ∷ bytes) (codes "/")).0 root in
-        ap (λ x. path_bytes (components x)) same ∙ sym same
+        ap (λ x. bytes_of_path (components x)) same ∙ sym same
     go false root true is begins =
         let e : b ≡ 47 = grind (arith, nat_tests, is) in
-        ap (λ t. path_bytes (cond {A = List (List ℕ)} t [] (drop 1 (pieces 47 (b ∷ bytes))))) root
-        ∙ ap (λ x. path_bytes (drop 1 (pieces 47 (x ∷ bytes)))) e ∙ names_there bytes (pieces 47 bytes) refl ∙ ap (λ x. x ∷ bytes) (sym e)
+        ap (λ t. bytes_of_path (cond {A = List (List ℕ)} t [] (drop 1 (pieces 47 (b ∷ bytes))))) root
+        ∙ ap (λ x. bytes_of_path (drop 1 (pieces 47 (x ∷ bytes)))) e ∙ names_there bytes (pieces 47 bytes) refl ∙ ap (λ x. x ∷ bytes) (sym e)
     go false root false is begins = grind (arith, nat_tests, is, begins)
 
 pub path_said : (w : List ℕ) → path_fault w ≡ None → IsGoodPath (path_names w)

@@ -34,16 +34,11 @@ unescaped-sent (b ∷ bytes) = unescaped-byte b (sent bytes) ∙ ap (cons_to (So
 both_lack : (c : ℕ) (xs ys : List ℕ) → lacks_byte c xs ≡ true → lacks_byte c ys ≡ true → lacks_byte c (xs ++ ys) ≡ true
 both_lack c xs ys h k = list_all-append (λ b. not (b == c)) xs ys ∙ and-true (lacks_byte c xs) (lacks_byte c ys) h k
 
--- and have no space, no line end, and a zero byte only where these have one
+-- and have no space, and a zero byte only where these have one
 pub sent-lacks-space : (bytes : List ℕ) → lacks_byte 32 (sent bytes) ≡ true
 sent-lacks-space [] = refl
 sent-lacks-space (b ∷ bytes) =
     both_lack 32 (sent_byte b) (sent bytes) (each_sent (λ x text. lacks_byte 32 text ≡ true) refl refl refl (λ x other _ _. rw other refl) b) (sent-lacks-space bytes)
-
-pub sent-lacks-newline : (bytes : List ℕ) → lacks_byte 10 (sent bytes) ≡ true
-sent-lacks-newline [] = refl
-sent-lacks-newline (b ∷ bytes) =
-    both_lack 10 (sent_byte b) (sent bytes) (each_sent (λ x text. lacks_byte 10 text ≡ true) refl refl refl (λ x _ other _. rw other refl) b) (sent-lacks-newline bytes)
 
 byte-lacks-zero : (b : ℕ) → not (b == 0) ≡ true → lacks_byte 0 (sent_byte b) ≡ true
 byte-lacks-zero = each_sent (λ x text. not (x == 0) ≡ true → lacks_byte 0 text ≡ true) (λ _. refl) (λ _. refl) (λ _. refl) (λ x _ _ _ other. rw other refl)

@@ -16,7 +16,7 @@ use Rattle.mt_lines.specs.Words.{pieces, number_in_text}
 use Rattle.mt_lines.proofs.PieceLaws.{lacks_byte}
 use Rattle.mt_lines.proofs.NumberLaws.{number_decimal}
 use Rattle.mt_requests.specs.Requests.{text_length, label_fault, label_bytes, components, is_path, has_long_piece, path_fault, path_names, bad_unless, number_said}
-use Rattle.mt_requests.specs.Printed.{sent, path_bytes, path_word}
+use Rattle.mt_requests.specs.Printed.{sent, bytes_of_path, sent_path}
 use Rattle.mt_requests.proofs.TextLaws.{length_same}
 use Rattle.mt_requests.proofs.SentLaws.{unescaped-sent, sent-lacks-zero}
 
@@ -55,7 +55,7 @@ label_fine l h = let p = labelled l h in rw (sent_length l p.some p.nonzero, p.s
 -- paths
 pub record IsGoodPath (names : List (List ℕ)) : Type 0 where
   pub names_are : list_all is_name names ≡ true
-  pub short : nat_lt 4095 (length (path_bytes names)) ≡ false
+  pub short : nat_lt 4095 (length (bytes_of_path names)) ≡ false
 
 text_nonzero : (names : List (List ℕ)) → list_all is_name names ≡ true → lacks_byte 0 (names_text names) ≡ true
 text_nonzero [] h = refl
@@ -65,11 +65,11 @@ text_nonzero (n ∷ names) h =
     list_all-append (λ b. not (b == 0)) n (names_text names)
     ∙ and-true (lacks_byte 0 n) (lacks_byte 0 (names_text names)) (labelled n label).nonzero (text_nonzero names (and_second (is_name n) (list_all is_name names) h))
 
-path_nonzero : (names : List (List ℕ)) → list_all is_name names ≡ true → lacks_byte 0 (path_bytes names) ≡ true
+path_nonzero : (names : List (List ℕ)) → list_all is_name names ≡ true → lacks_byte 0 (bytes_of_path names) ≡ true
 path_nonzero [] h = refl
 path_nonzero (n ∷ names) h = text_nonzero (n ∷ names) h
 
-path_full : (names : List (List ℕ)) → nat_eq (length (path_bytes names)) 0 ≡ false
+path_full : (names : List (List ℕ)) → nat_eq (length (bytes_of_path names)) 0 ≡ false
 path_full [] = refl
 path_full (n ∷ names) = refl
 
@@ -86,7 +86,7 @@ not_slash (b ∷ n) rest some = refl
 behind_slash : (text : List ℕ) → drop 1 (pieces 47 (47 ∷ text)) ≡ pieces 47 text
 behind_slash text = refl
 
-pub components_back : (names : List (List ℕ)) → list_all is_name names ≡ true → components (path_bytes names) ≡ names
+pub components_back : (names : List (List ℕ)) → list_all is_name names ≡ true → components (bytes_of_path names) ≡ names
 components_back [] h = refl
 components_back (n ∷ names) h =
     let label = labelled n (name_label n (and_first (is_name n) (list_all is_name names) h)) in
@@ -99,26 +99,35 @@ short_names (n ∷ names) h =
     let short = (labelled n (name_label n (and_first (is_name n) (list_all is_name names) h))).short in
     rw (short, short_names names (and_second (is_name n) (list_all is_name names) h)) refl
 
-no_long : (names : List (List ℕ)) → list_all is_name names ≡ true → has_long_piece (path_bytes names) ≡ false
+no_long : (names : List (List ℕ)) → list_all is_name names ≡ true → has_long_piece (bytes_of_path names) ≡ false
 no_long [] h = refl
 no_long (n ∷ names) h =
     ap (λ ps. list_any (λ piece. nat_lt 255 (length piece)) ([] ∷ ps)) (names_of_text (n ∷ names) h) ∙ short_names (n ∷ names) h
 
-begins_with_slash : (names : List (List ℕ)) → starts_with nat_eq (path_bytes names) (codes "/") ≡ true
+begins_with_slash : (names : List (List ℕ)) → starts_with nat_eq (bytes_of_path names) (codes "/") ≡ true
 begins_with_slash [] = refl
 begins_with_slash (n ∷ names) = refl
 
-is_path_back : (names : List (List ℕ)) → list_all is_name names ≡ true → is_path (path_bytes names) ≡ true
+is_path_back : (names : List (List ℕ)) → list_all is_name names ≡ true → is_path (bytes_of_path names) ≡ true
 is_path_back names h =
-    and-true (starts_with nat_eq (path_bytes names) (codes "/")) (list_all is_name (components (path_bytes names))) (begins_with_slash names) (ap (list_all is_name) (components_back names h) ∙ h)
+    and-true (starts_with nat_eq (bytes_of_path names) (codes "/")) (list_all is_name (components (bytes_of_path names))) (begins_with_slash names) (ap (list_all is_name) (components_back names h) ∙ h)
 
-pub path_fine : (names : List (List ℕ)) → IsGoodPath names → path_fault (path_word names) ≡ None
+pub path_fine : (names : List (List ℕ)) → IsGoodPath names → path_fault (sent_path names) ≡ None
 path_fine names p =
-    let bytes : List ℕ = path_bytes names in
+    let bytes : List ℕ = bytes_of_path names in
     rw (sent_length bytes (path_full names) (path_nonzero names p.names_are), bytes_back bytes, p.short, no_long names p.names_are, is_path_back names p.names_are) refl
 
-pub path_back : (names : List (List ℕ)) → IsGoodPath names → path_names (path_word names) ≡ names
-path_back names p = ap components (bytes_back (path_bytes names)) ∙ components_back names p.names_are
+pub path_back : (names : List (List ℕ)) → IsGoodPath names → path_names (sent_path names) ≡ names
+path_back names p = ap components (bytes_back (bytes_of_path names)) ∙ components_back names p.names_are
+
+-- the text of names is the path, where there are some
+pub path_lies : (names : List (List ℕ)) → (length (names_text names) == 0) ≡ false → names_text names ≡ bytes_of_path names
+path_lies [] h = cc
+path_lies (n ∷ names) h = refl
+
+pub root_lies : (names : List (List ℕ)) → (length (names_text names) == 0) ≡ true → codes "/" ≡ sent_path names
+root_lies [] h = refl
+root_lies (n ∷ names) h = cc
 
 -- numbers
 pub number_fine : (n : ℕ) → n < 2 ^ 64 → bad_unless (is_some (number_in_text (decimal n))) ≡ None

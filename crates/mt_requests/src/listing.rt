@@ -1,7 +1,7 @@
 //! The options of a command, as its line has them.
-ghost use Rattle.std.specs.Prelude.{◌≡◌, ◌++◌, ◌∷◌, [], cond, codes, map, IfOk, OnOk};
-ghost use Rattle.std.specs.List.{flat_map};
-ghost use Rattle.mt_requests.specs.Printed.{set_rows, clr_rows, set_option, clr_option, kind_word, prop_option, option_text, behind_spaces, words_there};
+ghost use Rattle.std.specs.Prelude.{◌≡◌, ◌++◌, map, IfOk, OnOk};
+ghost use Rattle.mt_info.specs.Building.{behind};
+ghost use Rattle.mt_requests.specs.Printed.{set_rows, clr_rows, said_set, said_clr, kind_word, said_prop, behind_comma, words_there};
 
 use mt_peers::state::Kind;
 use mt_setattr::change::{Change, ClrWords, SetWords};
@@ -9,7 +9,7 @@ use std::alloc::{AllocError, Global};
 
 /// Appends those of some words that are there, each behind a comma.
 fn push_listed(list: &mut Vec<u8>, rows: &[(bool, &[u8])]) -> Result<(), AllocError>
-    ensures { OnOk result (list.new.items ≡ list.old.items ++ flat_map (λ w. 44 ∷ w) (words_there (map (λ r. (r.0, r.1.now)) rows.now))) }
+    ensures { OnOk result (list.new.items ≡ list.old.items ++ behind 44 (words_there (map (λ r. (r.0, r.1.now)) rows.now))) }
 {
     'rows: for row in rows {
         if row.0 {
@@ -22,7 +22,7 @@ fn push_listed(list: &mut Vec<u8>, rows: &[(bool, &[u8])]) -> Result<(), AllocEr
 
 /// The words that are set, each behind a comma.
 fn set_list(alloc: Global, set: SetWords) -> Result<Vec<u8>, AllocError>
-    ensures { IfOk result (λ list. list.items ≡ flat_map (λ w. 44 ∷ w) (words_there (set_rows set))) }
+    ensures { IfOk result (λ list. list.items ≡ behind 44 (words_there (set_rows set))) }
 {
     let mut list = Vec::new(alloc);
     push_listed(
@@ -44,7 +44,7 @@ fn set_list(alloc: Global, set: SetWords) -> Result<Vec<u8>, AllocError>
 
 /// The words that are cleared, each behind a comma.
 fn clr_list(alloc: Global, clr: ClrWords) -> Result<Vec<u8>, AllocError>
-    ensures { IfOk result (λ list. list.items ≡ flat_map (λ w. 44 ∷ w) (words_there (clr_rows clr))) }
+    ensures { IfOk result (λ list. list.items ≡ behind 44 (words_there (clr_rows clr))) }
 {
     let mut list = Vec::new(alloc);
     push_listed(
@@ -64,7 +64,7 @@ fn clr_list(alloc: Global, clr: ClrWords) -> Result<Vec<u8>, AllocError>
 
 /// Appends a key behind a space, and a list without its first comma, unless that is empty.
 fn push_option(line: &mut Vec<u8>, key: &[u8], list: &[u8]) -> Result<(), AllocError>
-    ensures { OnOk result (line.new.items ≡ line.old.items ++ option_text key.now list.now) }
+    ensures { OnOk result (line.new.items ≡ line.old.items ++ behind_comma key.now list.now) }
 {
     let [_comma, words @ ..] = list else {
         return Ok(());
@@ -77,7 +77,7 @@ fn push_option(line: &mut Vec<u8>, key: &[u8], list: &[u8]) -> Result<(), AllocE
 
 /// Appends the attributes that are set behind a space, if there are some.
 pub(crate) fn push_set(line: &mut Vec<u8>, set: SetWords) -> Result<(), AllocError>
-    ensures { OnOk result (line.new.items ≡ line.old.items ++ behind_spaces (set_option set)) }
+    ensures { OnOk result (line.new.items ≡ line.old.items ++ behind 32 (said_set set)) }
 {
     let list = set_list(*line.allocator(), set)?;
     push_option(line, b"set=", &list)
@@ -85,7 +85,7 @@ pub(crate) fn push_set(line: &mut Vec<u8>, set: SetWords) -> Result<(), AllocErr
 
 /// Appends the attributes that are cleared behind a space, if there are some.
 fn push_clr(line: &mut Vec<u8>, clr: ClrWords) -> Result<(), AllocError>
-    ensures { OnOk result (line.new.items ≡ line.old.items ++ behind_spaces (clr_option clr)) }
+    ensures { OnOk result (line.new.items ≡ line.old.items ++ behind 32 (said_clr clr)) }
 {
     let list = clr_list(*line.allocator(), clr)?;
     push_option(line, b"clr=", &list)
@@ -105,7 +105,7 @@ fn kind_word(kind: Kind) -> &'static [u8]
 
 /// Appends what mounts are made behind a space, if they are made something.
 fn push_prop(line: &mut Vec<u8>, prop: Option<Kind>) -> Result<(), AllocError>
-    ensures { OnOk result (line.new.items ≡ line.old.items ++ behind_spaces (prop_option prop)) }
+    ensures { OnOk result (line.new.items ≡ line.old.items ++ behind 32 (said_prop prop)) }
 {
     let Some(kind) = prop else {
         return Ok(());
@@ -117,7 +117,7 @@ fn push_prop(line: &mut Vec<u8>, prop: Option<Kind>) -> Result<(), AllocError>
 
 /// Appends what a change sets, clears and makes mounts.
 pub(crate) fn push_changes(line: &mut Vec<u8>, change: Change) -> Result<(), AllocError>
-    ensures { OnOk result (line.new.items ≡ line.old.items ++ behind_spaces (set_option change.set ++ (clr_option change.clr ++ prop_option change.prop))) }
+    ensures { OnOk result (line.new.items ≡ line.old.items ++ behind 32 (said_set change.set ++ (said_clr change.clr ++ said_prop change.prop))) }
 {
     push_set(line, change.set)?;
     push_clr(line, change.clr)?;

@@ -1,7 +1,9 @@
 //! The lines of commands: each is read as its command.
 ghost use Rattle.std.specs.Prelude.{◌≡◌, ◌++◌, ◌∷◌, [], codes, decimal, OnOk};
+ghost use Rattle.mt_info.specs.Building.{behind};
+ghost use Rattle.mt_info.specs.RowLine.{word_if};
 ghost use Rattle.mt_requests.specs.Requests.{command_verb};
-ghost use Rattle.mt_requests.specs.Printed.{sent_byte, sent, path_word, word_if, set_option, behind_spaces, change_options, command_words, command_line, commands_text};
+ghost use Rattle.mt_requests.specs.Printed.{sent_byte, sent, sent_path, said_set, change_options, command_words, line_of_command, commands_text};
 
 use crate::listing::{push_changes, push_set};
 use mt_book::command::Command;
@@ -37,7 +39,7 @@ fn push_bytes(line: &mut Vec<u8>, bytes: &[u8]) -> Result<(), AllocError>
 
 /// Appends a label behind a space.
 fn push_label(line: &mut Vec<u8>, label: &Label) -> Result<(), AllocError>
-    ensures { OnOk result (line.new.items ≡ line.old.items ++ behind_spaces (sent label.now ∷ [])) }
+    ensures { OnOk result (line.new.items ≡ line.old.items ++ behind 32 (sent label.now ∷ [])) }
 {
     line.push(b' ')?;
     push_bytes(line, label.bytes())?;
@@ -46,7 +48,7 @@ fn push_label(line: &mut Vec<u8>, label: &Label) -> Result<(), AllocError>
 
 /// Appends the word of a path.
 fn push_names(line: &mut Vec<u8>, path: &Names) -> Result<(), AllocError>
-    ensures { OnOk result (line.new.items ≡ line.old.items ++ path_word path.now) }
+    ensures { OnOk result (line.new.items ≡ line.old.items ++ sent_path path.now) }
 {
     let names = path.text();
     if names.is_empty() {
@@ -57,7 +59,7 @@ fn push_names(line: &mut Vec<u8>, path: &Names) -> Result<(), AllocError>
 
 /// Appends a path behind a space.
 fn push_path(line: &mut Vec<u8>, path: &Names) -> Result<(), AllocError>
-    ensures { OnOk result (line.new.items ≡ line.old.items ++ behind_spaces (path_word path.now ∷ [])) }
+    ensures { OnOk result (line.new.items ≡ line.old.items ++ behind 32 (sent_path path.now ∷ [])) }
 {
     line.push(b' ')?;
     push_names(line, path)?;
@@ -66,7 +68,7 @@ fn push_path(line: &mut Vec<u8>, path: &Names) -> Result<(), AllocError>
 
 /// Appends the number of a namespace behind a space.
 fn push_space(line: &mut Vec<u8>, space: SpaceId) -> Result<(), AllocError>
-    ensures { OnOk result (line.new.items ≡ line.old.items ++ behind_spaces (decimal space ∷ [])) }
+    ensures { OnOk result (line.new.items ≡ line.old.items ++ behind 32 (decimal space ∷ [])) }
 {
     line.push(b' ')?;
     push_number(line, space)?;
@@ -75,7 +77,7 @@ fn push_space(line: &mut Vec<u8>, space: SpaceId) -> Result<(), AllocError>
 
 /// Appends a word behind a space, if something holds.
 fn push_word_if(line: &mut Vec<u8>, holds: bool, word: &[u8]) -> Result<(), AllocError>
-    ensures { OnOk result (line.new.items ≡ line.old.items ++ behind_spaces (word_if holds word.now)) }
+    ensures { OnOk result (line.new.items ≡ line.old.items ++ behind 32 (word_if holds word.now)) }
 {
     if holds {
         line.push(b' ')?;
@@ -91,7 +93,7 @@ fn push_labels(
     second: &Label,
     third: &Label,
 ) -> Result<(), AllocError>
-    ensures { OnOk result (line.new.items ≡ line.old.items ++ behind_spaces (sent first.now ∷ sent second.now ∷ sent third.now ∷ [])) }
+    ensures { OnOk result (line.new.items ≡ line.old.items ++ behind 32 (sent first.now ∷ sent second.now ∷ sent third.now ∷ [])) }
 {
     push_label(line, first)?;
     push_label(line, second)?;
@@ -101,7 +103,7 @@ fn push_labels(
 
 /// Appends a label and a path.
 fn push_label_path(line: &mut Vec<u8>, fs: &Label, path: &Names) -> Result<(), AllocError>
-    ensures { OnOk result (line.new.items ≡ line.old.items ++ behind_spaces (sent fs.now ∷ path_word path.now ∷ [])) }
+    ensures { OnOk result (line.new.items ≡ line.old.items ++ behind 32 (sent fs.now ∷ sent_path path.now ∷ [])) }
 {
     push_label(line, fs)?;
     push_path(line, path)?;
@@ -115,7 +117,7 @@ fn push_space_word(
     holds: bool,
     word: &[u8],
 ) -> Result<(), AllocError>
-    ensures { OnOk result (line.new.items ≡ line.old.items ++ behind_spaces (decimal space ∷ word_if holds word.now)) }
+    ensures { OnOk result (line.new.items ≡ line.old.items ++ behind 32 (decimal space ∷ word_if holds word.now)) }
 {
     push_space(line, space)?;
     push_word_if(line, holds, word)?;
@@ -124,7 +126,7 @@ fn push_space_word(
 
 /// Appends a namespace and a path.
 fn push_place(line: &mut Vec<u8>, space: SpaceId, path: &Names) -> Result<(), AllocError>
-    ensures { OnOk result (line.new.items ≡ line.old.items ++ behind_spaces (decimal space ∷ path_word path.now ∷ [])) }
+    ensures { OnOk result (line.new.items ≡ line.old.items ++ behind 32 (decimal space ∷ sent_path path.now ∷ [])) }
 {
     push_space(line, space)?;
     push_path(line, path)?;
@@ -138,7 +140,7 @@ fn push_two_places(
     first: &Names,
     second: &Names,
 ) -> Result<(), AllocError>
-    ensures { OnOk result (line.new.items ≡ line.old.items ++ behind_spaces (decimal space ∷ path_word first.now ∷ path_word second.now ∷ [])) }
+    ensures { OnOk result (line.new.items ≡ line.old.items ++ behind 32 (decimal space ∷ sent_path first.now ∷ sent_path second.now ∷ [])) }
 {
     push_place(line, space, first)?;
     push_path(line, second)?;
@@ -152,7 +154,7 @@ fn push_mount(
     fs: &Label,
     path: &Names,
 ) -> Result<(), AllocError>
-    ensures { OnOk result (line.new.items ≡ line.old.items ++ behind_spaces (decimal space ∷ sent fs.now ∷ path_word path.now ∷ [])) }
+    ensures { OnOk result (line.new.items ≡ line.old.items ++ behind 32 (decimal space ∷ sent fs.now ∷ sent_path path.now ∷ [])) }
 {
     push_space(line, space)?;
     push_label_path(line, fs, path)?;
@@ -167,7 +169,7 @@ fn push_mount_with(
     path: &Names,
     set: SetWords,
 ) -> Result<(), AllocError>
-    ensures { OnOk result (line.new.items ≡ line.old.items ++ behind_spaces (decimal space ∷ sent fs.now ∷ path_word path.now ∷ set_option set)) }
+    ensures { OnOk result (line.new.items ≡ line.old.items ++ behind 32 (decimal space ∷ sent fs.now ∷ sent_path path.now ∷ said_set set)) }
 {
     push_mount(line, space, fs, path)?;
     push_set(line, set)?;
@@ -181,7 +183,7 @@ fn push_setattr(
     path: &Names,
     change: Change,
 ) -> Result<(), AllocError>
-    ensures { OnOk result (line.new.items ≡ line.old.items ++ behind_spaces (decimal space ∷ path_word path.now ∷ change_options change)) }
+    ensures { OnOk result (line.new.items ≡ line.old.items ++ behind 32 (decimal space ∷ sent_path path.now ∷ change_options change)) }
 {
     push_place(line, space, path)?;
     push_word_if(line, change.recursive, b"rec")?;
@@ -196,7 +198,7 @@ fn push_opentree(
     path: &Names,
     recursive: bool,
 ) -> Result<(), AllocError>
-    ensures { OnOk result (line.new.items ≡ line.old.items ++ behind_spaces (decimal space ∷ path_word path.now ∷ word_if recursive (codes "rec"))) }
+    ensures { OnOk result (line.new.items ≡ line.old.items ++ behind 32 (decimal space ∷ sent_path path.now ∷ word_if recursive (codes "rec"))) }
 {
     push_place(line, space, path)?;
     push_word_if(line, recursive, b"rec")?;
@@ -210,7 +212,7 @@ fn push_movetree(
     space: SpaceId,
     path: &Names,
 ) -> Result<(), AllocError>
-    ensures { OnOk result (line.new.items ≡ line.old.items ++ behind_spaces (decimal tree ∷ decimal space ∷ path_word path.now ∷ [])) }
+    ensures { OnOk result (line.new.items ≡ line.old.items ++ behind 32 (decimal tree ∷ decimal space ∷ sent_path path.now ∷ [])) }
 {
     push_space(line, tree)?;
     push_place(line, space, path)?;
@@ -219,7 +221,7 @@ fn push_movetree(
 
 /// Appends the words of a command behind its verb.
 fn push_words(line: &mut Vec<u8>, command: &Command) -> Result<(), AllocError>
-    ensures { OnOk result (line.new.items ≡ line.old.items ++ behind_spaces (command_words command.now)) }
+    ensures { OnOk result (line.new.items ≡ line.old.items ++ behind 32 (command_words command.now)) }
 {
     match command {
         Command::MakeFs { name, kind, source } => push_labels(line, name, kind, source),
@@ -235,7 +237,10 @@ fn push_words(line: &mut Vec<u8>, command: &Command) -> Result<(), AllocError>
             set,
         } => push_mount_with(line, *space, fs, path, *set),
         Command::Bind {
-            space, src, dst, ..
+            space,
+            src,
+            dst,
+            ..
         } => push_two_places(line, *space, src, dst),
         Command::Move { space, src, dst } => push_two_places(line, *space, src, dst),
         Command::Pivot { space, new, old } => push_two_places(line, *space, new, old),
@@ -267,13 +272,7 @@ fn verb_of(command: &Command) -> Verb
         Command::CopySpace { .. } => Verb::Copyns,
         Command::DropSpace { .. } => Verb::Dropns,
         Command::Mount { .. } | Command::MountWith { .. } => Verb::Mount,
-        Command::Bind { recursive, .. } => {
-            if *recursive {
-                Verb::Rbind
-            } else {
-                Verb::Bind
-            }
-        }
+        Command::Bind { recursive, .. } => { if *recursive { Verb::Rbind } else { Verb::Bind } }
         Command::Move { .. } => Verb::Move,
         Command::Pivot { .. } => Verb::Pivot,
         Command::Unmount { .. } => Verb::Umount,
@@ -287,9 +286,9 @@ fn verb_of(command: &Command) -> Verb
 
 /// Appends the line of a command, without its line end. Where a line has said the command, this one is read as the same
 /// command, and is no longer ([`crate::laws`]).
-#[tactic(auto, unfolding(crate::specs::Printed::command_line))]
+#[tactic(auto, unfolding(crate::specs::Printed::line_of_command))]
 pub fn push_command(line: &mut Vec<u8>, command: &Command) -> Result<(), AllocError>
-    ensures { OnOk result (line.new.items ≡ line.old.items ++ command_line command.now) }
+    ensures { OnOk result (line.new.items ≡ line.old.items ++ line_of_command command.now) }
 {
     line.extend_from_slice(verb_of(command).word())?;
     push_words(line, command)?;
