@@ -1,5 +1,5 @@
 //! What a book shows, and why it shows nothing.
-ghost use Rattle.std.specs.Prelude.{◌≡◌, ◌≢◌, IfOk, IfErr};
+ghost use Rattle.std.specs.Prelude.{◌≡◌, ◌≢◌, take, drop, IfOk, IfErr};
 ghost use Rattle.mt_book.specs.Step.{after};
 ghost use Rattle.mt_book.specs.Book.{found_at};
 ghost use Rattle.mt_session.specs.Answers.{refusal, shown_text, found_text, commands_from, listed_text, query_text};
@@ -53,14 +53,34 @@ fn find(alloc: Global, book: &Book, space: u64, path: &Names) -> Result<Text, Fa
     }
 }
 
+/// The first commands, this many at most.
+fn first_commands(commands: &[Command], most: usize) -> &[Command]
+    ensures { result.now ≡ take most commands.now }
+{
+    if commands.len() <= most {
+        commands
+    } else {
+        &commands[..most]
+    }
+}
+
+/// The commands behind the first ones, which are this many.
+fn commands_behind(commands: &[Command], count: usize) -> &[Command]
+    ensures { result.now ≡ drop count commands.now }
+{
+    if commands.len() <= count {
+        &[]
+    } else {
+        &commands[count..]
+    }
+}
+
 /// The commands from the one of a number on, up to so many. The first has number 1.
 fn commands_from(commands: &[Command], from: u64, most: u64) -> &[Command]
     ensures { result.now ≡ commands_from from most commands.now }
 {
-    let before = from.saturating_sub(1).min(commands.len() as u64) as usize;
-    let later = &commands[before..];
-    let count = (later.len() as u64).min(most) as usize;
-    &later[..count]
+    let later = commands_behind(commands, from.saturating_sub(1) as usize);
+    first_commands(later, most as usize)
 }
 
 /// The lines that list accepted commands.
