@@ -48,84 +48,145 @@ three_groups s0 s1 s2 s3 a b d e1 e2 e3 =
 
 -- what all rows pass, those that are there pass
 all_there : (p : List ℕ → Bool) (rows : List (Bool × List ℕ)) → list_all (λ (r : Bool × List ℕ). p r.1) rows ≡ true → list_all p (words_there rows) ≡ true
+unfolding words_there
 all_there p [] h = refl
-all_there p ((true, w) ∷ rows) h = and-true (p w) (list_all p (words_there rows)) (and_first (p w) _ h) (all_there p rows (and_second (p w) _ h))
-all_there p ((false, w) ∷ rows) h = all_there p rows (and_second (p w) _ h)
+all_there p (r ∷ rows) h = go r.0 (and_first (p r.1) _ h) (all_there p rows (and_second (p r.1) _ h))
+  where
+    go : (there : Bool) → p r.1 ≡ true → list_all p (words_there rows) ≡ true → list_all p (cond {A = List (List ℕ)} there (r.1 ∷ words_there rows) (words_there rows)) ≡ true
+    go true one rest = and-true (p r.1) (list_all p (words_there rows)) one rest
+    go false one rest = rest
 
 -- whether a word is there, by its row
+any_step : (is there later : Bool) → cond {A = Bool} there (is || later) later ≡ ((is && there) || later)
+any_step true true later = refl
+any_step true false later = refl
+any_step false true later = refl
+any_step false false later = refl
+
 any_there : (w : List ℕ) (rows : List (Bool × List ℕ)) → list_any (λ x. bytes_eq x w) (words_there rows) ≡ list_any (λ (r : Bool × List ℕ). bytes_eq r.1 w && r.0) rows
+unfolding words_there
 any_there w [] = refl
-any_there w ((true, v) ∷ rows) = let ih = any_there w rows in grind (arith, nat_tests, ih)
-any_there w ((false, v) ∷ rows) = let ih = any_there w rows in grind (arith, nat_tests, ih)
+any_there w (r ∷ rows) = go r.0 (any_there w rows)
+  where
+    go : (there : Bool) → list_any (λ x. bytes_eq x w) (words_there rows) ≡ list_any (λ (r : Bool × List ℕ). bytes_eq r.1 w && r.0) rows
+        → list_any (λ x. bytes_eq x w) (cond {A = List (List ℕ)} there (r.1 ∷ words_there rows) (words_there rows)) ≡ ((bytes_eq r.1 w && there) || list_any (λ (r : Bool × List ℕ). bytes_eq r.1 w && r.0) rows)
+    go true ih = ap (λ later. bytes_eq r.1 w || later) ih ∙ any_step (bytes_eq r.1 w) true (list_any (λ (r : Bool × List ℕ). bytes_eq r.1 w && r.0) rows)
+    go false ih = ih ∙ any_step (bytes_eq r.1 w) false (list_any (λ (r : Bool × List ℕ). bytes_eq r.1 w && r.0) rows)
 
 or_false : (b : Bool) → (b || false) ≡ b
 or_false true = refl
 or_false false = refl
 
 -- what a list sets, by its words, where each can be set
+abbrev pub set_among : List (List ℕ) → SetWords
+set_among ws = record {
+  ro = list_any (λ x. bytes_eq x (codes "ro")) ws;
+  nosuid = list_any (λ x. bytes_eq x (codes "nosuid")) ws;
+  nodev = list_any (λ x. bytes_eq x (codes "nodev")) ws;
+  noexec = list_any (λ x. bytes_eq x (codes "noexec")) ws;
+  nosymfollow = list_any (λ x. bytes_eq x (codes "nosymfollow")) ws;
+  nodiratime = list_any (λ x. bytes_eq x (codes "nodiratime")) ws;
+  relatime = list_any (λ x. bytes_eq x (codes "relatime")) ws;
+  noatime = list_any (λ x. bytes_eq x (codes "noatime")) ws;
+  strictatime = list_any (λ x. bytes_eq x (codes "strictatime")) ws;
+}
+
 abbrev pub set_of_words_if : Bool → List (List ℕ) → Option SetWords
-set_of_words_if right ws =
-    if right
-    then Some (record {
-      ro = list_any (λ x. bytes_eq x (codes "ro")) ws;
-      nosuid = list_any (λ x. bytes_eq x (codes "nosuid")) ws;
-      nodev = list_any (λ x. bytes_eq x (codes "nodev")) ws;
-      noexec = list_any (λ x. bytes_eq x (codes "noexec")) ws;
-      nosymfollow = list_any (λ x. bytes_eq x (codes "nosymfollow")) ws;
-      nodiratime = list_any (λ x. bytes_eq x (codes "nodiratime")) ws;
-      relatime = list_any (λ x. bytes_eq x (codes "relatime")) ws;
-      noatime = list_any (λ x. bytes_eq x (codes "noatime")) ws;
-      strictatime = list_any (λ x. bytes_eq x (codes "strictatime")) ws;
-    })
-    else None
+set_of_words_if right ws = if right then Some (set_among ws) else None
 
 abbrev pub set_of_words : List (List ℕ) → Option SetWords
 set_of_words ws = set_of_words_if (list_all is_set_word ws) ws
 
-abbrev clr_of_words : List (List ℕ) → Option ClrWords
-clr_of_words ws =
-    if list_all is_clr_word ws
-    then Some (record {
-      ro = list_any (λ x. bytes_eq x (codes "ro")) ws;
-      nosuid = list_any (λ x. bytes_eq x (codes "nosuid")) ws;
-      nodev = list_any (λ x. bytes_eq x (codes "nodev")) ws;
-      noexec = list_any (λ x. bytes_eq x (codes "noexec")) ws;
-      nosymfollow = list_any (λ x. bytes_eq x (codes "nosymfollow")) ws;
-      nodiratime = list_any (λ x. bytes_eq x (codes "nodiratime")) ws;
-      atime = list_any (λ x. bytes_eq x (codes "atime")) ws;
-    })
-    else None
-
-set_there : (s : SetWords) → set_of_words (words_there (set_rows s)) ≡ Some s
-set_there s =
-    let rows = set_rows s in
-    let found = λ (w : List ℕ). any_there w rows in
-    rw (all_there is_set_word rows refl)
-    (λ i. Some (record {
-      ro = (found (codes "ro") ∙ or_false s.ro) i;
-      nosuid = (found (codes "nosuid") ∙ or_false s.nosuid) i;
-      nodev = (found (codes "nodev") ∙ or_false s.nodev) i;
-      noexec = (found (codes "noexec") ∙ or_false s.noexec) i;
-      nosymfollow = (found (codes "nosymfollow") ∙ or_false s.nosymfollow) i;
-      nodiratime = (found (codes "nodiratime") ∙ or_false s.nodiratime) i;
-      relatime = (found (codes "relatime") ∙ or_false s.relatime) i;
-      noatime = (found (codes "noatime") ∙ or_false s.noatime) i;
-      strictatime = (found (codes "strictatime") ∙ or_false s.strictatime) i;
+set_of_rows : (rows : List (Bool × List ℕ)) → list_all (λ (r : Bool × List ℕ). is_set_word r.1) rows ≡ true → set_of_words (words_there rows) ≡ Some (record {
+  ro = list_any (λ (r : Bool × List ℕ). bytes_eq r.1 (codes "ro") && r.0) rows;
+  nosuid = list_any (λ (r : Bool × List ℕ). bytes_eq r.1 (codes "nosuid") && r.0) rows;
+  nodev = list_any (λ (r : Bool × List ℕ). bytes_eq r.1 (codes "nodev") && r.0) rows;
+  noexec = list_any (λ (r : Bool × List ℕ). bytes_eq r.1 (codes "noexec") && r.0) rows;
+  nosymfollow = list_any (λ (r : Bool × List ℕ). bytes_eq r.1 (codes "nosymfollow") && r.0) rows;
+  nodiratime = list_any (λ (r : Bool × List ℕ). bytes_eq r.1 (codes "nodiratime") && r.0) rows;
+  relatime = list_any (λ (r : Bool × List ℕ). bytes_eq r.1 (codes "relatime") && r.0) rows;
+  noatime = list_any (λ (r : Bool × List ℕ). bytes_eq r.1 (codes "noatime") && r.0) rows;
+  strictatime = list_any (λ (r : Bool × List ℕ). bytes_eq r.1 (codes "strictatime") && r.0) rows;
+})
+set_of_rows rows h =
+    ap (λ right. set_of_words_if right (words_there rows)) (all_there is_set_word rows h)
+    ∙ (λ i. Some (record {
+  ro = any_there (codes "ro") rows i;
+  nosuid = any_there (codes "nosuid") rows i;
+  nodev = any_there (codes "nodev") rows i;
+  noexec = any_there (codes "noexec") rows i;
+  nosymfollow = any_there (codes "nosymfollow") rows i;
+  nodiratime = any_there (codes "nodiratime") rows i;
+  relatime = any_there (codes "relatime") rows i;
+  noatime = any_there (codes "noatime") rows i;
+  strictatime = any_there (codes "strictatime") rows i;
     }))
 
-clr_there : (s : ClrWords) → clr_of_words (words_there (clr_rows s)) ≡ Some s
+pub set_there : (s : SetWords) → set_of_words (words_there (set_rows s)) ≡ Some s
+set_there s =
+    set_of_rows (set_rows s) refl
+    ∙ (λ i. Some (record {
+  ro = or_false s.ro i;
+  nosuid = or_false s.nosuid i;
+  nodev = or_false s.nodev i;
+  noexec = or_false s.noexec i;
+  nosymfollow = or_false s.nosymfollow i;
+  nodiratime = or_false s.nodiratime i;
+  relatime = or_false s.relatime i;
+  noatime = or_false s.noatime i;
+  strictatime = or_false s.strictatime i;
+    }))
+
+-- and what one clears
+abbrev pub clr_among : List (List ℕ) → ClrWords
+clr_among ws = record {
+  ro = list_any (λ x. bytes_eq x (codes "ro")) ws;
+  nosuid = list_any (λ x. bytes_eq x (codes "nosuid")) ws;
+  nodev = list_any (λ x. bytes_eq x (codes "nodev")) ws;
+  noexec = list_any (λ x. bytes_eq x (codes "noexec")) ws;
+  nosymfollow = list_any (λ x. bytes_eq x (codes "nosymfollow")) ws;
+  nodiratime = list_any (λ x. bytes_eq x (codes "nodiratime")) ws;
+  atime = list_any (λ x. bytes_eq x (codes "atime")) ws;
+}
+
+abbrev pub clr_of_words_if : Bool → List (List ℕ) → Option ClrWords
+clr_of_words_if right ws = if right then Some (clr_among ws) else None
+
+abbrev pub clr_of_words : List (List ℕ) → Option ClrWords
+clr_of_words ws = clr_of_words_if (list_all is_clr_word ws) ws
+
+clr_of_rows : (rows : List (Bool × List ℕ)) → list_all (λ (r : Bool × List ℕ). is_clr_word r.1) rows ≡ true → clr_of_words (words_there rows) ≡ Some (record {
+  ro = list_any (λ (r : Bool × List ℕ). bytes_eq r.1 (codes "ro") && r.0) rows;
+  nosuid = list_any (λ (r : Bool × List ℕ). bytes_eq r.1 (codes "nosuid") && r.0) rows;
+  nodev = list_any (λ (r : Bool × List ℕ). bytes_eq r.1 (codes "nodev") && r.0) rows;
+  noexec = list_any (λ (r : Bool × List ℕ). bytes_eq r.1 (codes "noexec") && r.0) rows;
+  nosymfollow = list_any (λ (r : Bool × List ℕ). bytes_eq r.1 (codes "nosymfollow") && r.0) rows;
+  nodiratime = list_any (λ (r : Bool × List ℕ). bytes_eq r.1 (codes "nodiratime") && r.0) rows;
+  atime = list_any (λ (r : Bool × List ℕ). bytes_eq r.1 (codes "atime") && r.0) rows;
+})
+clr_of_rows rows h =
+    ap (λ right. clr_of_words_if right (words_there rows)) (all_there is_clr_word rows h)
+    ∙ (λ i. Some (record {
+  ro = any_there (codes "ro") rows i;
+  nosuid = any_there (codes "nosuid") rows i;
+  nodev = any_there (codes "nodev") rows i;
+  noexec = any_there (codes "noexec") rows i;
+  nosymfollow = any_there (codes "nosymfollow") rows i;
+  nodiratime = any_there (codes "nodiratime") rows i;
+  atime = any_there (codes "atime") rows i;
+    }))
+
+pub clr_there : (s : ClrWords) → clr_of_words (words_there (clr_rows s)) ≡ Some s
 clr_there s =
-    let rows = clr_rows s in
-    let found = λ (w : List ℕ). any_there w rows in
-    rw (all_there is_clr_word rows refl)
-    (λ i. Some (record {
-      ro = (found (codes "ro") ∙ or_false s.ro) i;
-      nosuid = (found (codes "nosuid") ∙ or_false s.nosuid) i;
-      nodev = (found (codes "nodev") ∙ or_false s.nodev) i;
-      noexec = (found (codes "noexec") ∙ or_false s.noexec) i;
-      nosymfollow = (found (codes "nosymfollow") ∙ or_false s.nosymfollow) i;
-      nodiratime = (found (codes "nodiratime") ∙ or_false s.nodiratime) i;
-      atime = (found (codes "atime") ∙ or_false s.atime) i;
+    clr_of_rows (clr_rows s) refl
+    ∙ (λ i. Some (record {
+  ro = or_false s.ro i;
+  nosuid = or_false s.nosuid i;
+  nodev = or_false s.nodev i;
+  noexec = or_false s.noexec i;
+  nosymfollow = or_false s.nosymfollow i;
+  nodiratime = or_false s.nodiratime i;
+  atime = or_false s.atime i;
     }))
 
 -- what is read of a list of these words, if there are some, and of no list

@@ -20,7 +20,7 @@ use Rattle.mt_requests.specs.Printed.{bytes_of_path, words_there, set_rows}
 use Rattle.mt_requests.proofs.TextLaws.{IsText, text, label_bytes-is, good_label}
 use Rattle.mt_requests.proofs.PathLaws.{good_path}
 use Rattle.mt_requests.proofs.SentWordLaws.{IsGoodPath}
-use Rattle.mt_requests.proofs.ListingLaws.{set_of_words_if, set_of_words}
+use Rattle.mt_requests.proofs.ListingLaws.{set_among, set_of_words_if, set_of_words, set_there}
 
 -- labels
 pub label_said : (w : List ℕ) → label_fault w ≡ None → is_label (label_bytes w) ≡ true
@@ -82,59 +82,29 @@ number_small w = go (number_in_text w) refl
     go (Some n) is = (number_is w n is).1
 
 -- attributes: one at least
-some_said : (a b d e f g h i j : Bool) → (a || b || d || e || f || g || h || i || j) ≡ true
-    → words_there ((a, codes "ro") ∷ (b, codes "nosuid") ∷ (d, codes "nodev") ∷ (e, codes "noexec") ∷ (f, codes "nosymfollow") ∷ (g, codes "nodiratime") ∷ (h, codes "relatime") ∷ (i, codes "noatime") ∷ (j, codes "strictatime") ∷ []) ≢ []
-some_said true b d e f g h i j some no = cc
-some_said false true d e f g h i j some no = cc
-some_said false false true e f g h i j some no = cc
-some_said false false false true f g h i j some no = cc
-some_said false false false false true g h i j some no = cc
-some_said false false false false false true h i j some no = cc
-some_said false false false false false false true i j some no = cc
-some_said false false false false false false false true j some no = cc
-some_said false false false false false false false false true some no = cc
-some_said false false false false false false false false false some no = cc
-
--- a word that can be set is one of those that are there
-first_there : (p : List ℕ) (ps : List (List ℕ)) → is_set_word p ≡ true
-    → (list_any (λ x. bytes_eq x (codes "ro")) (p ∷ ps) || list_any (λ x. bytes_eq x (codes "nosuid")) (p ∷ ps) || list_any (λ x. bytes_eq x (codes "nodev")) (p ∷ ps) || list_any (λ x. bytes_eq x (codes "noexec")) (p ∷ ps)
-    || list_any (λ x. bytes_eq x (codes "nosymfollow")) (p ∷ ps) || list_any (λ x. bytes_eq x (codes "nodiratime")) (p ∷ ps) || list_any (λ x. bytes_eq x (codes "relatime")) (p ∷ ps)
-    || list_any (λ x. bytes_eq x (codes "noatime")) (p ∷ ps) || list_any (λ x. bytes_eq x (codes "strictatime")) (p ∷ ps)) ≡ true
-first_there p ps h =
-    more (bytes_eq p (codes "ro")) (bytes_eq p (codes "nosuid")) (bytes_eq p (codes "nodev")) (bytes_eq p (codes "noexec")) (bytes_eq p (codes "nosymfollow")) (bytes_eq p (codes "nodiratime"))
-    (bytes_eq p (codes "relatime")) (bytes_eq p (codes "noatime")) (bytes_eq p (codes "strictatime")) _ _ _ _ _ _ _ _ _ h
-  where
-    or_first : (a k : Bool) → a ≡ true → (a || k) ≡ true
-    or_first true k e = refl
-    or_first false k e = cc
-
-    or_second : (x y : Bool) → y ≡ true → (x || y) ≡ true
-    or_second true y e = refl
-    or_second false y e = e
-
-    two : (x y a k : Bool) → (x ≡ true → y ≡ true) → (x || a) ≡ true → (y || (a || k)) ≡ true
-    two true y a k up h = let e = up refl in rw e refl
-    two false y true k up h = or_second y (true || k) refl
-    two false y false k up h = cc
-
-    id : (a k : Bool) → a ≡ true → (a || k) ≡ true
-    id a k e = or_first a k e
-
-    more : (a b d e f g h i j k l m n o p q r s : Bool) → (a || b || d || e || f || g || h || i || j) ≡ true → ((a || k) || (b || l) || (d || m) || (e || n) || (f || o) || (g || p) || (h || q) || (i || r) || (j || s)) ≡ true
-    more a b d e f g h i j k l m n o p q r s some =
-        two _ _ j s (two _ _ i r (two _ _ h q (two _ _ g p (two _ _ f o (two _ _ e n (two _ _ d m (two a (a || k) b l (id a k)))))))) some
-
 set_some : (list : List ℕ) (s : SetWords) → set_words list ≡ Some s → words_there (set_rows s) ≢ []
-set_some list s e = go (pieces 44 list) refl e
+set_some list s e none = go (pieces 44 list) refl (same_Some nothing_set s (ap set_of_words (sym none) ∙ set_there s))
   where
-    by_test : (p : List ℕ) (ps : List (List ℕ)) (t : Bool) → list_all is_set_word (p ∷ ps) ≡ t → set_of_words_if t (p ∷ ps) ≡ Some s → words_there (set_rows s) ≢ []
-    by_test p ps false is f = cc
-    by_test p ps true is f =
-        subst (λ x. words_there (set_rows x) ≢ []) (same_Some _ s f) (some_said _ _ _ _ _ _ _ _ _ (first_there p ps (and_parts (is_set_word p) (list_all is_set_word ps) is).0))
+    by_test : (p : List ℕ) (ps : List (List ℕ)) (t : Bool) → list_all is_set_word (p ∷ ps) ≡ t → set_of_words_if t (p ∷ ps) ≡ Some s → nothing_set ≡ s → ⊥
+    by_test p ps false is f empty = cc
+    by_test p ps true is f empty =
+        let both : set_among (p ∷ ps) ≡ nothing_set = same_Some (set_among (p ∷ ps)) s f ∙ sym empty in
+        let ro_off : bytes_eq p (codes "ro") ≡ false = (or_parts (bytes_eq p (codes "ro")) (list_any (λ x. bytes_eq x (codes "ro")) ps) (ap (λ (x : SetWords). x.ro) both)).0 in
+        let nosuid_off : bytes_eq p (codes "nosuid") ≡ false = (or_parts (bytes_eq p (codes "nosuid")) (list_any (λ x. bytes_eq x (codes "nosuid")) ps) (ap (λ (x : SetWords). x.nosuid) both)).0 in
+        let nodev_off : bytes_eq p (codes "nodev") ≡ false = (or_parts (bytes_eq p (codes "nodev")) (list_any (λ x. bytes_eq x (codes "nodev")) ps) (ap (λ (x : SetWords). x.nodev) both)).0 in
+        let noexec_off : bytes_eq p (codes "noexec") ≡ false = (or_parts (bytes_eq p (codes "noexec")) (list_any (λ x. bytes_eq x (codes "noexec")) ps) (ap (λ (x : SetWords). x.noexec) both)).0 in
+        let nosymfollow_off : bytes_eq p (codes "nosymfollow") ≡ false = (or_parts (bytes_eq p (codes "nosymfollow")) (list_any (λ x. bytes_eq x (codes "nosymfollow")) ps) (ap (λ (x : SetWords). x.nosymfollow) both)).0 in
+        let nodiratime_off : bytes_eq p (codes "nodiratime") ≡ false = (or_parts (bytes_eq p (codes "nodiratime")) (list_any (λ x. bytes_eq x (codes "nodiratime")) ps) (ap (λ (x : SetWords). x.nodiratime) both)).0 in
+        let relatime_off : bytes_eq p (codes "relatime") ≡ false = (or_parts (bytes_eq p (codes "relatime")) (list_any (λ x. bytes_eq x (codes "relatime")) ps) (ap (λ (x : SetWords). x.relatime) both)).0 in
+        let noatime_off : bytes_eq p (codes "noatime") ≡ false = (or_parts (bytes_eq p (codes "noatime")) (list_any (λ x. bytes_eq x (codes "noatime")) ps) (ap (λ (x : SetWords). x.noatime) both)).0 in
+        let strictatime_off : bytes_eq p (codes "strictatime") ≡ false = (or_parts (bytes_eq p (codes "strictatime")) (list_any (λ x. bytes_eq x (codes "strictatime")) ps) (ap (λ (x : SetWords). x.strictatime) both)).0 in
+        let not_one : is_set_word p ≡ false = λ i. ro_off i || nosuid_off i || nodev_off i || noexec_off i || nosymfollow_off i || nodiratime_off i || relatime_off i || noatime_off i || strictatime_off i in
+        let no : true ≡ false = sym (and_parts (is_set_word p) (list_all is_set_word ps) is).0 ∙ not_one in
+        cc
 
-    go : (ps : List (List ℕ)) → pieces 44 list ≡ ps → set_words list ≡ Some s → words_there (set_rows s) ≢ []
-    go [] is f = absurd (pieces_some 44 list is)
-    go (p ∷ ps) is f = by_test p ps (list_all is_set_word (p ∷ ps)) refl (ap set_of_words (sym is) ∙ f)
+    go : (ps : List (List ℕ)) → pieces 44 list ≡ ps → nothing_set ≡ s → ⊥
+    go [] is empty = pieces_some 44 list is
+    go (p ∷ ps) is empty = by_test p ps (list_all is_set_word (p ∷ ps)) refl (ap set_of_words (sym is) ∙ e) empty
 
 pub attributes_some : (w : List ℕ) → bad_unless (is_some (attributes_of w)) ≡ None → words_there (set_rows (attributes_said w)) ≢ []
 attributes_some w h = go (has_key (codes "set=") w) refl (set_words (drop 4 w)) refl h

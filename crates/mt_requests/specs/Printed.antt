@@ -33,7 +33,7 @@ abbrev pub sent_path : List (List ℕ) → List ℕ
 sent_path names = sent (bytes_of_path names)
 
 -- the words among these of which it is said that they are there
-abbrev pub words_there : List (Bool × List ℕ) → List (List ℕ)
+unfoldable pub words_there : List (Bool × List ℕ) → List (List ℕ)
 words_there [] = []
 words_there (r ∷ rs) = cond r.0 (r.1 ∷ words_there rs) (words_there rs)
 

@@ -8,6 +8,7 @@ use mt_setattr::change::{Change, ClrWords, SetWords};
 use std::alloc::{AllocError, Global};
 
 /// Appends those of some words that are there, each behind a comma.
+#[tactic(auto, unfolding(crate::specs::Printed::words_there))]
 fn push_listed(list: &mut Vec<u8>, rows: &[(bool, &[u8])]) -> Result<(), AllocError>
     ensures { OnOk result (list.new.items ≡ list.old.items ++ behind 44 (words_there (map (λ r. (r.0, r.1.now)) rows.now))) }
 {
