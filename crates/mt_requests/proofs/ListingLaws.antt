@@ -15,6 +15,8 @@ use Rattle.mt_info.specs.Building.{behind}
 use Rattle.mt_info.specs.RowLine.{word_if}
 use Rattle.mt_lines.proofs.PieceLaws.{lacks_byte, pieces_joined}
 use Rattle.mt_protocol.specs.declared.argument.Argument.TheVariants.{Setting}
+use Rattle.mt_info.proofs.WordLaws.{all-joined}
+use Rattle.mt_requests.proofs.SentLaws.{is_inner, inner}
 use Rattle.mt_requests.specs.Options.{is_set_word, is_clr_word, nothing_set, nothing_cleared, set_words, clr_words, change_with, change_of}
 use Rattle.mt_requests.specs.Requests.{are_counted}
 use Rattle.mt_requests.specs.Printed.{words_there, set_rows, clr_rows, listed_option, behind_comma, said_set, said_clr, said_prop, change_options}
@@ -236,44 +238,36 @@ change_read c =
 pub change_counted : (c : Change) → are_counted (Setting ∷ Setting ∷ Setting ∷ Setting ∷ []) (change_options c) ≡ true
 change_counted c = options_counted c.recursive (words_there (set_rows c.set)) (words_there (clr_rows c.clr)) c.prop
 
--- ---- no space
+-- ---- what may stand in a word
 
-lacks_both : (c : ℕ) (xs ys : List ℕ) → lacks_byte c xs ≡ true → lacks_byte c ys ≡ true → lacks_byte c (xs ++ ys) ≡ true
-lacks_both c xs ys h k = list_all-append (λ b. not (b == c)) xs ys ∙ and-true (lacks_byte c xs) (lacks_byte c ys) h k
+listed_inner : (key : List ℕ) (ws : List (List ℕ)) → inner key ≡ true → list_all inner ws ≡ true → list_all inner (listed_option key ws) ≡ true
+listed_inner key [] k h = refl
+listed_inner key (w ∷ ws) k h =
+    and-true (inner (key ++ join_with_byte 44 (w ∷ ws))) true
+    (list_all-append is_inner key (join_with_byte 44 (w ∷ ws)) ∙ and-true (inner key) (inner (join_with_byte 44 (w ∷ ws))) k (all-joined is_inner 44 (w ∷ ws) refl h)) refl
 
-joined_lacks : (c : ℕ) (w : List ℕ) (ws : List (List ℕ)) → lacks_byte c (44 ∷ []) ≡ true → list_all (lacks_byte c) (w ∷ ws) ≡ true → lacks_byte c (join_with_byte 44 (w ∷ ws)) ≡ true
-joined_lacks c w [] comma h = and_first (lacks_byte c w) true h
-joined_lacks c w (v ∷ ws) comma h =
-    lacks_both c w (44 ∷ join_with_byte 44 (v ∷ ws)) (and_first (lacks_byte c w) _ h)
-    (lacks_both c (44 ∷ []) (join_with_byte 44 (v ∷ ws)) comma (joined_lacks c v ws comma (and_second (lacks_byte c w) _ h)))
+pub set_inner : (s : SetWords) → list_all inner (said_set s) ≡ true
+set_inner s = listed_inner (codes "set=") (words_there (set_rows s)) refl (all_there inner (set_rows s) refl)
 
-listed_lacks : (c : ℕ) (key : List ℕ) (ws : List (List ℕ)) → lacks_byte c (44 ∷ []) ≡ true → lacks_byte c key ≡ true → list_all (lacks_byte c) ws ≡ true → list_all (lacks_byte c) (listed_option key ws) ≡ true
-listed_lacks c key [] comma k h = refl
-listed_lacks c key (w ∷ ws) comma k h =
-    and-true (lacks_byte c (key ++ join_with_byte 44 (w ∷ ws))) true (lacks_both c key (join_with_byte 44 (w ∷ ws)) k (joined_lacks c w ws comma h)) refl
+clr_inner : (s : ClrWords) → list_all inner (said_clr s) ≡ true
+clr_inner s = listed_inner (codes "clr=") (words_there (clr_rows s)) refl (all_there inner (clr_rows s) refl)
 
-pub set_lacks_space : (s : SetWords) → list_all (lacks_byte 32) (said_set s) ≡ true
-set_lacks_space s = listed_lacks 32 (codes "set=") (words_there (set_rows s)) refl refl (all_there (lacks_byte 32) (set_rows s) refl)
+prop_inner : (prop : Option Kind) → list_all inner (said_prop prop) ≡ true
+prop_inner None = refl
+prop_inner (Some Shared) = refl
+prop_inner (Some Private) = refl
+prop_inner (Some Slave) = refl
+prop_inner (Some Unbindable) = refl
 
-clr_lacks_space : (s : ClrWords) → list_all (lacks_byte 32) (said_clr s) ≡ true
-clr_lacks_space s = listed_lacks 32 (codes "clr=") (words_there (clr_rows s)) refl refl (all_there (lacks_byte 32) (clr_rows s) refl)
+rec_inner : (rec : Bool) → list_all inner (word_if rec (codes "rec")) ≡ true
+rec_inner true = refl
+rec_inner false = refl
 
-prop_lacks_space : (prop : Option Kind) → list_all (lacks_byte 32) (said_prop prop) ≡ true
-prop_lacks_space None = refl
-prop_lacks_space (Some Shared) = refl
-prop_lacks_space (Some Private) = refl
-prop_lacks_space (Some Slave) = refl
-prop_lacks_space (Some Unbindable) = refl
+all_both : (xs ys : List (List ℕ)) → list_all inner xs ≡ true → list_all inner ys ≡ true → list_all inner (xs ++ ys) ≡ true
+all_both xs ys h k = list_all-append inner xs ys ∙ and-true (list_all inner xs) (list_all inner ys) h k
 
-rec_lacks_space : (rec : Bool) → list_all (lacks_byte 32) (word_if rec (codes "rec")) ≡ true
-rec_lacks_space true = refl
-rec_lacks_space false = refl
-
-all_both : (xs ys : List (List ℕ)) → list_all (lacks_byte 32) xs ≡ true → list_all (lacks_byte 32) ys ≡ true → list_all (lacks_byte 32) (xs ++ ys) ≡ true
-all_both xs ys h k = list_all-append (lacks_byte 32) xs ys ∙ and-true (list_all (lacks_byte 32) xs) (list_all (lacks_byte 32) ys) h k
-
-pub change_lacks_space : (c : Change) → list_all (lacks_byte 32) (change_options c) ≡ true
-change_lacks_space c =
-    all_both (word_if c.recursive (codes "rec")) (said_set c.set ++ (said_clr c.clr ++ said_prop c.prop)) (rec_lacks_space c.recursive)
-    (all_both (said_set c.set) (said_clr c.clr ++ said_prop c.prop) (set_lacks_space c.set)
-    (all_both (said_clr c.clr) (said_prop c.prop) (clr_lacks_space c.clr) (prop_lacks_space c.prop)))
+pub change_inner : (c : Change) → list_all inner (change_options c) ≡ true
+change_inner c =
+    all_both (word_if c.recursive (codes "rec")) (said_set c.set ++ (said_clr c.clr ++ said_prop c.prop)) (rec_inner c.recursive)
+    (all_both (said_set c.set) (said_clr c.clr ++ said_prop c.prop) (set_inner c.set)
+    (all_both (said_clr c.clr) (said_prop c.prop) (clr_inner c.clr) (prop_inner c.prop)))

@@ -7,9 +7,8 @@ use Rattle.mt_skel.specs.declared.fault.Fault.TheVariants.{BadLine}
 use Rattle.mt_skel.specs.Names.{is_label}
 use Rattle.mt_skel.proofs.MiddleLaws.{and-true}
 use Rattle.mt_lines.specs.Words.{words}
-use Rattle.mt_lines.proofs.PieceLaws.{lacks_byte, pieces_joined}
+use Rattle.mt_lines.proofs.PieceLaws.{pieces_joined}
 use Rattle.mt_info.specs.Building.{behind}
-use Rattle.mt_info.proofs.WordLaws.{decimal-lacks}
 use Rattle.mt_setattr.specs.declared.change.Change.{Change}
 use Rattle.mt_setattr.specs.declared.change.SetWords.{SetWords}
 use Rattle.mt_protocol.specs.Verbs.{verb_of, verb_word, verb_arguments, first_of}
@@ -23,9 +22,9 @@ use Rattle.mt_requests.specs.Requests.{command_verb, label_bytes, label_fault, p
 use Rattle.mt_requests.specs.Options.{change_of}
 use Rattle.mt_requests.specs.Printed.{sent, bytes_of_path, sent_path, words_there, set_rows, said_set, change_options, command_words, line_of_command, CommandsAreReadBack}
 use Rattle.mt_requests.proofs.FaultLaws.{HasNoFault, no_faults, fine_texts}
-use Rattle.mt_requests.proofs.SentLaws.{sent-lacks-space}
+use Rattle.mt_requests.proofs.SentLaws.{inner, sent_inner, decimal_inner, all_lack_space, line_whole}
 use Rattle.mt_requests.proofs.SentWordLaws.{IsGoodPath, label_fine, bytes_back, path_fine, path_back, number_fine, number_back}
-use Rattle.mt_requests.proofs.ListingLaws.{spaced, set_back, set_read, change_read, change_counted, set_lacks_space, change_lacks_space}
+use Rattle.mt_requests.proofs.ListingLaws.{spaced, set_back, set_read, change_read, change_counted, set_inner, change_inner}
 use Rattle.mt_requests.proofs.SaidLaws.{label_said, path_said, number_small, attributes_some}
 
 -- a command that a line can say
@@ -56,7 +55,7 @@ none_prior (f ∷ faults) h = ap (λ x. fold prior_of_two (prior_of_two None x) 
 -- words that each can stand behind a verb
 pub record IsReadAs (v : Verb) (ws : List (List ℕ)) (c : Command) : Type 0 where
   pub known : verb_of (verb_word v) ≡ Some v
-  pub bare : list_all (lacks_byte 32) (verb_word v ∷ ws) ≡ true
+  pub bare : list_all inner (verb_word v ∷ ws) ≡ true
   pub counted : are_counted (verb_arguments v) ws ≡ true
   pub fine : HasNoFault (word_faults (verb_arguments v) ws)
   pub made : request_with v ws ≡ Run c
@@ -64,27 +63,27 @@ pub record IsReadAs (v : Verb) (ws : List (List ℕ)) (c : Command) : Type 0 whe
 read_words : (v : Verb) (ws : List (List ℕ)) (c : Command) → IsReadAs v ws c → request_of (verb_word v ++ behind 32 ws) ≡ Ok (Run c)
 unfolding request_of
 read_words v ws c r =
-    let pieces : words (verb_word v ++ behind 32 ws) ≡ verb_word v ∷ ws = ap words (spaced (verb_word v) ws) ∙ pieces_joined 32 (verb_word v) ws r.bare in
+    let pieces : words (verb_word v ++ behind 32 ws) ≡ verb_word v ∷ ws = ap words (spaced (verb_word v) ws) ∙ pieces_joined 32 (verb_word v) ws (all_lack_space (verb_word v ∷ ws) r.bare) in
     let none : words_fault (verb_arguments v) ws ≡ None = ap (λ b. cond {A = Option Fault} b (prior_fault (word_faults (verb_arguments v) ws)) (Some BadLine)) r.counted ∙ none_prior (word_faults (verb_arguments v) ws) r.fine in
     ap by_words pieces ∙ ap (λ o. option_map_or (λ v. read_by v ws) o (Err BadLine)) r.known
     ∙ ap (λ o. option_map_or (λ f. Err f) o (Ok (request_with v ws))) none ∙ ap (λ x. Ok x) r.made
 
 -- words without a space, one after the other
-and_bare : (w : List ℕ) (ws : List (List ℕ)) → lacks_byte 32 w ≡ true → list_all (lacks_byte 32) ws ≡ true → list_all (lacks_byte 32) (w ∷ ws) ≡ true
-and_bare w ws h k = and-true (lacks_byte 32 w) (list_all (lacks_byte 32) ws) h k
+and_bare : (w : List ℕ) (ws : List (List ℕ)) → inner w ≡ true → list_all inner ws ≡ true → list_all inner (w ∷ ws) ≡ true
+and_bare w ws h k = and-true (inner w) (list_all inner ws) h k
 
-with_label : (l : List ℕ) (ws : List (List ℕ)) → list_all (lacks_byte 32) ws ≡ true → list_all (lacks_byte 32) (sent l ∷ ws) ≡ true
-with_label l ws h = and_bare (sent l) ws (sent-lacks-space l) h
+with_label : (l : List ℕ) (ws : List (List ℕ)) → list_all inner ws ≡ true → list_all inner (sent l ∷ ws) ≡ true
+with_label l ws h = and_bare (sent l) ws (sent_inner l) h
 
-with_path : (p : List (List ℕ)) (ws : List (List ℕ)) → list_all (lacks_byte 32) ws ≡ true → list_all (lacks_byte 32) (sent_path p ∷ ws) ≡ true
-with_path p ws h = and_bare (sent_path p) ws (sent-lacks-space (bytes_of_path p)) h
+with_path : (p : List (List ℕ)) (ws : List (List ℕ)) → list_all inner ws ≡ true → list_all inner (sent_path p ∷ ws) ≡ true
+with_path p ws h = and_bare (sent_path p) ws (sent_inner (bytes_of_path p)) h
 
-with_number : (n : ℕ) (ws : List (List ℕ)) → n < 2 ^ 64 → list_all (lacks_byte 32) ws ≡ true → list_all (lacks_byte 32) (decimal n ∷ ws) ≡ true
-with_number n ws lt h = and_bare (decimal n) ws (decimal-lacks n lt) h
+with_number : (n : ℕ) (ws : List (List ℕ)) → n < 2 ^ 64 → list_all inner ws ≡ true → list_all inner (decimal n ∷ ws) ≡ true
+with_number n ws lt h = and_bare (decimal n) ws (decimal_inner n lt) h
 
 -- ---- each command
 
-two_paths : (n : ℕ) (a b : List (List ℕ)) → n < 2 ^ 64 → list_all (lacks_byte 32) (decimal n ∷ sent_path a ∷ sent_path b ∷ []) ≡ true
+two_paths : (n : ℕ) (a b : List (List ℕ)) → n < 2 ^ 64 → list_all inner (decimal n ∷ sent_path a ∷ sent_path b ∷ []) ≡ true
 two_paths n a b lt = with_number n _ lt (with_path a _ (with_path b [] refl))
 
 mounted_back : (n : ℕ) (fs : List ℕ) (path : List (List ℕ)) (set : SetWords) → IsSaid (command.MountWith n fs path set) → IsReadAs verb.Mount (decimal n ∷ sent fs ∷ sent_path path ∷ said_set set) (command.MountWith n fs path set)
@@ -99,7 +98,7 @@ mounted_back n fs path set h = go (words_there (set_rows set)) refl (set_read se
         subst (λ options. IsReadAs verb.Mount (decimal n ∷ sent fs ∷ sent_path path ∷ options) (command.MountWith n fs path set)) (sym said)
         (record {
           known = refl;
-          bare = and_bare (codes "mount") _ refl (with_number n _ h.0 (with_label fs _ (with_path path _ (subst (λ options. list_all (lacks_byte 32) options ≡ true) said (set_lacks_space set)))));
+          bare = and_bare (codes "mount") _ refl (with_number n _ h.0 (with_label fs _ (with_path path _ (subst (λ options. list_all inner options ≡ true) said (set_inner set)))));
           counted = refl;
           fine = (number_fine n h.0, (label_fine fs h.1, (path_fine path h.2, (ap (λ o. bad_unless (is_some o)) read, tt))));
           made = λ i. Run (command.MountWith (number_back n h.0 i) (bytes_back fs i) (path_back path h.2 i) (option_map_or (λ (s : SetWords). s) (read i) set));
@@ -201,7 +200,7 @@ said_back (command.Detach n path) h = record {
 }
 said_back (command.SetAttr n path change) h = record {
   known = refl;
-  bare = and_bare (codes "setattr") _ refl (with_number n _ h.0 (with_path path _ (change_lacks_space change)));
+  bare = and_bare (codes "setattr") _ refl (with_number n _ h.0 (with_path path _ (change_inner change)));
   counted = change_counted change;
   fine = (number_fine n h.0, (path_fine path h.1, (ap (λ o. bad_unless (is_some o)) (change_read change), tt)));
   made = λ i. Run (command.SetAttr (number_back n h.0 i) (path_back path h.1 i) (option_map_or (λ (x : Change). x) (change_read change i) change));
@@ -288,7 +287,8 @@ line_said : (line : List ℕ) (c : Command) → request_of line ≡ Ok (Run c) �
 unfolding request_of
 line_said line c e = words_said (words line) c e
 
--- the line of a command that a line has said is read as that command
+-- the line of a command that a line has said is one line, and is read as that command
 pub read_back : CommandsAreReadBack
 unfolding line_of_command
-read_back line c e = read_words (command_verb c) (command_words c) c (said_back c (line_said line c e))
+read_back line c e =
+    let back = said_back c (line_said line c e) in (read_words (command_verb c) (command_words c) c back, line_whole (verb_word (command_verb c)) (command_words c) back.bare)

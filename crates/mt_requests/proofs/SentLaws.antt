@@ -1,5 +1,5 @@
 -- Bytes as they stand in a line: what they stand for, and which bytes they have.
-use Rattle.std.proofs.Common.{◌≡◌, ◌≢◌, ℕ, ◌==◌, not, Bool, true, false, List, [], ◌∷◌, ◌++◌, Option, Some, refl, sym, ap, ◌∙◌, arith}
+use Rattle.std.proofs.Common.{◌≡◌, ◌≢◌, ℕ, ◌<◌, ◌^◌, ◌==◌, ◌&&◌, not, decimal, Bool, true, false, List, [], ◌∷◌, ◌++◌, Option, Some, refl, sym, ap, ◌∙◌, arith}
 use Rattle.std.specs.List.{list_all}
 use Rattle.std.proofs.lemmas.Bool.{eqb-true, eqb-false}
 use Rattle.std.proofs.lemmas.List.Folds.{list_all-append}
@@ -7,6 +7,9 @@ use Rattle.mt_skel.specs.Escapes.{unescaped, cons_to}
 use Rattle.mt_skel.proofs.EscapeLaws.{unescaped-plain, unescaped-nil, unescaped-escape, each_escape}
 use Rattle.mt_skel.proofs.MiddleLaws.{and-true, and_first, and_second}
 use Rattle.mt_lines.proofs.PieceLaws.{lacks_byte}
+use Rattle.mt_info.specs.Building.{behind}
+use Rattle.mt_info.specs.Reading.{is_bare}
+use Rattle.mt_info.proofs.WordLaws.{bare, decimal-bare}
 use Rattle.mt_requests.specs.Printed.{sent_byte, sent}
 
 -- what holds of the three escapes, and of each other byte but these, holds of any byte in a line
@@ -31,14 +34,20 @@ pub unescaped-sent : (bytes : List ℕ) → unescaped (sent bytes) ≡ Some byte
 unescaped-sent [] = unescaped-nil [] refl
 unescaped-sent (b ∷ bytes) = unescaped-byte b (sent bytes) ∙ ap (cons_to (Some b)) (unescaped-sent bytes)
 
-both_lack : (c : ℕ) (xs ys : List ℕ) → lacks_byte c xs ≡ true → lacks_byte c ys ≡ true → lacks_byte c (xs ++ ys) ≡ true
-both_lack c xs ys h k = list_all-append (λ b. not (b == c)) xs ys ∙ and-true (lacks_byte c xs) (lacks_byte c ys) h k
+-- a byte that may stand in a word: no space, and no line end
+abbrev pub is_inner : ℕ → Bool
+is_inner b = not (b == 32) && not (b == 10)
 
--- and have no space, and a zero byte only where these have one
-pub sent-lacks-space : (bytes : List ℕ) → lacks_byte 32 (sent bytes) ≡ true
-sent-lacks-space [] = refl
-sent-lacks-space (b ∷ bytes) =
-    both_lack 32 (sent_byte b) (sent bytes) (each_sent (λ x text. lacks_byte 32 text ≡ true) refl refl refl (λ x other _ _. rw other refl) b) (sent-lacks-space bytes)
+abbrev pub inner : List ℕ → Bool
+inner w = list_all is_inner w
+
+both_pass : (p : ℕ → Bool) (xs ys : List ℕ) → list_all p xs ≡ true → list_all p ys ≡ true → list_all p (xs ++ ys) ≡ true
+both_pass p xs ys h k = list_all-append p xs ys ∙ and-true (list_all p xs) (list_all p ys) h k
+
+-- and may stand in a word, and have a zero byte only where these have one
+pub sent_inner : (bytes : List ℕ) → inner (sent bytes) ≡ true
+sent_inner [] = refl
+sent_inner (b ∷ bytes) = both_pass is_inner (sent_byte b) (sent bytes) (each_sent (λ x text. inner text ≡ true) refl refl refl (λ x space newline _. rw (space, newline) refl) b) (sent_inner bytes)
 
 byte-lacks-zero : (b : ℕ) → not (b == 0) ≡ true → lacks_byte 0 (sent_byte b) ≡ true
 byte-lacks-zero = each_sent (λ x text. not (x == 0) ≡ true → lacks_byte 0 text ≡ true) (λ _. refl) (λ _. refl) (λ _. refl) (λ x _ _ _ other. rw other refl)
@@ -46,4 +55,40 @@ byte-lacks-zero = each_sent (λ x text. not (x == 0) ≡ true → lacks_byte 0 t
 pub sent-lacks-zero : (bytes : List ℕ) → lacks_byte 0 bytes ≡ true → lacks_byte 0 (sent bytes) ≡ true
 sent-lacks-zero [] h = refl
 sent-lacks-zero (b ∷ bytes) h =
-    both_lack 0 (sent_byte b) (sent bytes) (byte-lacks-zero b (and_first (not (b == 0)) (lacks_byte 0 bytes) h)) (sent-lacks-zero bytes (and_second (not (b == 0)) (lacks_byte 0 bytes) h))
+    both_pass (λ x. not (x == 0)) (sent_byte b) (sent bytes) (byte-lacks-zero b (and_first (not (b == 0)) (lacks_byte 0 bytes) h)) (sent-lacks-zero bytes (and_second (not (b == 0)) (lacks_byte 0 bytes) h))
+
+-- digits may stand in one
+bare_inner : (w : List ℕ) → bare w ≡ true → inner w ≡ true
+bare_inner [] h = refl
+bare_inner (b ∷ w) h =
+    let first = and_first (is_bare b) (bare w) h in
+    let space = and_first (not (b == 32)) (not (b == 9)) (and_first (not (b == 32) && not (b == 9)) (not (b == 10)) first) in
+    let newline = and_second (not (b == 32) && not (b == 9)) (not (b == 10)) first in
+    and-true (is_inner b) (inner w) (and-true (not (b == 32)) (not (b == 10)) space newline) (bare_inner w (and_second (is_bare b) (bare w) h))
+
+pub decimal_inner : (n : ℕ) → n < 2 ^ 64 → inner (decimal n) ≡ true
+decimal_inner n lt = bare_inner (decimal n) (decimal-bare n lt)
+
+-- such words have no space, and no line of them has a line end
+lacks_space : (w : List ℕ) → inner w ≡ true → lacks_byte 32 w ≡ true
+lacks_space [] h = refl
+lacks_space (b ∷ w) h =
+    and-true (not (b == 32)) (lacks_byte 32 w) (and_first (not (b == 32)) (not (b == 10)) (and_first (is_inner b) (inner w) h)) (lacks_space w (and_second (is_inner b) (inner w) h))
+
+lacks_newline : (w : List ℕ) → inner w ≡ true → lacks_byte 10 w ≡ true
+lacks_newline [] h = refl
+lacks_newline (b ∷ w) h =
+    and-true (not (b == 10)) (lacks_byte 10 w) (and_second (not (b == 32)) (not (b == 10)) (and_first (is_inner b) (inner w) h)) (lacks_newline w (and_second (is_inner b) (inner w) h))
+
+pub all_lack_space : (ws : List (List ℕ)) → list_all inner ws ≡ true → list_all (lacks_byte 32) ws ≡ true
+all_lack_space [] h = refl
+all_lack_space (w ∷ ws) h = and-true (lacks_byte 32 w) (list_all (lacks_byte 32) ws) (lacks_space w (and_first (inner w) (list_all inner ws) h)) (all_lack_space ws (and_second (inner w) (list_all inner ws) h))
+
+behind_lacks : (ws : List (List ℕ)) → list_all inner ws ≡ true → lacks_byte 10 (behind 32 ws) ≡ true
+behind_lacks [] h = refl
+behind_lacks (w ∷ ws) h =
+    both_pass (λ b. not (b == 10)) w (behind 32 ws) (lacks_newline w (and_first (inner w) (list_all inner ws) h)) (behind_lacks ws (and_second (inner w) (list_all inner ws) h))
+
+pub line_whole : (w : List ℕ) (ws : List (List ℕ)) → list_all inner (w ∷ ws) ≡ true → lacks_byte 10 (w ++ behind 32 ws) ≡ true
+line_whole w ws h =
+    both_pass (λ b. not (b == 10)) w (behind 32 ws) (lacks_newline w (and_first (inner w) (list_all inner ws) h)) (behind_lacks ws (and_second (inner w) (list_all inner ws) h))

@@ -1,7 +1,7 @@
 -- The line of a command: what is read as that command.
 -- A word with no source is this project's rule.
-use Rattle.std.specs.Prelude.{◌≡◌, ℕ, Bool, ◌==◌, nat_eq, cond, if◌then◌else◌, List, [], ◌∷◌, ◌++◌, length, Option, Some, None, Ok, codes, decimal}
-use Rattle.std.specs.List.{flat_map, join_with_byte}
+use Rattle.std.specs.Prelude.{◌≡◌, ℕ, Bool, ◌==◌, nat_eq, cond, if◌then◌else◌, List, [], ◌∷◌, ◌++◌, length, not, IsTrue, Option, Some, None, Ok, codes, decimal}
+use Rattle.std.specs.List.{flat_map, list_all, join_with_byte}
 use Rattle.mt_skel.specs.Escapes.{escaped_byte}
 use Rattle.mt_skel.specs.Names.{names_text}
 use Rattle.mt_info.specs.Building.{behind}
@@ -106,6 +106,7 @@ line_of_command c = verb_word (command_verb c) ++ behind 32 (command_words c)
 abbrev pub commands_text : List Command → List ℕ
 commands_text cs = flat_map (λ c. line_of_command c ++ 10 ∷ []) cs
 
--- the line of a command that a line has said is read as that command
+-- the line of a command that a line has said is read as that command, and has no line end in it
 abbrev pub CommandsAreReadBack : Type 0
-CommandsAreReadBack = (line : List ℕ) (c : Command) → request_of line ≡ Ok (Run c) → request_of (line_of_command c) ≡ Ok (Run c)
+CommandsAreReadBack =
+    (line : List ℕ) (c : Command) → request_of line ≡ Ok (Run c) → (request_of (line_of_command c) ≡ Ok (Run c)) × IsTrue (list_all (λ b. not (b == 10)) (line_of_command c))
