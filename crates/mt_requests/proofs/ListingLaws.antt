@@ -113,30 +113,30 @@ set_of_rows : (rows : List (Bool × List ℕ)) → list_all (λ (r : Bool × Lis
 set_of_rows rows h =
     ap (λ right. set_of_words_if right (words_there rows)) (all_there is_set_word rows h)
     ∙ (λ i. Some (record {
-  ro = any_there (codes "ro") rows i;
-  nosuid = any_there (codes "nosuid") rows i;
-  nodev = any_there (codes "nodev") rows i;
-  noexec = any_there (codes "noexec") rows i;
-  nosymfollow = any_there (codes "nosymfollow") rows i;
-  nodiratime = any_there (codes "nodiratime") rows i;
-  relatime = any_there (codes "relatime") rows i;
-  noatime = any_there (codes "noatime") rows i;
-  strictatime = any_there (codes "strictatime") rows i;
+      ro = any_there (codes "ro") rows i;
+      nosuid = any_there (codes "nosuid") rows i;
+      nodev = any_there (codes "nodev") rows i;
+      noexec = any_there (codes "noexec") rows i;
+      nosymfollow = any_there (codes "nosymfollow") rows i;
+      nodiratime = any_there (codes "nodiratime") rows i;
+      relatime = any_there (codes "relatime") rows i;
+      noatime = any_there (codes "noatime") rows i;
+      strictatime = any_there (codes "strictatime") rows i;
     }))
 
 pub set_there : (s : SetWords) → set_of_words (words_there (set_rows s)) ≡ Some s
 set_there s =
     set_of_rows (set_rows s) refl
     ∙ (λ i. Some (record {
-  ro = or_false s.ro i;
-  nosuid = or_false s.nosuid i;
-  nodev = or_false s.nodev i;
-  noexec = or_false s.noexec i;
-  nosymfollow = or_false s.nosymfollow i;
-  nodiratime = or_false s.nodiratime i;
-  relatime = or_false s.relatime i;
-  noatime = or_false s.noatime i;
-  strictatime = or_false s.strictatime i;
+      ro = or_false s.ro i;
+      nosuid = or_false s.nosuid i;
+      nodev = or_false s.nodev i;
+      noexec = or_false s.noexec i;
+      nosymfollow = or_false s.nosymfollow i;
+      nodiratime = or_false s.nodiratime i;
+      relatime = or_false s.relatime i;
+      noatime = or_false s.noatime i;
+      strictatime = or_false s.strictatime i;
     }))
 
 -- and what one clears
@@ -169,26 +169,26 @@ clr_of_rows : (rows : List (Bool × List ℕ)) → list_all (λ (r : Bool × Lis
 clr_of_rows rows h =
     ap (λ right. clr_of_words_if right (words_there rows)) (all_there is_clr_word rows h)
     ∙ (λ i. Some (record {
-  ro = any_there (codes "ro") rows i;
-  nosuid = any_there (codes "nosuid") rows i;
-  nodev = any_there (codes "nodev") rows i;
-  noexec = any_there (codes "noexec") rows i;
-  nosymfollow = any_there (codes "nosymfollow") rows i;
-  nodiratime = any_there (codes "nodiratime") rows i;
-  atime = any_there (codes "atime") rows i;
+      ro = any_there (codes "ro") rows i;
+      nosuid = any_there (codes "nosuid") rows i;
+      nodev = any_there (codes "nodev") rows i;
+      noexec = any_there (codes "noexec") rows i;
+      nosymfollow = any_there (codes "nosymfollow") rows i;
+      nodiratime = any_there (codes "nodiratime") rows i;
+      atime = any_there (codes "atime") rows i;
     }))
 
 pub clr_there : (s : ClrWords) → clr_of_words (words_there (clr_rows s)) ≡ Some s
 clr_there s =
     clr_of_rows (clr_rows s) refl
     ∙ (λ i. Some (record {
-  ro = or_false s.ro i;
-  nosuid = or_false s.nosuid i;
-  nodev = or_false s.nodev i;
-  noexec = or_false s.noexec i;
-  nosymfollow = or_false s.nosymfollow i;
-  nodiratime = or_false s.nodiratime i;
-  atime = or_false s.atime i;
+      ro = or_false s.ro i;
+      nosuid = or_false s.nosuid i;
+      nodev = or_false s.nodev i;
+      noexec = or_false s.noexec i;
+      nosymfollow = or_false s.nosymfollow i;
+      nodiratime = or_false s.nodiratime i;
+      atime = or_false s.atime i;
     }))
 
 -- what is read of a list of these words, if there are some, and of no list

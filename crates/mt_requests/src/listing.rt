@@ -77,19 +77,23 @@ fn push_option(line: &mut Vec<u8>, key: &[u8], list: &[u8]) -> Result<(), AllocE
 }
 
 /// Appends the attributes that are set behind a space, if there are some.
+#[tactic(auto, using(crate::proofs::ListingLaws::option_lists))]
 pub(crate) fn push_set(line: &mut Vec<u8>, set: SetWords) -> Result<(), AllocError>
     ensures { OnOk result (line.new.items ≡ line.old.items ++ behind 32 (said_set set)) }
 {
     let list = set_list(*line.allocator(), set)?;
-    push_option(line, b"set=", &list)
+    push_option(line, b"set=", &list)?;
+    Ok(())
 }
 
 /// Appends the attributes that are cleared behind a space, if there are some.
+#[tactic(auto, using(crate::proofs::ListingLaws::option_lists))]
 fn push_clr(line: &mut Vec<u8>, clr: ClrWords) -> Result<(), AllocError>
     ensures { OnOk result (line.new.items ≡ line.old.items ++ behind 32 (said_clr clr)) }
 {
     let list = clr_list(*line.allocator(), clr)?;
-    push_option(line, b"clr=", &list)
+    push_option(line, b"clr=", &list)?;
+    Ok(())
 }
 
 /// The word of a kind of propagation.

@@ -47,14 +47,17 @@ fn push_label(line: &mut Vec<u8>, label: &Label) -> Result<(), AllocError>
 }
 
 /// Appends the word of a path.
+#[tactic(auto, using(crate::proofs::SentWordLaws::root_lies))]
 fn push_names(line: &mut Vec<u8>, path: &Names) -> Result<(), AllocError>
     ensures { OnOk result (line.new.items ≡ line.old.items ++ sent_path path.now) }
 {
     let names = path.text();
     if names.is_empty() {
-        return line.extend_from_slice(b"/");
+        line.extend_from_slice(b"/")?;
+        return Ok(());
     }
-    push_bytes(line, names)
+    push_bytes(line, names)?;
+    Ok(())
 }
 
 /// Appends a path behind a space.

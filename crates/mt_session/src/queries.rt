@@ -57,10 +57,10 @@ fn find(alloc: Global, book: &Book, space: u64, path: &Names) -> Result<Text, Fa
 fn first_commands(commands: &[Command], most: usize) -> &[Command]
     ensures { result.now ≡ take most commands.now }
 {
-    if commands.len() <= most {
-        commands
-    } else {
+    if commands.len() > most {
         &commands[..most]
+    } else {
+        commands
     }
 }
 
