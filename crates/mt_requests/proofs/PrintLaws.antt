@@ -1,5 +1,5 @@
 -- The line of a command is read as that command.
-use Rattle.std.proofs.Common.{◌≡◌, ◌≢◌, ℕ, ◌<◌, ◌^◌, Bool, true, false, cond, List, [], ◌∷◌, ◌++◌, fold, codes, decimal, Option, Some, None, is_some, Result, Ok, Err, refl, sym, ap, subst, ◌∙◌, arith}
+use Rattle.std.proofs.Common.{◌≡◌, ◌≢◌, ℕ, ◌<◌, ◌^◌, Bool, true, false, cond, List, [], ◌∷◌, ◌++◌, fold, codes, decimal, Option, Some, None, is_some, unwrap_or, Result, Ok, Err, refl, sym, ap, subst, ◌∙◌, arith}
 use Rattle.std.specs.List.{list_all, join_with_byte}
 use Rattle.std.specs.Option.{option_map_or}
 use Rattle.mt_skel.specs.declared.fault.Fault.{Fault}
@@ -19,8 +19,8 @@ use Rattle.mt_book.specs.declared.command.Command.TheVariants as command
 use Rattle.mt_requests.specs.declared.request.Request.{Request}
 use Rattle.mt_requests.specs.declared.request.Request.TheVariants.{Run}
 use Rattle.mt_requests.specs.Requests.{command_verb, label_bytes, label_fault, path_names, path_fault, prior_of_two, prior_fault, bad_unless, number_said, attributes_said, change_said, second_of, third_of, options_behind, are_counted, word_faults, words_fault, request_with, read_by, by_words, request_of}
-use Rattle.mt_requests.specs.Options.{change_of}
-use Rattle.mt_requests.specs.Printed.{sent, bytes_of_path, sent_path, words_there, set_rows, said_set, change_options, command_words, line_of_command, CommandsAreReadBack}
+use Rattle.mt_requests.specs.Options.{nothing_set, no_change}
+use Rattle.mt_requests.specs.Printed.{sent, bytes_of_path, sent_path, words_there, set_rows, listed_option, said_set, change_options, command_words, line_of_command, CommandsAreReadBack}
 use Rattle.mt_requests.proofs.FaultLaws.{HasNoFault, no_faults, fine_texts}
 use Rattle.mt_requests.proofs.SentLaws.{inner, sent_inner, decimal_inner, all_lack_space, line_whole}
 use Rattle.mt_requests.proofs.SentWordLaws.{IsGoodPath, label_fine, bytes_back, path_fine, path_back, number_fine, number_back}
@@ -93,7 +93,7 @@ mounted_back n fs path set h = go (words_there (set_rows set)) refl (set_read se
     go : (ws : List (List ℕ)) → words_there (set_rows set) ≡ ws → set_back (words_there (set_rows set)) ≡ Some set → IsReadAs verb.Mount (decimal n ∷ sent fs ∷ sent_path path ∷ said_set set) (command.MountWith n fs path set)
     go [] is back = absurd (h.3 is)
     go (w ∷ ws) is back =
-        let said : said_set set ≡ (codes "set=" ++ join_with_byte 44 (w ∷ ws)) ∷ [] = rw is refl in
+        let said : said_set set ≡ (codes "set=" ++ join_with_byte 44 (w ∷ ws)) ∷ [] = ap (listed_option (codes "set=")) is in
         let read = sym (ap set_back is) ∙ back in
         subst (λ options. IsReadAs verb.Mount (decimal n ∷ sent fs ∷ sent_path path ∷ options) (command.MountWith n fs path set)) (sym said)
         (record {
@@ -101,7 +101,7 @@ mounted_back n fs path set h = go (words_there (set_rows set)) refl (set_read se
           bare = and_bare (codes "mount") _ refl (with_number n _ h.0 (with_label fs _ (with_path path _ (subst (λ options. list_all inner options ≡ true) said (set_inner set)))));
           counted = refl;
           fine = (number_fine n h.0, (label_fine fs h.1, (path_fine path h.2, (ap (λ o. bad_unless (is_some o)) read, tt))));
-          made = λ i. Run (command.MountWith (number_back n h.0 i) (bytes_back fs i) (path_back path h.2 i) (option_map_or (λ (s : SetWords). s) (read i) set));
+          made = λ i. Run (command.MountWith (number_back n h.0 i) (bytes_back fs i) (path_back path h.2 i) (unwrap_or (read i) nothing_set));
         })
 
 said_back : (c : Command) → IsSaid c → IsReadAs (command_verb c) (command_words c) c
@@ -203,7 +203,7 @@ said_back (command.SetAttr n path change) h = record {
   bare = and_bare (codes "setattr") _ refl (with_number n _ h.0 (with_path path _ (change_inner change)));
   counted = change_counted change;
   fine = (number_fine n h.0, (path_fine path h.1, (ap (λ o. bad_unless (is_some o)) (change_read change), tt)));
-  made = λ i. Run (command.SetAttr (number_back n h.0 i) (path_back path h.1 i) (option_map_or (λ (x : Change). x) (change_read change i) change));
+  made = λ i. Run (command.SetAttr (number_back n h.0 i) (path_back path h.1 i) (unwrap_or (change_read change i) no_change));
 }
 said_back (command.OpenTree n path true) h = record {
   known = refl;

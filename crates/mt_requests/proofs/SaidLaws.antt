@@ -1,6 +1,6 @@
 -- What a line says: labels, paths, numbers below 2^64, and attributes of a new mount that are some.
 use Rattle.std.proofs.Common.{◌≡◌, ◌≢◌, ℕ, ◌<◌, ◌^◌, ◌==◌, ◌&&◌, ◌||◌, not, nat_lt, nat_eq, cond, Bool, true, false, List, [], ◌∷◌, ◌++◌, length, drop, codes, Option, Some, None, is_some, unwrap_or, Result, Ok, Err, IsSome, refl, sym, ap, subst, ◌∙◌, arith}
-use Rattle.std.proofs.lemmas.Bool.{and_parts, or_parts}
+use Rattle.std.proofs.lemmas.Bool.{and_parts, or_parts, eqb-true}
 use Rattle.std.proofs.lemmas.Bool.Decides.{nat_tests}
 use Rattle.std.proofs.lemmas.Option.{same_Some}
 use Rattle.std.proofs.lemmas.Slice.Eq.{bytes_eq-Decides}
@@ -51,7 +51,7 @@ path_there (b ∷ bytes) h = go (bytes_eq (b ∷ bytes) (codes "/")) refl (b == 
         let same : (b ∷ bytes) ≡ codes "/" = (bytes_eq-Decides (b ∷ bytes) (codes "/")).0 root in
         ap (λ x. bytes_of_path (components x)) same ∙ sym same
     go false root true is begins =
-        let e : b ≡ 47 = grind (arith, nat_tests, is) in
+        let e : b ≡ 47 = eqb-true b 47 is in
         ap (λ t. bytes_of_path (cond {A = List (List ℕ)} t [] (drop 1 (pieces 47 (b ∷ bytes))))) root
         ∙ ap (λ x. bytes_of_path (drop 1 (pieces 47 (x ∷ bytes)))) e ∙ names_there bytes (pieces 47 bytes) refl ∙ ap (λ x. x ∷ bytes) (sym e)
     go false root false is begins = grind (arith, nat_tests, is, begins)
@@ -110,6 +110,6 @@ pub attributes_some : (w : List ℕ) → bad_unless (is_some (attributes_of w)) 
 attributes_some w h = go (has_key (codes "set=") w) refl (set_words (drop 4 w)) refl h
   where
     go : (key : Bool) → has_key (codes "set=") w ≡ key → (o : Option SetWords) → set_words (drop 4 w) ≡ o → bad_unless (is_some (cond {A = Option SetWords} key o None)) ≡ None → words_there (set_rows (unwrap_or (cond {A = Option SetWords} key o None) nothing_set)) ≢ []
-    go false k o is f = cc
-    go true k None is f = cc
+    go false k o is f = absurd (cc)
+    go true k None is f = absurd (cc)
     go true k (Some s) is f = set_some (drop 4 w) s is

@@ -1,5 +1,5 @@
 -- Labels, paths and numbers as they stand in a line are read as what they are.
-use Rattle.std.proofs.Common.{◌≡◌, ◌≢◌, ℕ, ◌<◌, ◌≤◌, ◌^◌, ◌==◌, ◌&&◌, ◌||◌, not, nat_eq, nat_lt, nat_le, cond, Bool, true, false, List, [], ◌∷◌, ◌++◌, length, drop, codes, decimal, Option, Some, None, is_some, unwrap_or, refl, sym, ap, ◌∙◌, arith}
+use Rattle.std.proofs.Common.{◌≡◌, ◌≢◌, ℕ, ◌<◌, ◌≤◌, ◌^◌, ◌==◌, ◌&&◌, ◌||◌, not, nat_eq, nat_lt, nat_le, cond, if◌then◌else◌, Bool, true, false, List, [], ◌∷◌, ◌++◌, length, drop, codes, decimal, Option, Some, None, is_some, unwrap_or, refl, sym, ap, ◌∙◌, arith}
 use Rattle.std.proofs.lemmas.Bool.{and_parts}
 use Rattle.std.proofs.lemmas.Bool.Decides.{nat_tests}
 use Rattle.std.proofs.lemmas.List.Folds.{list_all-append}
@@ -30,7 +30,7 @@ sent_length bytes some nonzero =
     let u = unescaped-sent bytes in
     let full : nat_eq (length (sent bytes)) 0 ≡ false = length_same (sent bytes) bytes u ∙ some in
     let none : list_any (λ b. b == 0) (sent bytes) ≡ false = no_zero (sent bytes) (sent-lacks-zero bytes nonzero) in
-    rw (full, none, u) refl
+    λ i. if full i || none i then None else option_map (λ b. length b) (u i)
 
 pub bytes_back : (bytes : List ℕ) → label_bytes (sent bytes) ≡ bytes
 bytes_back bytes = ap (λ o. unwrap_or o []) (unescaped-sent bytes)
@@ -50,18 +50,23 @@ labelled l h =
     record { some = grind (arith, nat_tests, low); short = grind (arith, nat_tests, high); nonzero = parts.1 }
 
 pub label_fine : (l : List ℕ) → is_label l ≡ true → label_fault (sent l) ≡ None
-label_fine l h = let p = labelled l h in rw (sent_length l p.some p.nonzero, p.short) refl
+label_fine l h =
+    let p = labelled l h in
+    ap (λ o. option_map_or (λ n. refuse_if (nat_lt 255 n) TooLong) o (Some BadLine)) (sent_length l p.some p.nonzero) ∙ ap (λ b. refuse_if b TooLong) p.short
 
 -- paths
 pub record IsGoodPath (names : List (List ℕ)) : Type 0 where
   pub names_are : list_all is_name names ≡ true
   pub short : nat_lt 4095 (length (bytes_of_path names)) ≡ false
 
+name_label : (n : List ℕ) → is_name n ≡ true → is_label n ≡ true
+name_label n h =
+    and_first (is_label n) _ (and_first (is_label n && list_all (λ b. not (b == 47)) n) _ (and_first (is_label n && list_all (λ b. not (b == 47)) n && not (bytes_eq n (codes "."))) _ h))
+
 text_nonzero : (names : List (List ℕ)) → list_all is_name names ≡ true → lacks_byte 0 (names_text names) ≡ true
 text_nonzero [] h = refl
 text_nonzero (n ∷ names) h =
-    let first = and_first (is_name n) (list_all is_name names) h in
-    let label = and_first (is_label n) _ (and_first (is_label n && list_all (λ b. not (b == 47)) n) _ (and_first (is_label n && list_all (λ b. not (b == 47)) n && not (bytes_eq n (codes "."))) _ first)) in
+    let label = name_label n (and_first (is_name n) (list_all is_name names) h) in
     list_all-append (λ b. not (b == 0)) n (names_text names)
     ∙ and-true (lacks_byte 0 n) (lacks_byte 0 (names_text names)) (labelled n label).nonzero (text_nonzero names (and_second (is_name n) (list_all is_name names) h))
 
@@ -72,10 +77,6 @@ path_nonzero (n ∷ names) h = text_nonzero (n ∷ names) h
 path_full : (names : List (List ℕ)) → nat_eq (length (bytes_of_path names)) 0 ≡ false
 path_full [] = refl
 path_full (n ∷ names) = refl
-
-name_label : (n : List ℕ) → is_name n ≡ true → is_label n ≡ true
-name_label n h =
-    and_first (is_label n) _ (and_first (is_label n && list_all (λ b. not (b == 47)) n) _ (and_first (is_label n && list_all (λ b. not (b == 47)) n && not (bytes_eq n (codes "."))) _ h))
 
 -- the text of a path that has a name is more than a slash
 not_slash : (n : List ℕ) (rest : List ℕ) → nat_eq (length n) 0 ≡ false → bytes_eq (47 ∷ (n ++ rest)) (codes "/") ≡ false
@@ -90,14 +91,15 @@ pub components_back : (names : List (List ℕ)) → list_all is_name names ≡ t
 components_back [] h = refl
 components_back (n ∷ names) h =
     let label = labelled n (name_label n (and_first (is_name n) (list_all is_name names) h)) in
-    ap (λ b. cond b [] (drop 1 (pieces 47 (names_text (n ∷ names))))) (not_slash n (names_text names) label.some)
+    ap (λ b. cond {A = List (List ℕ)} b [] (drop 1 (pieces 47 (names_text (n ∷ names))))) (not_slash n (names_text names) label.some)
     ∙ behind_slash (n ++ names_text names) ∙ names_of_text (n ∷ names) h
 
 short_names : (names : List (List ℕ)) → list_all is_name names ≡ true → list_any (λ piece. nat_lt 255 (length piece)) names ≡ false
 short_names [] h = refl
 short_names (n ∷ names) h =
     let short = (labelled n (name_label n (and_first (is_name n) (list_all is_name names) h))).short in
-    rw (short, short_names names (and_second (is_name n) (list_all is_name names) h)) refl
+    let others = short_names names (and_second (is_name n) (list_all is_name names) h) in
+    λ i. short i || others i
 
 no_long : (names : List (List ℕ)) → list_all is_name names ≡ true → has_long_piece (bytes_of_path names) ≡ false
 no_long [] h = refl
@@ -115,7 +117,12 @@ is_path_back names h =
 pub path_fine : (names : List (List ℕ)) → IsGoodPath names → path_fault (sent_path names) ≡ None
 path_fine names p =
     let bytes : List ℕ = bytes_of_path names in
-    rw (sent_length bytes (path_full names) (path_nonzero names p.names_are), bytes_back bytes, p.short, no_long names p.names_are, is_path_back names p.names_are) refl
+    let long = no_long names p.names_are in
+    let path = is_path_back names p.names_are in
+    ap (λ o. option_map_or (λ n. first_fault (refuse_if (nat_lt 4095 n || has_long_piece (label_bytes (sent bytes))) TooLong ∷ refuse_if (not (is_path (label_bytes (sent bytes)))) BadPath ∷ [])) o (Some BadLine))
+    (sent_length bytes (path_full names) (path_nonzero names p.names_are))
+    ∙ ap (λ x. first_fault (refuse_if (nat_lt 4095 (length bytes) || has_long_piece x) TooLong ∷ refuse_if (not (is_path x)) BadPath ∷ [])) (bytes_back bytes)
+    ∙ (λ i. first_fault (refuse_if (p.short i || long i) TooLong ∷ refuse_if (not (path i)) BadPath ∷ []))
 
 pub path_back : (names : List (List ℕ)) → IsGoodPath names → path_names (sent_path names) ≡ names
 path_back names p = ap components (bytes_back (bytes_of_path names)) ∙ components_back names p.names_are
