@@ -34,7 +34,7 @@ fn example_of(word: &str) -> &'static str {
         "reach" => "mountctl reach host container -- host /media/usb",
         "origin" => "mountctl origin host container -- container /media",
         "holders" => "mountctl holders host container -- host /media",
-        "save" => "mountctl mounts.sock save > session",
+        "save" => "mountctl mounts.sock save > saved",
         "page" => "mountctl page < session > page.html",
         "import" => "mountctl import host container > script",
         "explain" => "mountctl explain Busy",
