@@ -21,7 +21,7 @@ use Rattle.mt_setattr.specs.declared.change.SetWords.{SetWords}
 use Rattle.mt_setattr.specs.Words.{nothing_set, sets_two_times, new_with}
 use Rattle.mt_bind.specs.Sources.{fresh_with, source_at, tree_of}
 use Rattle.mt_bind.specs.Mounting.{stands_on_shared, any_unbindable, mounted_refusals, mounted_with, mounted, bound_refusals, bound, moved_refusals, moved, too_many, copied_with_id, mounted_effect, bound_effect, moved_effect}
-use Rattle.mt_bind.specs.Opening.{opened_sources, with_copies, opened_refusals, tree_opened, tree_made}
+use Rattle.mt_bind.specs.Opening.{opened_sources, with_opened, opened_refusals, tree_opened, tree_made}
 use Rattle.mt_bind.specs.Attaching.{whole_tree, has_unbindable, with_attached, attached_refusals, attached}
 use Rattle.mt_bind.specs.Pivoting.{root_id, with_pivot, pivoted_refusals, pivoted}
 
@@ -108,7 +108,7 @@ pub record IsAcceptedOpening (w : WorldView) (n : ℕ) (path : List (List ℕ)) 
   pub bindable : (state_of w (path_end w n path).mount).unbindable ≡ false
   pub few_spaces : too_many_spaces w ≡ false
   pub few : too_many_mounts w (length (opened_sources w recursive (path_end w n path))) ≡ false
-  pub world : with_copies w (opened_sources w recursive (path_end w n path)) ≡ v
+  pub world : with_opened w (opened_sources w recursive (path_end w n path)) ≡ v
   pub number : w.next_space ≡ i
 
 pub opened_accepted : (w : WorldView) (n : ℕ) (path : List (List ℕ)) (recursive : Bool) (v : WorldView) (i : ℕ) → tree_opened w n path recursive ≡ Ok (v, i) → IsAcceptedOpening w n path recursive v i

@@ -11,6 +11,6 @@ pub mod MemberLaws
 pub mod PivotingLaws
 pub mod InsideLaws
 pub mod SourceCopyLaws
-pub mod OpenedLaws
 pub mod OpenedSourceLaws
 pub mod OpeningLaws
+pub mod AttachingLaws

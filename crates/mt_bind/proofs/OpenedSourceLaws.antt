@@ -1,5 +1,5 @@
 -- What a bind copies may be the mounts of a detached tree, once its top stands nowhere.
-use Rattle.std.proofs.Common.{◌≡◌, ◌≢◌, ℕ, ◌<◌, Bool, true, cond, ◌==◌, eq-eqb, List, map, length, Option, Some, None, Ok, refl, sym, ap, subst, ◌∙◌, inl, inr, arith}
+use Rattle.std.proofs.Common.{◌≡◌, ◌≢◌, ℕ, ◌<◌, Bool, cond, eq-eqb, List, map, length, Some, None, Ok, refl, sym, ap, subst, ◌∙◌, inl, inr}
 use Rattle.std.proofs.lemmas.Bool.{cases_eq, ne_eqb}
 use Rattle.std.proofs.lemmas.Option.{none-some}
 use Rattle.mt_skel.specs.Skeleton.{holds, directory}
@@ -21,8 +21,7 @@ use Rattle.mt_propagate.proofs.TreeLaws.{parent-from, parent-is}
 use Rattle.mt_bind.specs.Sources.{source_at}
 use Rattle.mt_bind.specs.Opening.{unplaced_top, opened_sources}
 use Rattle.mt_bind.proofs.MountLaws.{bound_source, bound_top, bound_shows, bound_below}
-use Rattle.mt_bind.proofs.SourceCopyLaws.{AreSources}
-use Rattle.mt_bind.proofs.OpenedLaws.{AreShown}
+use Rattle.mt_bind.proofs.SourceCopyLaws.{AreSources, AreShown}
 
 -- a tree of mounts, the top of which has the ID k
 module _ (w : WorldView) (ms : List Mount) (top : Mount) (t : IsTree w.skel ms top) (k : ℕ) (named : top.id ≡ k) where
@@ -58,10 +57,14 @@ module _ (w : WorldView) (ms : List Mount) (top : Mount) (t : IsTree w.skel ms t
         absurd (none-some p.0 (sym at ∙ ap (λ (m : Mount). m.place) x.2 ∙ other_place x.0 (λ s. off (sym own ∙ s)) ∙ p.2))
   ]
 
+  -- the top stands nowhere
+  pub tree_root : (r : Mount) × (mount_at us r.id ≡ Some r) × (r.place ≡ None)
+  tree_root = (unplaced_top k top, row-mapped id_of (unplaced_top k) (λ m. refl) ms top.id top t.top_there, top_place top named)
+
   pub tree_sources : AreSources w us
   tree_sources = record {
     rising = rises-map id_of (unplaced_top k) (λ m. refl) ms ∙ t.rising;
-    root = (unplaced_top k top, row-mapped id_of (unplaced_top k) (λ m. refl) ms top.id top t.top_there, top_place top named);
+    rooted = λ i m e. tree_root;
     one_root = λ i j m n ei ej pi pj. stands_not i m ei pi ∙ sym (stands_not j n ej pj);
     placed = λ i u p e at.
         let x = stood i u p e at in
@@ -85,6 +88,9 @@ module _ (w : WorldView) (n : ℕ) (from : List (List ℕ)) (recursive : Bool) (
 
   pub opened-sources : AreSources w (opened_sources w recursive p)
   opened-sources = tree_sources w (source_at w recursive p).mounts (source_at w recursive p).top source p.mount (bound_top w n from recursive p h ended)
+
+  pub opened-root : (r : Mount) × (mount_at (opened_sources w recursive p) r.id ≡ Some r) × (r.place ≡ None)
+  opened-root = tree_root w (source_at w recursive p).mounts (source_at w recursive p).top source p.mount (bound_top w n from recursive p h ended)
 
   pub opened-shown : AreShown w (opened_sources w recursive p)
   opened-shown = record {

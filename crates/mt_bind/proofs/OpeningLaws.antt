@@ -1,7 +1,8 @@
 -- A well-formed world stays so where a detached tree is opened, or made of a filesystem.
-use Rattle.std.proofs.Common.{◌≡◌, ℕ, ◌+◌, ◌<◌, ◌==◌, ltb, eqb-true, eq-eqb, Bool, true, List, [], ◌∷◌, ◌++◌, length, Some, Ok, refl, ap, subst, ◌∙◌, inl, inr, arith}
+use Rattle.std.proofs.Common.{◌≡◌, ℕ, ◌<◌, ◌==◌, ltb, eqb-true, eq-eqb, Bool, true, false, List, [], ◌∷◌, ◌++◌, length, Some, Ok, refl, ap, subst, ◌∙◌, inl, inr, arith}
 use Rattle.std.specs.Prelude.{is_some, None}
 use Rattle.std.specs.List.{list_all}
+use Rattle.std.specs.Option.{option_map}
 use Rattle.std.proofs.lemmas.Bool.Decides.{nat_tests}
 use Rattle.mt_skel.specs.Keyed.{among}
 use Rattle.mt_skel.specs.Skeleton.{root_of}
@@ -9,18 +10,19 @@ use Rattle.mt_skel.proofs.ElementLaws.{in_any, any_in, in_append}
 use Rattle.mt_mounts.specs.declared.mount.Mount.{Mount}
 use Rattle.mt_mounts.specs.Forest.{id_of, mount_at, root_mount}
 use Rattle.mt_propagate.specs.World.{WorldView, with_tree}
-use Rattle.mt_propagate.specs.WellFormed.{IsWellFormed, AreTrees}
+use Rattle.mt_propagate.specs.WellFormed.{IsWellFormed}
 use Rattle.mt_propagate.proofs.ListedLaws.{climbs-append}
 use Rattle.mt_propagate.proofs.RowLaws.{in_all, row-second}
 use Rattle.mt_propagate.proofs.DetachedTreeLaws.{tree_low, root_there}
 use Rattle.mt_propagate.proofs.WalkLaws.{number_free}
 use Rattle.mt_bind.specs.Spaces.{with_space}
-use Rattle.mt_bind.specs.Opening.{opened_sources, with_copies, tree_opened, tree_made}
-use Rattle.mt_bind.proofs.SourceCopyLaws.{number, copy, copy-in}
+use Rattle.mt_bind.specs.Copying.{with_copies}
+use Rattle.mt_bind.specs.Opening.{opened_sources, with_opened, tree_opened, tree_made}
+use Rattle.mt_bind.proofs.SourceCopyLaws.{AreSources, AreShown, number, place, copy, copy-in, grown}
+use Rattle.mt_bind.proofs.CopyLaws.{copies-kept}
 use Rattle.mt_bind.proofs.AcceptedLaws.{path_end, fs_of, tree_made_accepted, opened_accepted}
 use Rattle.mt_bind.proofs.SpaceLaws.{new_root, space-kept}
-use Rattle.mt_bind.proofs.OpenedLaws.{opened-kept}
-use Rattle.mt_bind.proofs.OpenedSourceLaws.{opened-sources, opened-shown}
+use Rattle.mt_bind.proofs.OpenedSourceLaws.{opened-sources, opened-root, opened-shown}
 
 -- one of the namespaces of a well-formed world comes to be a tree, with a number above those of all others
 module _ (w : WorldView) (h : IsWellFormed w) (n : ℕ) (above : (k : ℕ) → among w.trees k ≡ true → k < n) (there : is_some (root_mount w.forest n) ≡ true) where
@@ -61,12 +63,19 @@ tree_made_kept w fs h there =
 pub tree_made_keeps : (w : WorldView) (name : List ℕ) (v : WorldView) (i : ℕ) → IsWellFormed w → root_of w.skel (fs_of w name) < length w.skel.directories → tree_made w name ≡ Ok (v, i) → IsWellFormed v
 tree_made_keeps w name v i h there e = subst IsWellFormed (tree_made_accepted w name v i e).world (tree_made_kept w (fs_of w name) h there)
 
--- and an opened one
+-- and copies of mounts do, one of which stands nowhere
+pub opened_kept : (w : WorldView) (h : IsWellFormed w) (ms : List Mount) (a : AreSources w ms) (s : AreShown w ms) → (r : Mount) × (mount_at ms r.id ≡ Some r) × (r.place ≡ None) → IsWellFormed (with_opened w ms)
+unfolding with_copies
+opened_kept w h ms a s r =
+    treed-kept (with_copies w ms false) (copies-kept w h ms a s false) w.next_space (tree_low w h)
+    (root_there (grown w h ms a) w.next_space (number w h ms a r.0.id) (copy w h ms a r.0) (copy-in w h ms a r.0.id r.0 r.1) (ap (option_map (place w h ms a)) r.2) refl)
+
 pub opened_keeps : (w : WorldView) (n : ℕ) (path : List (List ℕ)) (recursive : Bool) (v : WorldView) (i : ℕ) → IsWellFormed w → tree_opened w n path recursive ≡ Ok (v, i) → IsWellFormed v
 opened_keeps w n path recursive v i h e =
     let a = opened_accepted w n path recursive v i e in
     let p = path_end w n path in
-    subst IsWellFormed a.world (opened-kept w h (opened_sources w recursive p) (opened-sources w n path recursive p h a.ended) (opened-shown w n path recursive p h a.ended))
+    subst IsWellFormed a.world
+    (opened_kept w h (opened_sources w recursive p) (opened-sources w n path recursive p h a.ended) (opened-shown w n path recursive p h a.ended) (opened-root w n path recursive p h a.ended))
 
 -- the new namespace has a mount, its root mount
 pub opened_root : (w : WorldView) (n : ℕ) (path : List (List ℕ)) (recursive : Bool) (v : WorldView) (i : ℕ) → IsWellFormed w → tree_opened w n path recursive ≡ Ok (v, i)
@@ -76,5 +85,5 @@ opened_root w n path recursive v i h e =
     let a = opened_accepted w n path recursive v i e in
     let ms = opened_sources w recursive (path_end w n path) in
     let s = opened-sources w n path recursive (path_end w n path) h a.ended in
-    let r = s.root in
+    let r = opened-root w n path recursive (path_end w n path) h a.ended in
     subst (λ (v : WorldView). (j : ℕ) × (m : Mount) × (mount_at v.forest j ≡ Some m) × (m.space ≡ w.next_space)) a.world (number w h ms s r.0.id, copy w h ms s r.0, copy-in w h ms s r.0.id r.0 r.1, refl)

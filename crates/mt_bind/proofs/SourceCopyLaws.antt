@@ -9,7 +9,7 @@ use Rattle.std.proofs.lemmas.List.{map-append, length-map}
 use Rattle.mt_skel.specs.Keyed.{rises}
 use Rattle.mt_skel.proofs.KeyedLaws.{numbered-map}
 use Rattle.mt_skel.specs.Chain.{ends}
-use Rattle.mt_skel.specs.Skeleton.{holds}
+use Rattle.mt_skel.specs.Skeleton.{directory, holds}
 use Rattle.mt_skel.proofs.SortedLaws.{rises-keys}
 use Rattle.mt_mounts.specs.declared.mount.Mount.{Mount}
 use Rattle.mt_mounts.specs.declared.mount.Place.{Place}
@@ -17,23 +17,31 @@ use Rattle.mt_mounts.specs.Forest.{id_of, mount_at, parent}
 use Rattle.mt_mounts.proofs.SlotLaws.{none_found}
 use Rattle.mt_peers.proofs.MakingLaws.{place-lt, place-same}
 use Rattle.mt_propagate.specs.World.{WorldView}
-use Rattle.mt_propagate.specs.WellFormed.{HasDistinctPlaces, IsWellFormed, IsForest}
+use Rattle.mt_propagate.specs.WellFormed.{HasDistinctPlaces, IsWellFormed, IsForest, fs_at}
 use Rattle.mt_propagate.proofs.ListedLaws.{map-map, below-all, climbs-append}
 use Rattle.mt_propagate.proofs.RowLaws.{among-keys, length-keys, distinct-keys, row-renamed, renamed-row, appended-row, row-first, row-second}
 use Rattle.mt_propagate.proofs.AddedLaws.{parent_id}
 use Rattle.mt_propagate.proofs.NumberLaws.{climbs}
 use Rattle.mt_propagate.proofs.TreeLaws.{parent-from, ends-like, ends-more, ends-none}
 use Rattle.mt_bind.specs.Copying.{copy_number, copy_of}
-use Rattle.mt_bind.proofs.NamespaceCopyLaws.{each_way}
 
--- mounts that are one tree, the top of which stands nowhere
+-- each of two things that are one way or another
+pub each_way : {A B C D R : Type 0} → A ⊎ B → C ⊎ D → (A → C → R) → (A → D → R) → (B → C → R) → (B → D → R) → R
+each_way x y f g k l = elim x [ inl a ↦ elim y [ inl c ↦ f a c | inr d ↦ g a d ] | inr b ↦ elim y [ inl c ↦ k b c | inr d ↦ l b d ] ]
+
+-- mounts that are one tree, the top of which stands nowhere, or none
 pub record AreSources (w : WorldView) (ms : List Mount) : Type 0 where
   pub rising : rises id_of ms ≡ true
-  pub root : (r : Mount) × (mount_at ms r.id ≡ Some r) × (r.place ≡ None)
+  pub rooted : (i : ℕ) (m : Mount) → mount_at ms i ≡ Some m → (r : Mount) × (mount_at ms r.id ≡ Some r) × (r.place ≡ None)
   pub one_root : (i j : ℕ) (m n : Mount) → mount_at ms i ≡ Some m → mount_at ms j ≡ Some n → m.place ≡ None → n.place ≡ None → i ≡ j
   pub placed : (i : ℕ) (m : Mount) (p : Place) → mount_at ms i ≡ Some m → m.place ≡ Some p → (q : Mount) × (mount_at ms p.mount ≡ Some q) × IsTrue (holds w.skel q.root p.dir)
   pub apart : HasDistinctPlaces ms
   pub no_cycle : (i : ℕ) → IsTrue (ends (parent ms) (length ms) i)
+
+-- the mounts are there, and show directories that are there, of the filesystems that they show there
+pub record AreShown (w : WorldView) (ms : List Mount) : Type 0 where
+  pub shows : (i : ℕ) (m : Mount) → mount_at ms i ≡ Some m → (x : Mount) × (mount_at w.forest i ≡ Some x) × ((directory w.skel m.root).fs ≡ fs_at w i)
+  pub low : (i : ℕ) (m : Mount) → mount_at ms i ≡ Some m → m.root < length w.skel.directories
 
 module _ (w : WorldView) (h : IsWellFormed w) (ms : List Mount) (a : AreSources w ms) where
   abbrev pub ids : List ℕ
@@ -212,13 +220,14 @@ module _ (w : WorldView) (h : IsWellFormed w) (ms : List Mount) (a : AreSources 
         (λ cx cb. copy-places i j x b p cx cb px pb);
     rooted = λ i m e. elim (row-of i m e) [
       | inl old ↦ let r = h.forest.rooted i m old in (r.0, r.1, old-in r.0 r.1 r.2, r.3, r.4)
-      | inr c ↦ (
-        number a.root.0.id,
-        copy a.root.0,
-        copy-in a.root.0.id a.root.0 a.root.1,
-        ap (option_map place) a.root.2,
-        ap (λ (m : Mount). m.space) (sym c.made),
-      )
+      | inr c ↦
+          let r = a.rooted c.source.id c.source c.there in (
+            number r.0.id,
+            copy r.0,
+            copy-in r.0.id r.0 r.1,
+            ap (option_map place) r.2,
+            ap (λ (m : Mount). m.space) (sym c.made),
+          )
     ];
     one_root = λ i j x b ex eb px pb same. each_way (row-of i x ex) (row-of j b eb)
         (λ ox ob. h.forest.one_root i j x b ox ob px pb same)

@@ -1,6 +1,6 @@
 -- Detached trees come to stand at a place.
 -- A word with no source is this project's rule.
-use Rattle.std.specs.Prelude.{ℕ, Bool, true, not, cond, ◌&&◌, ◌==◌, List, [], ◌∷◌, map, Option, is_some, Result}
+use Rattle.std.specs.Prelude.{ℕ, Bool, true, not, ◌&&◌, ◌==◌, List, [], ◌∷◌, Option, is_some, Result}
 use Rattle.std.specs.List.{list_any}
 use Rattle.std.specs.Option.{unwrap_or}
 use Rattle.mt_skel.specs.declared.fault.Fault.{Fault}
@@ -10,7 +10,7 @@ use Rattle.mt_mounts.specs.declared.mount.Mount.{Mount}
 use Rattle.mt_mounts.specs.declared.mount.Place.{Place}
 use Rattle.mt_mounts.specs.Forest.{mounts_in, root_mount}
 use Rattle.mt_mounts.specs.Walk.{walk}
-use Rattle.mt_propagate.specs.World.{WorldView, is_space, is_tree, with_ended_tree, state_of, group_of, space_of}
+use Rattle.mt_propagate.specs.World.{WorldView, is_space, is_tree, state_of, group_of}
 use Rattle.mt_propagate.specs.Named.{unknown, place_or_nowhere, is_root_place}
 use Rattle.mt_propagate.specs.Copies.{Source}
 use Rattle.mt_propagate.specs.Copied.{copied}
@@ -25,16 +25,10 @@ module _ (w : WorldView) (tree : ℕ) where
   abbrev pub has_unbindable : Bool
   has_unbindable = list_any (λ (m : Mount). (state_of w m.id).unbindable) (mounts_in w.forest tree)
 
-  -- a mount of the tree gets another namespace
-  abbrev pub rehomed : ℕ → Mount → Mount
-  rehomed space m = record m { space = cond (m.space == tree) space m.space }
-
   -- the mounts of the tree stand at the place and are of its namespace, and copies of them at the targets; the tree is no namespace any
   -- more (move_mount(2); `sharedsubtree`, move semantics)
-  unfoldable pub with_attached : Place → WorldView
-  with_attached p =
-      let v : WorldView = copied w whole_tree p in
-      with_ended_tree (record v { forest = map (rehomed (space_of w p.mount)) v.forest }) tree
+  abbrev pub with_attached : Place → WorldView
+  with_attached p = copied w whole_tree p
 
   -- the refusals, where the path was found to lead there: the tree is one, and comes neither into itself nor with an unbindable mount
   -- below a shared one (move_mount(2), EINVAL; `sharedsubtree`, move semantics; their order, and that a root place is no destination:

@@ -1,18 +1,17 @@
 -- Detached trees, which are namespaces: opened as copies of what is mounted where a path ends, and made of a filesystem.
 -- A word with no source is this project's rule.
-use Rattle.std.specs.Prelude.{ℕ, ◌+◌, Bool, false, cond, ◌==◌, List, [], ◌∷◌, ◌++◌, map, length, Option, None, Result}
+use Rattle.std.specs.Prelude.{ℕ, Bool, false, cond, ◌==◌, List, [], ◌∷◌, map, length, Option, None, Result}
 use Rattle.mt_skel.specs.declared.fault.Fault.{Fault}
 use Rattle.mt_skel.specs.declared.fault.Fault.TheVariants.{Unbindable, TooMany}
 use Rattle.mt_skel.specs.Outcome.{refuse_if, refusal_of, outcome}
 use Rattle.mt_skel.specs.Skeleton.{fs_named}
 use Rattle.mt_mounts.specs.declared.mount.Mount.{Mount}
 use Rattle.mt_mounts.specs.declared.mount.Place.{Place}
-use Rattle.mt_mounts.specs.Forest.{id_of}
 use Rattle.mt_mounts.specs.Walk.{walk}
 use Rattle.mt_propagate.specs.World.{WorldView, with_tree, state_of}
 use Rattle.mt_propagate.specs.Named.{place_or_nowhere}
 use Rattle.mt_propagate.specs.Limits.{too_many_mounts, too_many_spaces}
-use Rattle.mt_bind.specs.Copying.{copy_of, peer_of}
+use Rattle.mt_bind.specs.Copying.{with_copies}
 use Rattle.mt_bind.specs.Sources.{source_at}
 use Rattle.mt_bind.specs.Spaces.{new_space_refusals, new_space_effect}
 
@@ -26,14 +25,8 @@ opened_sources w recursive p = map (unplaced_top p.mount) (source_at w recursive
 
 -- one detached tree more, of copies of these mounts, which are peers of their sources or slaves of the same masters (open_tree(2);
 -- `sharedsubtree`, clone namespace)
-unfoldable pub with_copies : WorldView → List Mount → WorldView
-with_copies w sources = record w {
-  forest = w.forest ++ map (copy_of w (map id_of sources)) sources;
-  peering = record w.peering { peers = w.peering.peers ++ map (peer_of w (map id_of sources) false) sources };
-  next_mount = w.next_mount + length sources;
-  next_space = w.next_space + 1;
-  trees = w.trees ++ w.next_space ∷ [];
-}
+abbrev pub with_opened : WorldView → List Mount → WorldView
+with_opened w sources = with_tree (with_copies w sources false) w.next_space
 
 -- the refusals of an opening, where its path was found to lead there (open_tree(2), EINVAL; the limits: this project's rule)
 abbrev pub opened_refusals : WorldView → Bool → Result Place Fault → List (Option Fault)
@@ -45,7 +38,7 @@ opened_refusals w recursive at =
     ∷ refuse_if (too_many_mounts w (length (opened_sources w recursive p))) TooMany ∷ []
 
 abbrev pub opened_effect : WorldView → Bool → Result Place Fault → WorldView × ℕ
-opened_effect w recursive at = (with_copies w (opened_sources w recursive (place_or_nowhere at)), w.next_space)
+opened_effect w recursive at = (with_opened w (opened_sources w recursive (place_or_nowhere at)), w.next_space)
 
 -- a detached tree of what is mounted where a path ends, and its number (open_tree(2), OPEN_TREE_CLONE)
 abbrev pub tree_opened : WorldView → ℕ → List (List ℕ) → Bool → Result (WorldView × ℕ) Fault

@@ -1,6 +1,6 @@
 -- New namespaces: with one private mount, and as a copy of another; and the end of a namespace.
 -- A word with no source is this project's rule.
-use Rattle.std.specs.Prelude.{ℕ, ◌+◌, Bool, not, ◌==◌, List, [], ◌∷◌, ◌++◌, map, length, Option, None, is_none, Result}
+use Rattle.std.specs.Prelude.{ℕ, ◌+◌, Bool, not, ◌==◌, List, [], ◌∷◌, ◌++◌, length, Option, None, is_none, Result}
 use Rattle.std.specs.Option.{unwrap_or}
 use Rattle.mt_skel.specs.declared.fault.Fault.{Fault}
 use Rattle.mt_skel.specs.declared.fault.Fault.TheVariants.{NoFilesystem, NoNamespace, TooMany, Detached}
@@ -9,11 +9,11 @@ use Rattle.mt_skel.specs.Outcome.{refuse_if, outcome}
 use Rattle.mt_skel.specs.Skeleton.{fs_named, root_of}
 use Rattle.mt_mounts.specs.declared.mount.Mount.{Mount}
 use Rattle.mt_mounts.specs.Attrs.{new_attrs}
-use Rattle.mt_mounts.specs.Forest.{id_of, mounts_in}
+use Rattle.mt_mounts.specs.Forest.{mounts_in}
 use Rattle.mt_peers.specs.Loss.{left}
-use Rattle.mt_propagate.specs.World.{WorldView, is_space, is_tree, private, state_of, space_of}
+use Rattle.mt_propagate.specs.World.{WorldView, is_space, is_tree, private, space_of}
 use Rattle.mt_propagate.specs.Limits.{too_many_mounts, too_many_spaces}
-use Rattle.mt_bind.specs.Copying.{copy_number, copy_of, state_of_copy}
+use Rattle.mt_bind.specs.Copying.{with_copies}
 
 -- the root mount of the next namespace, which shows the root of a filesystem
 abbrev pub next_root : WorldView → ℕ → Mount
@@ -52,13 +52,8 @@ module _ (w : WorldView) (n : ℕ) where
   originals = mounts_in w.forest n
 
   -- a copy of each mount of a namespace, in a new one (`sharedsubtree`, clone namespace)
-  unfoldable pub with_copy : Bool → WorldView
-  with_copy less = record w {
-    forest = w.forest ++ map (copy_of w (map id_of originals)) originals;
-    peering = record w.peering { peers = w.peering.peers ++ map (λ m. record { mount = copy_number w (map id_of originals) m.id; state = state_of_copy less (state_of w m.id) }) originals };
-    next_mount = w.next_mount + length originals;
-    next_space = w.next_space + 1;
-  }
+  abbrev pub with_copy : Bool → WorldView
+  with_copy less = with_copies w originals less
 
   -- the refusals of a copy of a namespace, which is no detached tree (that it is not copied: this project's rule)
   abbrev pub copy_space_refusals : List (Option Fault)

@@ -1,18 +1,15 @@
 //! Detached trees come to stand at places.
-ghost use Rattle.std.specs.Prelude.{◌≡◌, ◌≢◌, ◌*◌, ◌<◌, ◌≤◌, ◌^◌, cond, true, map, length, IfOk, IfErr, OnOk, OnErr, IsOkUnless, Ok, Err};
-ghost use Rattle.mt_skel.specs.Keyed.{among};
-ghost use Rattle.mt_mounts.specs.declared.mount.Mount.{Mount as AnyMount};
+ghost use Rattle.std.specs.Prelude.{◌≡◌, ◌≢◌, ◌<◌, ◌^◌, true, IfErr, OnOk, OnErr, Ok, Err};
 ghost use Rattle.mt_propagate.specs.Plans.{source_of, copied_source};
 ghost use Rattle.mt_propagate.specs.World.{world_view, root_dir};
-ghost use Rattle.mt_propagate.specs.WellFormed.{HasDistinctPlaces, IsWellFormed};
+ghost use Rattle.mt_propagate.specs.WellFormed.{IsWellFormed};
 ghost use Rattle.mt_propagate.specs.Touched.{since_view};
 ghost use Rattle.mt_bind.specs.Attaching.{attached};
 
 use crate::dropping::ids_in;
 use crate::moving::is_unbindable_inside;
-use mt_mounts::forest::Forest;
-use mt_mounts::mount::{Mount, MountId, SpaceId};
-use mt_propagate::carry::{carry_out, ready_with};
+use mt_mounts::mount::{MountId, SpaceId};
+use mt_propagate::carry::{carry_out, ready};
 use mt_propagate::copies::{Sources, mount_or_unknown};
 use mt_propagate::named::is_root_place;
 use mt_propagate::plan::make_plan;
@@ -20,33 +17,16 @@ use mt_propagate::world::World;
 use mt_skel::fault::Fault;
 use mt_skel::name::Name;
 
-/// Gives these mounts, each of which stands on another one, another namespace. It needs no memory: `Forest::reserve` has
-/// made room, as for twice as many more mounts.
-fn rehome(forest: &mut Forest, ids: &[MountId], space: SpaceId)
-    requires room { 2 * length ids.now ≤ forest.old.room }
-    requires apart { HasDistinctPlaces forest.old.mounts }
-    ensures mounts { forest.new.mounts ≡ map (λ (m : AnyMount). record m { space = cond (among ids.now m.id) space m.space }) forest.old.mounts }
-    ensures since { forest.new.since ≡ forest.old.since }
-{
-    for id in ids {
-        if let Some(mount) = forest.get(*id) {
-            forest.remove(*id);
-            forest.insert(Mount { space, ..mount });
-        }
-    }
-}
-
 /// All mounts of a tree, of which these are the IDs, with its root mount as their top.
-fn whole_tree(world: &World, top: MountId, ids: &[MountId]) -> Result<Sources, Fault>
-    ensures sources { IfOk result (λ sources. source_of (world_view world.now) sources ≡ copied_source (world_view world.now) top (root_dir (world_view world.now) top) ids.now true) }
-    ensures memory { IsOkUnless result Fault.NoMemory }
+fn whole_tree(world: &World, top: MountId, ids: Vec<MountId>) -> Sources
+    ensures { source_of (world_view world.now) result ≡ copied_source (world_view world.now) top (root_dir (world_view world.now) top) ids.items true }
 {
-    Ok(Sources::Tree {
+    Sources::Tree {
         top,
         root: mount_or_unknown(world, top).root,
-        members: Vec::from_slice(world.forest.allocator(), ids)?,
+        members: ids,
         moved: true,
-    })
+    }
 }
 
 /// Moves all mounts of a detached tree to where a path ends in a namespace, which may be another tree, and makes copies of
@@ -88,11 +68,9 @@ pub fn move_tree(
     if is_unbindable_inside(world, place, &ids) {
         return Err(Fault::UnbindableInside);
     }
-    let sources = whole_tree(world, top, &ids)?;
+    let sources = whole_tree(world, top, ids);
     let plan = make_plan(world, &sources, place)?;
-    ready_with(world, &plan, 2 * ids.len())?;
+    ready(world, &plan)?;
     carry_out(world, plan);
-    rehome(&mut world.forest, &ids, space);
-    world.end_tree(tree);
     Ok(())
 }

@@ -11,9 +11,11 @@ use Rattle.mt_skel.specs.Skeleton.{IsSkeleton}
 use Rattle.mt_propagate.specs.World.{WorldView}
 use Rattle.mt_propagate.specs.WellFormed.{IsWellFormed}
 use Rattle.mt_propagate.specs.Contained.{IsContained, IsSameOutside}
+use Rattle.mt_bind.specs.Copying.{with_copies}
 use Rattle.mt_bind.specs.Spaces.{with_copy}
 use Rattle.mt_bind.proofs.AcceptedLaws.{copy_space_accepted, drop_space_accepted}
-use Rattle.mt_bind.proofs.InsideLaws.{mount_contained, mount_outside, bind_contained, bind_outside, move_contained, move_outside, made_contained, copied_contained, less_copied, end_contained, end_outside, tree_made_contained, opened_contained, attached_contained}
+use Rattle.mt_bind.proofs.InsideLaws.{mount_contained, mount_outside, bind_contained, bind_outside, move_contained, move_outside, made_contained, copied_contained, less_copied, end_contained, end_outside, tree_made_contained, opened_contained}
+use Rattle.mt_bind.proofs.AttachingLaws.{attached_contained}
 use Rattle.mt_bind.proofs.PivotingLaws.{pivoted_contained, pivoted_outside}
 use Rattle.mt_unmount.proofs.InsideLaws.{unmounted-contained, unmounted-outside, detached-contained, detached-outside}
 use Rattle.mt_setattr.specs.Words.{nothing_set}
@@ -117,7 +119,7 @@ stands_inside n w c s is k off = next_by (λ v. table_of v k ≡ table_of w k) w
 
 -- a less privileged copy, as it is made
 new_given : (w : WorldView) (k : ℕ) → w.next_space < (with_copy w k true).next_space
-unfolding with_copy
+unfolding with_copies
 new_given w k = omega arith
 
 less_stands : (w : WorldView) (m n : ℕ) (v : WorldView) → IsGood w → step w (CopySpace m true) ≡ Ok (v, Number n) → Stands n v

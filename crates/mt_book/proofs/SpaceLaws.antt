@@ -2,7 +2,7 @@
 -- posts between these two.
 use Rattle.std.proofs.Common.{◌≡◌, ◌⊎◌, inl, inr, ℕ, ◌<◌, ◌≤◌, Bool, true, false, cond, ◌==◌, eqb-true, eq-eqb, List, [], ◌∷◌, ◌++◌, map, length, Some, None, Ok, refl, sym, ap, ◌∙◌, subst, arith, true≢false}
 use Rattle.std.specs.List.{filter}
-use Rattle.std.proofs.lemmas.Bool.{false_from_ne_true}
+use Rattle.std.proofs.lemmas.Bool.{cases_eq, false_from_ne_true}
 use Rattle.std.proofs.lemmas.Bool.Decides.{nat_tests}
 use Rattle.mt_skel.specs.Keyed.{without}
 use Rattle.mt_skel.specs.Skeleton.{IsSkeleton}
@@ -13,22 +13,24 @@ use Rattle.mt_mounts.specs.Forest.{id_of, mount_at}
 use Rattle.mt_propagate.specs.World.{WorldView, is_space, space_of, with_tree}
 use Rattle.mt_propagate.specs.WellFormed.{IsWellFormed}
 use Rattle.mt_propagate.specs.Receivers.{targets}
-use Rattle.mt_propagate.specs.Places.{relocated, new_mounts, copied_mount}
+use Rattle.mt_propagate.specs.Places.{arranged, new_mounts, copied_mount}
 use Rattle.mt_propagate.specs.Copies.{Source, destinations}
 use Rattle.mt_propagate.specs.Copied.{copied}
 use Rattle.mt_propagate.proofs.RowLaws.{mapped-row, row-second, appended-row, kept-row}
 use Rattle.mt_propagate.proofs.CopyRowLaws.{space_is}
 use Rattle.mt_propagate.proofs.WalkLaws.{StandsIn, walked, number_free}
-use Rattle.mt_propagate.proofs.ListedLaws.{relocated-id, relocated-space}
+use Rattle.mt_propagate.proofs.ListedLaws.{arranged-id, arranged-here, arranged-still, arranged-away, arranged-either}
+use Rattle.mt_propagate.proofs.DetachedTreeLaws.{space_root}
 use Rattle.mt_bind.specs.Spaces.{with_space, with_copy, originals, without_space}
-use Rattle.mt_bind.specs.Copying.{copy_number, copy_of}
+use Rattle.mt_bind.specs.Copying.{copy_number, copy_of, with_copies}
 use Rattle.mt_bind.specs.Pivoting.{pivoted_mount, with_pivot}
-use Rattle.mt_bind.specs.Opening.{with_copies}
-use Rattle.mt_bind.specs.Attaching.{whole_tree, rehomed, with_attached}
+use Rattle.mt_bind.specs.Attaching.{whole_tree}
 use Rattle.mt_bind.proofs.AcceptedLaws.{path_end, new_space_accepted, copy_space_accepted, drop_space_accepted, tree_made_accepted, attached_accepted}
+use Rattle.mt_bind.proofs.AttachingLaws.{whole_moves, whole_space}
 use Rattle.mt_bind.proofs.OpeningLaws.{opened_root}
 use Rattle.mt_bind.proofs.SpaceLaws.{new_root}
-use Rattle.mt_bind.proofs.NamespaceCopyLaws.{copy-in}
+use Rattle.mt_bind.proofs.SourceCopyLaws.{copy-in}
+use Rattle.mt_bind.proofs.NamespaceCopyLaws.{original, originals-are}
 use Rattle.mt_setattr.specs.Change.{changed_mount, is_chosen, with_change}
 use Rattle.mt_info.specs.declared.row.Row.{Row}
 use Rattle.mt_info.specs.Table.{row_of, table_of}
@@ -75,30 +77,26 @@ from_more n w old more was new i m e none s = elim (appended-row id_of old more 
 ]
 
 -- each copy of a mount has a place
-copies_from : (n : ℕ) (w : WorldView) (src : Source) (p : Place) → ComesFrom n w (map (relocated w src p) w.forest ++ new_mounts w src p)
-copies_from n w src p = from_more n w _ (new_mounts w src p) (was_mapped n w (relocated w src p) w.forest (relocated-id w src p) (relocated-space w src p) (was_all n w)) (λ m there none.
+new_placed : (w : WorldView) (src : Source) (p : Place) (m : Mount) → In m (new_mounts w src p) → m.place ≡ None → ⊥
+new_placed w src p m there none =
     let at = in_flat (λ t. map (copied_mount w src p t) src.mounts) m (cond src.moved (targets w p) (destinations w src p)) there in
     let x = in_map (copied_mount w src p at.0) m src.mounts at.2 in
     let bad : (copied_mount w src p at.0 x.0).place ≡ None = ap (λ (y : Mount). y.place) x.2 ∙ none in
-    absurd (cc))
+    absurd (cc)
 
--- what is attached is of the namespace of the place, which was there
-attached_from : (n k tree : ℕ) (w : WorldView) (p : Place) → StandsIn w k p → ComesFrom n w (with_attached w tree p).forest
-unfolding with_attached copied
-attached_from n k tree w p on i m e none s =
-    let src = whole_tree w tree in
-    let home = rehomed w tree (space_of w p.mount) in
-    let all = map (relocated w src p) w.forest ++ new_mounts w src p in
-    let x = mapped-row id_of home (λ y. refl) all i m e in
-    by x.0 x.1 (ap (λ (y : Mount). y.place) (sym x.2) ∙ none) (x.0.space == tree) refl (ap (λ (y : Mount). y.space) (sym x.2) ∙ s)
-  where
-    by : (y : Mount) → mount_at (map (relocated w (whole_tree w tree) p) w.forest ++ new_mounts w (whole_tree w tree) p) i ≡ Some y → y.place ≡ None
-        → (b : Bool) → (y.space == tree) ≡ b → cond b (space_of w p.mount) y.space ≡ n → Has n w ⊎ (w.next_space ≤ n)
-    by y at bare true is t = inl (record { id = p.mount; mount = on.0; there = on.1; space = sym (space_is w p.mount on.0 on.1) ∙ t })
-    by y at bare false is t = copies_from n w (whole_tree w tree) p i y at bare t
+copies_from : (n : ℕ) (w : WorldView) (src : Source) (p : Place) → WasThere n w (map (arranged w src p) w.forest) → ComesFrom n w (map (arranged w src p) w.forest ++ new_mounts w src p)
+copies_from n w src p was = from_more n w _ (new_mounts w src p) was (λ m there none. absurd (new_placed w src p m there none))
+
+-- what comes to another namespace comes to that of the place, which was there
+was_arranged : (n k : ℕ) (w : WorldView) (src : Source) (p : Place) → StandsIn w k p → WasThere n w (map (arranged w src p) w.forest)
+was_arranged n k w src p on i m e s =
+    let x = mapped-row id_of (arranged w src p) (arranged-id w src p) w.forest i m e in
+    arranged-either w src p (λ j. j ≡ n → Has n w) x.0 (λ t. was_all n w i x.0 x.1 t)
+    (λ t. record { id = p.mount; mount = on.0; there = on.1; space = sym (space_is w p.mount on.0 on.1) ∙ t })
+    (ap (λ (y : Mount). y.space) (sym x.2) ∙ s)
 
 step_from : (n : ℕ) (w : WorldView) (c : Command) (v : WorldView) (r : Reply) → IsWellFormed w → step w c ≡ Ok (v, r) → ComesFrom n w v.forest
-unfolding with_space with_copy without_space copied with_pivot with_change with_copies
+unfolding with_space with_copies without_space copied with_pivot with_change
 step_from n w c v r g e = effect w c v r (λ x. ComesFrom n w x.forest) e (record {
   skel = λ t made. from_before n w _ (was_all n w);
   space = λ f. from_more n w w.forest _ (was_all n w) (λ m there none. elim there [
@@ -109,7 +107,7 @@ step_from n w c v r g e = effect w c v r (λ x. ComesFrom n w x.forest) e (recor
       let x = in_map (copy_of w (map id_of (originals w k))) m (originals w k) there in
       omega (arith, ap (λ (y : Mount). y.space) x.2));
   end = λ k is. from_before n w _ (was_left n w _ g);
-  copies = λ src p. copies_from n w src p;
+  copies = λ src p still. copies_from n w src p (was_mapped n w (arranged w src p) w.forest (arranged-id w src p) (arranged-still w src p still) (was_all n w));
   pivot = λ i j p. from_before n w _ (was_mapped n w (pivoted_mount i j p) w.forest (λ m. refl) (λ m. refl) (was_all n w));
   gone = λ goes can. from_before n w _ (was_mapped n w _ _ (λ m. refl) (λ m. refl) (was_left n w _ g));
   change = λ change i. from_before n w _ (was_mapped n w (changed_mount change (is_chosen w change i)) w.forest (λ m. refl) (λ m. refl) (was_all n w));
@@ -120,7 +118,7 @@ step_from n w c v r g e = effect w c v r (λ x. ComesFrom n w x.forest) e (recor
   opened = λ sources. from_more n w w.forest _ (was_all n w) (λ m there none.
       let x = in_map (copy_of w (map id_of sources)) m sources there in
       omega (arith, ap (λ (y : Mount). y.space) x.2));
-  attached = λ tree k path is apart p there. attached_from n k tree w p (there g);
+  attached = λ tree k path is there apart p on. copies_from n w (whole_tree w tree) p (was_arranged n k w (whole_tree w tree) p (on g));
 })
 
 -- the table of a namespace that is there has a row
@@ -142,8 +140,8 @@ root_has w f h =
     record { id = w.next_mount; mount = new_root w f; there = row-second id_of w.forest (new_root w f ∷ []) w.next_mount (new_root w f) (number_free w h) here; space = refl }
 
 copy_has : (w : WorldView) (k : ℕ) (less : Bool) → IsWellFormed w → Has k w → Has w.next_space (with_copy w k less)
-unfolding with_copy
-copy_has w k less h x = record { id = copy_number w (map id_of (originals w k)) x.id; mount = _; there = copy-in w h k x.id x.mount x.there x.space; space = refl }
+unfolding with_copies
+copy_has w k less h x = record { id = copy_number w (map id_of (originals w k)) x.id; mount = _; there = copy-in w h (originals w k) (originals-are w h k) x.id x.mount (original w h k x.id x.mount x.there x.space); space = refl }
 
 tree_has : (w : WorldView) (f : ℕ) → IsWellFormed w → Has w.next_space (with_tree (with_space w f) w.next_space)
 tree_has w f h = let x = root_has w f h in record { id = x.id; mount = x.mount; there = x.there; space = x.space }
@@ -178,20 +176,26 @@ dropped_ends w v r n g s e = false_from_ne_true (is_space v n) (λ is.
 
 -- and one that is attached
 attached_ends : (w : WorldView) (v : WorldView) (r : Reply) (tree k : ℕ) (path : List (List ℕ)) → IsWellFormed w → IsSkeleton w.skel → step w (MoveTree tree k path) ≡ Ok (v, r) → is_space v tree ≡ false
-unfolding step with_attached copied
+unfolding step copied
 attached_ends w v r tree k path g s e = false_from_ne_true (is_space v tree) (λ is.
-    let x = space_has tree v (step_kept w (MoveTree tree k path) v r g s e).0 is in
+    let kept = (step_kept w (MoveTree tree k path) v r g s e).0 in
     let a = attached_accepted w tree k path v (done_ok _ v r e) in
     let p = path_end w k path in
     let src = whole_tree w tree in
-    let at : mount_at (with_attached w tree p).forest x.id ≡ Some x.mount = ap (λ (y : WorldView). mount_at y.forest x.id) a.world ∙ x.there in
-    let y = mapped-row id_of (rehomed w tree (space_of w p.mount)) (λ m. refl) (map (relocated w src p) w.forest ++ new_mounts w src p) x.id x.mount at in
-    let on = (walked w k g path p a.ended).0 in
-    let home : space_of w p.mount ≡ k = space_is w p.mount on.0 on.1 ∙ on.2 in
-    away y.0.space (space_of w p.mount) tree (ap (λ j. j == tree) home ∙ a.apart) (ap (λ (m : Mount). m.space) (sym y.2) ∙ x.space))
-  where
-    away : (old home gone : ℕ) → (home == gone) ≡ false → cond (old == gone) home old ≡ gone → ⊥
-    away old home gone apart same = grind (arith, nat_tests)
+    let root = space_root v.forest kept.forest.rising tree is in
+    let at : mount_at (copied w src p).forest root.0.id ≡ Some root.0 = ap (λ (y : WorldView). mount_at y.forest root.0.id) a.world ∙ root.1 in
+    elim (appended-row id_of (map (arranged w src p) w.forest) (new_mounts w src p) root.0.id root.0 at) [
+      | inl old ↦
+          let y = mapped-row id_of (arranged w src p) (arranged-id w src p) w.forest root.0.id root.0 old in
+          let on = (walked w k g path p a.ended).0 in
+          let home : space_of w p.mount ≡ k = space_is w p.mount on.0 on.1 ∙ on.2 in
+          let here = ap (λ (m : Mount). m.space) (sym y.2) ∙ root.3 in
+          elim (cases_eq y.0.space src.top.space) [
+            | inl same ↦ true≢false (sym (eq-eqb k tree (sym home ∙ sym (arranged-here w src p (whole_moves w tree) y.0 same) ∙ here)) ∙ a.apart)
+            | inr off ↦ off (sym (arranged-away w src p y.0 off) ∙ here ∙ sym (whole_space w tree a.there))
+          ]
+      | inr new ↦ new_placed w src p root.0 (row_in id_of root.0.id (new_mounts w src p) root.0 new) root.2
+    ])
 
 -- so is each one that a command ends
 pub step_ends : (w : WorldView) (c : Command) (v : WorldView) (r : Reply) (n : ℕ) → IsWellFormed w → IsSkeleton w.skel → step w c ≡ Ok (v, r) → ends_space n c ≡ true → is_space v n ≡ false

@@ -1,10 +1,12 @@
 -- Detached trees stay namespaces that are there.
-use Rattle.std.proofs.Common.{◌≡◌, ℕ, ◌<◌, true, List, Option, Some, None, refl, ap, ◌∙◌, arith}
+use Rattle.std.proofs.Common.{◌≡◌, ◌≢◌, ℕ, ◌<◌, ◌==◌, true, not, eqb-true, eq-eqb, List, Option, Some, None, refl, sym, ap, ◌∙◌, arith}
 use Rattle.std.specs.Prelude.{is_none, is_some}
+use Rattle.std.proofs.lemmas.Bool.{true≢false}
 use Rattle.std.proofs.lemmas.Bool.Decides.{nat_tests}
-use Rattle.mt_skel.specs.Keyed.{among, rises}
+use Rattle.mt_skel.specs.Keyed.{among, rises, without}
 use Rattle.mt_skel.specs.Skeleton.{Skeleton}
-use Rattle.mt_skel.proofs.ElementLaws.{row_in, in_found}
+use Rattle.mt_skel.proofs.KeyedLaws.{rises-filter}
+use Rattle.mt_skel.proofs.ElementLaws.{in_filter, in_any, any_in, row_in, in_found}
 use Rattle.mt_mounts.specs.declared.mount.Mount.{Mount}
 use Rattle.mt_mounts.specs.declared.mount.Place.{Place}
 use Rattle.mt_mounts.specs.Forest.{id_of, mount_at, is_root, root_mount}
@@ -13,7 +15,7 @@ use Rattle.mt_propagate.specs.World.{WorldView}
 use Rattle.mt_propagate.specs.WellFormed.{IsForest, AreTrees, IsWellFormed}
 use Rattle.mt_propagate.proofs.WalkLaws.{root_here}
 
-no_place : (o : Option Place) → is_none o ≡ true → o ≡ None
+pub no_place : (o : Option Place) → is_none o ≡ true → o ≡ None
 no_place None e = refl
 no_place (Some p) e = absurd (cc)
 
@@ -53,4 +55,18 @@ module _ (s : Skeleton) (ms ns : List Mount) (rising : rises id_of ms ≡ true) 
   trees_stay stays ts a = record {
     rising = a.rising;
     there = λ n e. space-stays n (λ i m at root here. let q = stays i m at root in (q.0, q.1, q.2, q.3 ∙ here)) (a.there n e);
+  }
+
+  -- also where one ends, if each other root mount has such a mount
+  pub trees_left_stay : (gone : ℕ) → ((i : ℕ) (m : Mount) → mount_at ms i ≡ Some m → m.place ≡ None → m.space ≢ gone → (j : ℕ) × (q : Mount) × (mount_at ns j ≡ Some q) × (q.space ≡ m.space))
+      → (ts : List ℕ) → AreTrees ms ts → AreTrees ns (without (λ k. k == gone) ts)
+  trees_left_stay gone stays ts a = record {
+    rising = rises-filter (λ k. k) (λ k. not (k == gone)) ts a.rising;
+    there = λ n e.
+        let x = in_any (λ k. k == n) (without (λ k. k == gone) ts) e in
+        let kept = in_filter (λ k. not (k == gone)) x.0 ts x.1 in
+        let same : x.0 ≡ n = eqb-true x.0 n x.2 in
+        let there : among ts n ≡ true = any_in (λ k. k == n) x.0 ts kept.0 x.2 in
+        let off : n ≢ gone = λ is. true≢false (sym kept.1 ∙ ap not (eq-eqb x.0 gone (same ∙ is))) in
+        space-stays n (λ i m at root here. let q = stays i m at root (λ is. off (sym here ∙ is)) in (q.0, q.1, q.2, q.3 ∙ here)) (a.there n there);
   }

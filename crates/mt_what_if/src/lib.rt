@@ -15,6 +15,7 @@ mod lines;
 mod naming;
 pub mod numbers;
 mod provide;
+mod reasons;
 pub mod scene;
 mod script;
 mod sources;
@@ -25,6 +26,7 @@ pub mod told;
 pub mod trial;
 pub mod trying;
 mod unmounts;
+mod unsure;
 mod walking;
 mod words;
 

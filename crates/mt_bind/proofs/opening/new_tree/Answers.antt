@@ -15,24 +15,23 @@ use Rattle.mt_propagate.proofs.WalkLaws.{space_free, number_free}
 use Rattle.mt_propagate.proofs.PrivateLaws.{new_peer, state_free, forest_after, peers_after, private_world}
 use Rattle.mt_bind.proofs.SpaceLaws.{new_root}
 use Rattle.mt_bind.proofs.OpeningLaws.{tree_made_kept}
-use Rattle.mt_bind.specs.Spaces.{with_space, new_space_refusals}
+use Rattle.mt_bind.specs.Spaces.{next_root, with_space, new_space_refusals}
 use Rattle.mt_bind.specs.Opening.{tree_made_effect}
-use Rattle.mt_bind.proofs.opening.new_tree.Goals.{After-add_tree}
 use Rattle.mt_bind.proofs.opening.new_tree.Goals as goal
 
 -- the world once the number of the tree is listed
-listed : (c : After-add_tree) (ok : world_view c.add_tree.new.self ≡ with_tree (world_view c.ready_root.new.world) c.in_ok-root.root.space) → world_view c.add_tree.new.self ≡ with_tree (world_view c.args.world.now) c.args.world.now.next_space
-listed c ok = ok ∙ (λ i. with_tree (c.ready_root.ensures.world i) (c.in_ok-root.ensures.root i).space)
+listed : (w u v : WorldView) (root : Mount) (fs : ℕ) → v ≡ with_tree u root.space → u ≡ w → root ≡ next_root w fs → v ≡ with_tree w w.next_space
+listed w u v root fs made same is = made ∙ (λ i. with_tree (same i) (is i).space)
 
 pub add_root-requires-clause-absent : goal.add_root-requires-clause-absent
-add_root-requires-clause-absent c = (λ i. mount_at (listed c c.in_ok-add_tree.ensures.world i).forest (c.in_ok-root.ensures.root i).id) ∙ number_free (world_view c.args.world.now) c.requires.well_formed
+add_root-requires-clause-absent c = (λ i. mount_at ((listed (world_view c.args.world.now) _ _ _ _ c.in_ok-add_tree.ensures.world c.ready_root.ensures.world c.in_ok-root.ensures.root) i).forest (c.in_ok-root.ensures.root i).id) ∙ number_free (world_view c.args.world.now) c.requires.well_formed
 
 pub add_root-requires-clause-first : goal.add_root-requires-clause-first
-add_root-requires-clause-first c = (λ i. root_mount (listed c c.in_ok-add_tree.ensures.world i).forest (c.in_ok-root.ensures.root i).space) ∙ space_free (world_view c.args.world.now) c.requires.well_formed
+add_root-requires-clause-first c = (λ i. root_mount ((listed (world_view c.args.world.now) _ _ _ _ c.in_ok-add_tree.ensures.world c.ready_root.ensures.world c.in_ok-root.ensures.root) i).forest (c.in_ok-root.ensures.root i).space) ∙ space_free (world_view c.args.world.now) c.requires.well_formed
 
 pub add_root-requires-clause-stateless : goal.add_root-requires-clause-stateless
 add_root-requires-clause-stateless c =
-    (λ i. state_at (listed c c.in_ok-add_tree.ensures.world i).peering.peers (c.in_ok-root.ensures.root i).id) ∙ state_free (world_view c.args.world.now) c.requires.well_formed
+    (λ i. state_at ((listed (world_view c.args.world.now) _ _ _ _ c.in_ok-add_tree.ensures.world c.ready_root.ensures.world c.in_ok-root.ensures.root) i).peering.peers (c.in_ok-root.ensures.root i).id) ∙ state_free (world_view c.args.world.now) c.requires.well_formed
 
 -- the number of the filesystem
 abbrev fs : goal.After-add_root → ℕ
@@ -43,7 +42,7 @@ is_made : (c : goal.After-add_root) → world_view c.add_root.new.world ≡ with
 unfolding with_space
 is_made c =
     let w = world_view c.args.world.now in
-    let still = listed c c.in_ok-add_tree.ensures.world in
+    let still = listed (world_view c.args.world.now) _ _ _ _ c.in_ok-add_tree.ensures.world c.ready_root.ensures.world c.in_ok-root.ensures.root in
     let root = c.in_ok-root.ensures.root in
     let m = new_root w (fs c) in
     private_world (with_tree w w.next_space) _ m (w.next_space + 1) (c.add_root.ensures.same.0 ∙ ap (λ (v : WorldView). v.skel) still)

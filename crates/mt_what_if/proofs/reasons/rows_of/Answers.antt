@@ -1,0 +1,44 @@
+use Rattle.std.proofs.Common.{◌≡◌, ◌++◌, ◌∙◌, map, ap, sym, arith, append-nil, subst}
+use Rattle.std.proofs.lemmas.List.{drop_all}
+use Rattle.mt_skel.specs.Keyed.{rises}
+use Rattle.mt_propagate.specs.declared.world.World.{World}
+use Rattle.mt_propagate.specs.World.{world_view}
+use Rattle.mt_propagate.specs.WellFormed.{IsWellFormed}
+use Rattle.mt_reach.specs.Rows.{seen_id}
+use Rattle.mt_reach.specs.Seen.{seen_mount, seen_rows}
+use Rattle.mt_what_if.proofs.SeenLaws.{mount_listed, row_listed, rows_more, seen_rises}
+use Rattle.mt_what_if.proofs.reasons.rows_of.Goals as goal
+
+pub row_seen-requires-clause-well_formed : goal.row_seen-requires-clause-well_formed
+row_seen-requires-clause-well_formed c = subst (λ (w : World). IsWellFormed (world_view w)) (sym c.listed.invariant.same) c.requires
+
+pub row_seen-requires-clause-there : goal.row_seen-requires-clause-there
+row_seen-requires-clause-there c =
+    rw (mount_listed c.args.world.now c.listed.seen c.deref-mount-items.result.now c.listed.mount-index c.mount-item.result c.listed.invariant.same c.requires
+    (c.deref-mount-items.ensures.value ∙ c.in_ok-mounts.ensures.mounts) c.listed-test.true c.mount-item.is) tt
+
+pub listed-preserved : goal.listed-preserved
+listed-preserved c =
+    let w = c.args.world.now in
+    let all = c.deref-mount-items.result.now in
+    let i = c.listed.mount-index in
+    let m = c.mount-item.result in
+    let inside = omega (arith, c.listed-test.true) in
+    let here = mount_listed w c.listed.seen all i m c.listed.invariant.same c.requires (c.deref-mount-items.ensures.value ∙ c.in_ok-mounts.ensures.mounts) inside c.mount-item.is in
+    record {
+      rows =
+          rows_more (world_view w) all i m c.in_ok-of.field-0 c.listed.rows.items c.push.new.self.items _ inside c.mount-item.is
+          (row_listed w c.listed.seen m c.in_ok-row.row c.in_ok-of.field-0 c.listed.invariant.same here c.in_ok-row.ensures.row c.in_ok-of.ensures.row)
+          c.in_ok-push.ensures.items c.listed.invariant.rows;
+      same = c.in_ok-row.ensures.kept ∙ c.listed.invariant.same;
+    }
+
+pub returns-clause-rising : goal.returns-clause-rising
+returns-clause-rising c =
+    let w = world_view c.args.world.now in
+    let all = c.deref-mount-items.result.now in
+    let done : c.listed.rows.items ≡ seen_rows w =
+    sym (append-nil c.listed.rows.items)
+    ∙ ap (λ t. c.listed.rows.items ++ map (seen_mount w) t) (sym (drop_all c.listed.mount-index all (omega (arith, c.listed-test.false))))
+    ∙ c.listed.invariant.rows in
+    ap (rises seen_id) done ∙ seen_rises w c.requires
