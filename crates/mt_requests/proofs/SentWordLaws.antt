@@ -129,12 +129,12 @@ path_back names p = ap components (bytes_back (bytes_of_path names)) ∙ compone
 
 -- the text of names is the path, where there are some
 pub path_lies : (names : List (List ℕ)) → (length (names_text names) == 0) ≡ false → names_text names ≡ bytes_of_path names
-path_lies [] h = cc
+path_lies [] h = let f : true ≡ false = h in cc
 path_lies (n ∷ names) h = refl
 
 pub root_lies : (names : List (List ℕ)) → (length (names_text names) == 0) ≡ true → codes "/" ≡ sent_path names
 root_lies [] h = refl
-root_lies (n ∷ names) h = cc
+root_lies (n ∷ names) h = let f : false ≡ true = h in cc
 
 -- numbers
 pub number_fine : (n : ℕ) → n < 2 ^ 64 → bad_unless (is_some (number_in_text (decimal n))) ≡ None
