@@ -1,6 +1,6 @@
 -- What the flags of umount2(2), open_tree(2), move_mount(2), open(2), clone(2) and their kin ask for.
 -- A word with no source is this project's rule.
-use Rattle.std.specs.Prelude.{ℕ, nat_eq, Bool, false, not, ◌||◌, List, [], ◌∷◌, codes}
+use Rattle.std.specs.Prelude.{ℕ, nat_eq, Bool, false, not, ◌||◌, if◌then◌else◌, List, [], ◌∷◌, Option, None, Some, codes}
 use Rattle.std.specs.List.{list_all, starts_with}
 use Rattle.mt_trace.specs.declared.call_flags.CloneWords.{CloneWords}
 use Rattle.mt_trace.specs.declared.call_flags.MoveWords.{MoveWords}
@@ -100,3 +100,6 @@ clone_words flags = record (space_words flags) {
   files = has_flag (codes "CLONE_FILES") flags;
   thread = has_flag (codes "CLONE_THREAD") flags;
 }
+
+abbrev pub words_if_known : List (List ℕ) → Option CloneWords
+words_if_known flags = if are_clone_flags flags then Some (clone_words flags) else None

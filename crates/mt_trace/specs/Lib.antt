@@ -6,3 +6,4 @@ pub mod MountFlags
 pub mod SystemCalls
 pub mod Asking
 pub mod ProcessSpaces
+pub mod ToldPaths

@@ -18,7 +18,7 @@ use Rattle.mt_trace.specs.declared.system_call.SystemCall.{SystemCall}
 use Rattle.mt_trace.specs.declared.system_call.SystemCall.TheVariants as call
 use Rattle.mt_trace.specs.declared.unknown.Unknown.{Unknown}
 use Rattle.mt_trace.specs.declared.unknown.Unknown.TheVariants as unknown
-use Rattle.mt_trace.specs.CallFlags.{unmount_flags, unmount_words, setattr_flags, open_tree_flags, tree_words, move_flags, move_words, fsmount_flags, other_settings, execveat_flags, close_range_flags, open_words, are_clone_flags, clone_words}
+use Rattle.mt_trace.specs.CallFlags.{unmount_flags, setattr_flags, open_tree_flags, tree_words, move_flags, move_words, fsmount_flags, other_settings, execveat_flags, close_range_flags, open_words, unmount_words, words_if_known}
 use Rattle.mt_trace.specs.Flags.{flags_of, no_flags, has_flag, is_known, are_known}
 use Rattle.mt_trace.specs.MountFlags.{asked_operation, attribute_change, attributes_asked}
 use Rattle.mt_trace.specs.Texts.{text_of}
@@ -116,7 +116,7 @@ fsconfig_call arguments = strange
 
 -- clone(2), unshare(2), setns(2): strace names the arguments of the first, and a structure's fields
 abbrev pub clone_asked : (CloneWords → SystemCall) → List (List ℕ) → Asked
-clone_asked asks flags = if are_clone_flags flags then asked.Call (asks (clone_words flags)) else asked.Unknown unknown.Flag
+clone_asked asks flags = option_map_or (λ words. asked.Call (asks words)) (asked.Unknown unknown.Flag) (words_if_known flags)
 
 abbrev pub clone_call : List (List ℕ) → Asked
 clone_call arguments = option_map_or (λ flags. clone_asked call.Clone (flags_of flags)) strange (value_named (codes "flags=") arguments)

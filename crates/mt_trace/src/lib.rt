@@ -17,4 +17,5 @@ mod process_calls;
 pub mod process_spaces;
 pub mod system_call;
 pub mod text;
+pub mod told_path;
 pub mod unknown;

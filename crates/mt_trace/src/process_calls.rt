@@ -1,7 +1,7 @@
 //! The arguments of calls that make processes, or change where one stands.
 ghost use Rattle.std.specs.Prelude.{◌≡◌};
-ghost use Rattle.mt_trace.specs.CallFlags.{are_clone_flags, clone_words};
-ghost use Rattle.mt_trace.specs.SystemCalls.{here, clone_asked, clone_call, clone3_call, unshare_call, setns_call, execve_call, execveat_call, chdir_call, fchdir_call, chroot_call};
+ghost use Rattle.mt_trace.specs.CallFlags.{words_if_known};
+ghost use Rattle.mt_trace.specs.SystemCalls.{here, clone_call, clone3_call, unshare_call, setns_call, execve_call, execveat_call, chdir_call, fchdir_call, chroot_call};
 
 use crate::call_flags::{CloneWords, EXECVEAT_FLAGS, are_clone_flags, clone_words};
 use crate::flags::Flags;
@@ -25,7 +25,7 @@ pub(crate) fn here<'a>() -> Descriptor<'a>
 
 /// What the flags of clone(2), unshare(2) and setns(2) name, if all of them are known.
 fn words_if_known(flags: &Flags<'_>) -> Option<CloneWords>
-    ensures { result ≡ if are_clone_flags flags.now then Some (clone_words flags.now) else None }
+    ensures { result ≡ words_if_known flags.now }
 {
     if are_clone_flags(flags) {
         Some(clone_words(flags))
