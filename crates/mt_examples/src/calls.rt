@@ -6,25 +6,25 @@ use mt_strace::line::{StraceLine, read_strace_line};
 use mt_trace::asking::asked_by_call;
 use mt_trace::call_name::call_list;
 use mt_trace::mount_flags::MountOperation;
-use mt_trace::system_call::{Asked, SystemCall};
-use mt_trace::text::{Text, Untold};
+use mt_trace::string_argument::{StringArgument, StringFault};
+use mt_trace::system_call::{AskedCall, SystemCall};
 use mt_trace::told_path::child_of;
 use mt_trace::unknown::Unknown;
 use std::alloc::Global;
 use std::test::Fail;
 
 /// What a line asks.
-fn asked(line: &[u8]) -> Asked<'_> {
+fn asked(line: &[u8]) -> AskedCall<'_> {
     match read_strace_line(line) {
         StraceLine::Call(call) => asked_by_call(&call),
-        _ => Asked::Silent,
+        _ => AskedCall::Silent,
     }
 }
 
 /// The call that a line asks for, if it is known.
 fn known(line: &[u8]) -> Option<SystemCall<'_>> {
     match asked(line) {
-        Asked::Call(call) => Some(call),
+        AskedCall::Call(call) => Some(call),
         _ => None,
     }
 }
@@ -32,13 +32,13 @@ fn known(line: &[u8]) -> Option<SystemCall<'_>> {
 /// Why it is not known what a line asks.
 fn unknown(line: &[u8]) -> Option<Unknown> {
     match asked(line) {
-        Asked::Unknown(why) => Some(why),
+        AskedCall::Unknown(why) => Some(why),
         _ => None,
     }
 }
 
 /// Whether a string is these bytes.
-fn is_text(alloc: Global, text: &Text<'_>, bytes: &[u8]) -> bool {
+fn is_text(alloc: Global, text: &StringArgument<'_>, bytes: &[u8]) -> bool {
     match text.read(alloc) {
         Ok(Ok(read)) => read.as_slice() == bytes,
         _ => false,
@@ -72,7 +72,7 @@ fn mounts_have_five_arguments(rt: HostRuntime) -> Result<(), Fail> {
     assert!(rt; is_text(rt.alloc(), &source, b"none"));
     assert!(rt; is_text(rt.alloc(), &target, b"/a b"));
     assert!(rt; is_text(rt.alloc(), &kind, b"tmpfs"));
-    assert!(rt; options.read(rt.alloc())?.err() == Some(Untold::Missing));
+    assert!(rt; options.read(rt.alloc())?.err() == Some(StringFault::Missing));
     let set = SetWords {
         nosuid: true,
         ..SetWords::new()
@@ -132,7 +132,7 @@ fn what_is_not_known_is_told(rt: HostRuntime) -> Result<(), Fail> {
         assert!(rt; false);
         return Ok(());
     };
-    assert!(rt; path.read(rt.alloc())?.err() == Some(Untold::Cut));
+    assert!(rt; path.read(rt.alloc())?.err() == Some(StringFault::Cut));
     Ok(())
 }
 

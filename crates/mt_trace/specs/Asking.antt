@@ -4,8 +4,8 @@ use Rattle.std.specs.Prelude.{ℕ, List, Option, None, Some}
 use Rattle.mt_strace.specs.declared.call.TracedCall.{TracedCall}
 use Rattle.mt_trace.specs.declared.call_name.CallName.{CallName}
 use Rattle.mt_trace.specs.declared.call_name.CallName.TheVariants as name
-use Rattle.mt_trace.specs.declared.system_call.Asked.{Asked}
-use Rattle.mt_trace.specs.declared.system_call.Asked.TheVariants as asked
+use Rattle.mt_trace.specs.declared.system_call.AskedCall.{AskedCall}
+use Rattle.mt_trace.specs.declared.system_call.AskedCall.TheVariants as asked
 use Rattle.mt_trace.specs.declared.system_call.SystemCall.TheVariants as call
 use Rattle.mt_trace.specs.CallFlags.{clone_words}
 use Rattle.mt_trace.specs.CallNames.{call_named}
@@ -13,7 +13,7 @@ use Rattle.mt_trace.specs.Flags.{no_flags}
 use Rattle.mt_trace.specs.SystemCalls.{mount_call, umount_call, umount2_call, pivot_root_call, mount_setattr_call, open_tree_call, move_mount_call, fsopen_call, fsconfig_call, fsmount_call, clone_call, clone3_call, unshare_call, setns_call, execve_call, execveat_call, chdir_call, fchdir_call, chroot_call, open_call, openat_call, openat2_call, creat_call, close_call, close_range_call, dup_call, dup3_call, fcntl_call, symlink_call, symlinkat_call, readlink_call, readlinkat_call}
 
 -- what a call of a name asks with these arguments
-abbrev pub asked_by_name : CallName → List (List ℕ) → Asked
+abbrev pub asked_by_name : CallName → List (List ℕ) → AskedCall
 asked_by_name name.Mount arguments = mount_call arguments
 asked_by_name name.Umount arguments = umount_call arguments
 asked_by_name name.Umount2 arguments = umount2_call arguments
@@ -49,9 +49,9 @@ asked_by_name name.Readlink arguments = readlink_call arguments
 asked_by_name name.Readlinkat arguments = readlinkat_call arguments
 
 -- a call of another name asks nothing that is followed
-abbrev pub asked_if_named : Option CallName → List (List ℕ) → Asked
+abbrev pub asked_if_named : Option CallName → List (List ℕ) → AskedCall
 asked_if_named None arguments = asked.Silent
 asked_if_named (Some n) arguments = asked_by_name n arguments
 
-abbrev pub asked_by_call : TracedCall → Asked
+abbrev pub asked_by_call : TracedCall → AskedCall
 asked_by_call c = asked_if_named (call_named c.name) c.arguments

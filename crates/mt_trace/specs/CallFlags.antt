@@ -7,7 +7,7 @@ use Rattle.mt_trace.specs.declared.call_flags.MoveWords.{MoveWords}
 use Rattle.mt_trace.specs.declared.call_flags.OpenWords.{OpenWords}
 use Rattle.mt_trace.specs.declared.call_flags.TreeWords.{TreeWords}
 use Rattle.mt_trace.specs.declared.call_flags.UnmountWords.{UnmountWords}
-use Rattle.mt_trace.specs.Flags.{has_flag, is_known}
+use Rattle.mt_trace.specs.Flags.{has_flag, is_flag_of}
 
 -- the flags of umount2(2); one that was unmounted by force, or as expired, is unmounted as any other
 abbrev pub unmount_flags : List (List ℕ)
@@ -75,14 +75,14 @@ clone_flags =
     ∷ codes "CLONE_IO" ∷ codes "CLONE_CLEAR_SIGHAND" ∷ codes "CLONE_INTO_CGROUP" ∷ codes "CLONE_NEWTIME" ∷ []
 
 abbrev pub is_clone_flag : List ℕ → Bool
-is_clone_flag word = is_known clone_flags word || starts_with nat_eq word (codes "SIG")
+is_clone_flag word = is_flag_of clone_flags word || starts_with nat_eq word (codes "SIG")
 
 abbrev pub are_clone_flags : List (List ℕ) → Bool
 are_clone_flags flags = list_all is_clone_flag flags
 
 -- the namespaces that they name, and what a child shares with its parent
-abbrev pub space_words : List (List ℕ) → CloneWords
-space_words flags = record {
+abbrev pub namespace_words : List (List ℕ) → CloneWords
+namespace_words flags = record {
   directories = false;
   files = false;
   thread = false;
@@ -95,7 +95,7 @@ space_words flags = record {
 }
 
 abbrev pub clone_words : List (List ℕ) → CloneWords
-clone_words flags = record (space_words flags) {
+clone_words flags = record (namespace_words flags) {
   directories = has_flag (codes "CLONE_FS") flags;
   files = has_flag (codes "CLONE_FILES") flags;
   thread = has_flag (codes "CLONE_THREAD") flags;

@@ -18,8 +18,8 @@ abbrev pub has_flag : List ℕ → List (List ℕ) → Bool
 has_flag flag flags = list_any (λ word. bytes_eq word flag) flags
 
 -- a word is one of those that are known, and each of some flags is: what strace has no name for is a number, with a comment behind it
-abbrev pub is_known : List (List ℕ) → List ℕ → Bool
-is_known known word = list_any (λ flag. bytes_eq flag word) known
+abbrev pub is_flag_of : List (List ℕ) → List ℕ → Bool
+is_flag_of known word = list_any (λ flag. bytes_eq flag word) known
 
-abbrev pub are_known : List (List ℕ) → List (List ℕ) → Bool
-are_known known flags = list_all (is_known known) flags
+abbrev pub are_flags_of : List (List ℕ) → List (List ℕ) → Bool
+are_flags_of known flags = list_all (is_flag_of known) flags

@@ -1,5 +1,5 @@
 pub mod Flags
-pub mod Texts
+pub mod StringArguments
 pub mod CallNames
 pub mod CallFlags
 pub mod MountFlags

@@ -11,7 +11,7 @@ use Rattle.mt_trace.specs.declared.mount_flags.MountOperation.{MountOperation}
 use Rattle.mt_trace.specs.declared.mount_flags.MountOperation.TheVariants as operation
 use Rattle.mt_trace.specs.declared.unknown.Unknown.{Unknown}
 use Rattle.mt_trace.specs.declared.unknown.Unknown.TheVariants as unknown
-use Rattle.mt_trace.specs.Flags.{no_flags, has_flag, are_known}
+use Rattle.mt_trace.specs.Flags.{no_flags, has_flag, are_flags_of}
 
 -- the flags that strace has names for (mount(2)); another one is not known
 abbrev pub mount_flag_words : List (List ℕ)
@@ -124,11 +124,11 @@ known_operation flags =
     else (if has_flag (codes "MS_BIND") flags then operation.Binds (has_flag (codes "MS_REC") flags) else moved_or_new flags (kind_by_flags flags))
 
 unfoldable pub asked_operation : List (List ℕ) → Option MountOperation
-asked_operation flags = if are_known mount_flag_words flags then Some (known_operation flags) else None
+asked_operation flags = if are_flags_of mount_flag_words flags then Some (known_operation flags) else None
 
 -- the attributes that are known there, but for mapped IDs, which are not followed
-abbrev pub attribute_words : List (List ℕ)
-attribute_words =
+abbrev pub attribute_flags : List (List ℕ)
+attribute_flags =
     codes "0" ∷ codes "MOUNT_ATTR_RDONLY" ∷ codes "MOUNT_ATTR_NOSUID" ∷ codes "MOUNT_ATTR_NODEV" ∷ codes "MOUNT_ATTR_NOEXEC"
     ∷ codes "MOUNT_ATTR_NOSYMFOLLOW" ∷ codes "MOUNT_ATTR_NODIRATIME" ∷ codes "MOUNT_ATTR_RELATIME" ∷ codes "MOUNT_ATTR_NOATIME"
     ∷ codes "MOUNT_ATTR_STRICTATIME" ∷ codes "MOUNT_ATTR__ATIME" ∷ []
@@ -137,10 +137,10 @@ attribute_words =
 abbrev pub attribute_fault : List (List ℕ) → Option Unknown
 attribute_fault flags =
     if has_flag (codes "MOUNT_ATTR_IDMAP") flags then Some unknown.MappedIds
-    else (if are_known attribute_words flags then None else Some unknown.Flag)
+    else (if are_flags_of attribute_flags flags then None else Some unknown.Flag)
 
 abbrev pub propagation_fault : List (List ℕ) → Option Unknown
-propagation_fault flags = if are_known mount_flag_words flags then None else Some unknown.Flag
+propagation_fault flags = if are_flags_of mount_flag_words flags then None else Some unknown.Flag
 
 -- the change that a call of mount_setattr(2) asks for, by its flags, what it sets and clears, and the propagation
 abbrev pub known_change : List (List ℕ) → List (List ℕ) → List (List ℕ) → List (List ℕ) → Change

@@ -9,13 +9,13 @@ use Rattle.mt_trace.specs.declared.process_spaces.SpaceKind.{SpaceKind}
 use Rattle.mt_trace.specs.declared.process_spaces.SpaceKind.TheVariants as kind
 
 -- the files of /proc/PID/ns that name the namespaces of a process, and their kinds
-abbrev pub space_files : List (List ℕ × SpaceKind)
+abbrev pub space_files : List (SpaceKind × List ℕ)
 space_files =
-    (codes "mnt", kind.Mount) ∷ (codes "user", kind.User) ∷ (codes "pid", kind.Process) ∷ (codes "pid_for_children", kind.ForChildren)
-    ∷ (codes "net", kind.Network) ∷ (codes "ipc", kind.Ipc) ∷ (codes "cgroup", kind.ControlGroup) ∷ []
+    (kind.Mount, codes "mnt") ∷ (kind.User, codes "user") ∷ (kind.Process, codes "pid") ∷ (kind.ForChildren, codes "pid_for_children")
+    ∷ (kind.Network, codes "net") ∷ (kind.Ipc, codes "ipc") ∷ (kind.ControlGroup, codes "cgroup") ∷ []
 
 unfoldable pub kind_of_file : List ℕ → Option SpaceKind
-kind_of_file name = looked_up (λ row. bytes_eq row.0 name) (λ row. row.1) space_files
+kind_of_file name = looked_up (λ row. bytes_eq row.1 name) (λ row. row.0) space_files
 
 -- the number of a namespace of a process, and the process with another one
 abbrev pub space_of_kind : SpaceKind → ProcessSpaces → ℕ

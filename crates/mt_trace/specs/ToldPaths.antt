@@ -17,17 +17,17 @@ use Rattle.mt_trace.specs.ProcessSpaces.{kind_of_file}
 abbrev pub number_in_brackets : List ℕ → Option ℕ
 number_in_brackets text = option_and_then (λ digits. option_and_then number_in_text (stripped_end (codes "]") digits)) (stripped (codes "[") text)
 
-abbrev pub space_with : List (List ℕ) → Option (SpaceKind × ℕ)
-space_with (word ∷ text ∷ []) = option_and_then (λ kind. option_map (λ n. (kind, n)) (number_in_brackets text)) (kind_of_file word)
-space_with pieces = None
+abbrev pub namespace_with : List (List ℕ) → Option (SpaceKind × ℕ)
+namespace_with (word ∷ text ∷ []) = option_and_then (λ kind. option_map (λ n. (kind, n)) (number_in_brackets text)) (kind_of_file word)
+namespace_with pieces = None
 
-abbrev pub space_named : List ℕ → Option (SpaceKind × ℕ)
-space_named text = space_with (pieces 58 text)
+abbrev pub namespace_told : List ℕ → Option (SpaceKind × ℕ)
+namespace_told text = namespace_with (pieces 58 text)
 
 -- a path, a namespace, or something that is neither, as a pipe
 abbrev pub told_path : List ℕ → ToldPath
 told_path text =
-    if starts_with nat_eq text (codes "/") then told.Path text else option_map_or (λ (kind, n). told.Space kind n) told.Other (space_named text)
+    if starts_with nat_eq text (codes "/") then told.Path text else option_map_or (λ (kind, n). told.Space kind n) told.Other (namespace_told text)
 
 -- the number that strace has for a child: what the call returned, unless that is a number of another namespace, where a comment
 -- says it

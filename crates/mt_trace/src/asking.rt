@@ -18,12 +18,12 @@ use crate::process_calls::{
     chdir_call, chroot_call, clone_call, clone3_call, execve_call, execveat_call, fchdir_call,
     setns_call, unshare_call,
 };
-use crate::system_call::{Asked, SystemCall};
+use crate::system_call::{AskedCall, SystemCall};
 use mt_strace::arguments::Arguments;
 use mt_strace::call::TracedCall;
 
 /// What a call of this name asks with these arguments.
-fn asked_by_name<'a>(name: CallName, arguments: Arguments<'a>) -> Asked<'a>
+fn asked_by_name<'a>(name: CallName, arguments: Arguments<'a>) -> AskedCall<'a>
     ensures { result ≡ asked_by_name name arguments.entry }
 {
     match name {
@@ -39,7 +39,7 @@ fn asked_by_name<'a>(name: CallName, arguments: Arguments<'a>) -> Asked<'a>
         CallName::Fsmount => fsmount_call(arguments),
         CallName::Clone => clone_call(arguments),
         CallName::Clone3 => clone3_call(arguments),
-        CallName::Fork => Asked::Call(SystemCall::Clone(clone_words(&no_flags()))),
+        CallName::Fork => AskedCall::Call(SystemCall::Clone(clone_words(&no_flags()))),
         CallName::Unshare => unshare_call(arguments),
         CallName::Setns => setns_call(arguments),
         CallName::Execve => execve_call(arguments),
@@ -64,11 +64,11 @@ fn asked_by_name<'a>(name: CallName, arguments: Arguments<'a>) -> Asked<'a>
 }
 
 /// What a call asks: whether it failed is not asked. Takes no memory.
-pub fn asked_by_call<'a>(call: &TracedCall<'a>) -> Asked<'a>
+pub fn asked_by_call<'a>(call: &TracedCall<'a>) -> AskedCall<'a>
     ensures { result ≡ asked_by_call call.now }
 {
     match call_named(call.name.bytes()) {
         Some(name) => asked_by_name(name, call.arguments.again()),
-        None => Asked::Silent,
+        None => AskedCall::Silent,
     }
 }

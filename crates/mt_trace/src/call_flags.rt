@@ -1,8 +1,8 @@
 //! What the flags of umount2(2), open_tree(2), move_mount(2), open(2), clone(2) and their kin ask for.
 ghost use Rattle.std.specs.Prelude.{◌≡◌};
-ghost use Rattle.mt_trace.specs.CallFlags.{unmount_words, tree_words, move_words, open_words, is_clone_flag, are_clone_flags, space_words, clone_words};
+ghost use Rattle.mt_trace.specs.CallFlags.{unmount_words, tree_words, move_words, open_words, is_clone_flag, are_clone_flags, namespace_words, clone_words};
 
-use crate::flags::{Flags, is_known};
+use crate::flags::{Flags, is_flag_of};
 
 /// What the flags of umount2(2) ask for.
 #[derive(Clone, Copy, PartialEq, Eq, Debug)]
@@ -212,7 +212,7 @@ pub(crate) fn open_words(flags: &Flags<'_>, resolve: &Flags<'_>) -> OpenWords
 fn is_clone_flag(word: &[u8]) -> bool
     ensures { result ≡ is_clone_flag word.now }
 {
-    is_known(&CLONE_FLAGS, word) || word.starts_with(b"SIG")
+    is_flag_of(&CLONE_FLAGS, word) || word.starts_with(b"SIG")
 }
 
 /// Whether each word is one of those.
@@ -223,8 +223,8 @@ pub(crate) fn are_clone_flags(flags: &Flags<'_>) -> bool
 }
 
 /// The namespaces that such flags name.
-fn space_words(flags: &Flags<'_>) -> CloneWords
-    ensures { result ≡ space_words flags.now }
+fn namespace_words(flags: &Flags<'_>) -> CloneWords
+    ensures { result ≡ namespace_words flags.now }
 {
     CloneWords {
         directories: false,
@@ -243,7 +243,7 @@ fn space_words(flags: &Flags<'_>) -> CloneWords
 pub(crate) fn clone_words(flags: &Flags<'_>) -> CloneWords
     ensures { result ≡ clone_words flags.now }
 {
-    let spaces = space_words(flags);
+    let spaces = namespace_words(flags);
     CloneWords {
         directories: flags.has(b"CLONE_FS"),
         files: flags.has(b"CLONE_FILES"),

@@ -78,56 +78,56 @@ pub enum CallName {
     Readlinkat,
 }
 
-/// The name of a call, and the call.
+/// A call, and its name.
 #[derive(Clone, Copy)]
-struct CallRow(&'static [u8], CallName);
+struct CallRow(CallName, &'static [u8]);
 
 /// All calls that are followed.
 const CALLS: [CallRow; 35] = [
-    CallRow(b"mount", CallName::Mount),
-    CallRow(b"umount", CallName::Umount),
-    CallRow(b"umount2", CallName::Umount2),
-    CallRow(b"pivot_root", CallName::PivotRoot),
-    CallRow(b"mount_setattr", CallName::MountSetattr),
-    CallRow(b"open_tree", CallName::OpenTree),
-    CallRow(b"move_mount", CallName::MoveMount),
-    CallRow(b"fsopen", CallName::Fsopen),
-    CallRow(b"fsconfig", CallName::Fsconfig),
-    CallRow(b"fsmount", CallName::Fsmount),
-    CallRow(b"clone", CallName::Clone),
-    CallRow(b"clone3", CallName::Clone3),
-    CallRow(b"fork", CallName::Fork),
-    CallRow(b"vfork", CallName::Fork),
-    CallRow(b"unshare", CallName::Unshare),
-    CallRow(b"setns", CallName::Setns),
-    CallRow(b"execve", CallName::Execve),
-    CallRow(b"execveat", CallName::Execveat),
-    CallRow(b"chdir", CallName::Chdir),
-    CallRow(b"fchdir", CallName::Fchdir),
-    CallRow(b"chroot", CallName::Chroot),
-    CallRow(b"open", CallName::Open),
-    CallRow(b"openat", CallName::Openat),
-    CallRow(b"openat2", CallName::Openat2),
-    CallRow(b"creat", CallName::Creat),
-    CallRow(b"close", CallName::Close),
-    CallRow(b"close_range", CallName::CloseRange),
-    CallRow(b"dup", CallName::Dup),
-    CallRow(b"dup2", CallName::Dup),
-    CallRow(b"dup3", CallName::Dup3),
-    CallRow(b"fcntl", CallName::Fcntl),
-    CallRow(b"symlink", CallName::Symlink),
-    CallRow(b"symlinkat", CallName::Symlinkat),
-    CallRow(b"readlink", CallName::Readlink),
-    CallRow(b"readlinkat", CallName::Readlinkat),
+    CallRow(CallName::Mount, b"mount"),
+    CallRow(CallName::Umount, b"umount"),
+    CallRow(CallName::Umount2, b"umount2"),
+    CallRow(CallName::PivotRoot, b"pivot_root"),
+    CallRow(CallName::MountSetattr, b"mount_setattr"),
+    CallRow(CallName::OpenTree, b"open_tree"),
+    CallRow(CallName::MoveMount, b"move_mount"),
+    CallRow(CallName::Fsopen, b"fsopen"),
+    CallRow(CallName::Fsconfig, b"fsconfig"),
+    CallRow(CallName::Fsmount, b"fsmount"),
+    CallRow(CallName::Clone, b"clone"),
+    CallRow(CallName::Clone3, b"clone3"),
+    CallRow(CallName::Fork, b"fork"),
+    CallRow(CallName::Fork, b"vfork"),
+    CallRow(CallName::Unshare, b"unshare"),
+    CallRow(CallName::Setns, b"setns"),
+    CallRow(CallName::Execve, b"execve"),
+    CallRow(CallName::Execveat, b"execveat"),
+    CallRow(CallName::Chdir, b"chdir"),
+    CallRow(CallName::Fchdir, b"fchdir"),
+    CallRow(CallName::Chroot, b"chroot"),
+    CallRow(CallName::Open, b"open"),
+    CallRow(CallName::Openat, b"openat"),
+    CallRow(CallName::Openat2, b"openat2"),
+    CallRow(CallName::Creat, b"creat"),
+    CallRow(CallName::Close, b"close"),
+    CallRow(CallName::CloseRange, b"close_range"),
+    CallRow(CallName::Dup, b"dup"),
+    CallRow(CallName::Dup, b"dup2"),
+    CallRow(CallName::Dup3, b"dup3"),
+    CallRow(CallName::Fcntl, b"fcntl"),
+    CallRow(CallName::Symlink, b"symlink"),
+    CallRow(CallName::Symlinkat, b"symlinkat"),
+    CallRow(CallName::Readlink, b"readlink"),
+    CallRow(CallName::Readlinkat, b"readlinkat"),
 ];
 
 /// The call of a name, if it is in one of these rows.
 fn call_among(word: &[u8], rows: &[CallRow]) -> Option<CallName>
-    ensures { result ≡ looked_up (λ row. bytes_eq row.0.now word.now) (λ row. row.1) rows.now }
+    ensures { result ≡ looked_up (λ row. bytes_eq row.1.now word.now) (λ row. row.0) rows.now }
 {
     for row in rows {
-        if row.0 == word {
-            return Some(row.1);
+        if row.1 == word {
+            return Some(row.0);
         }
     }
     None
@@ -143,24 +143,24 @@ pub fn call_named(word: &[u8]) -> Option<CallName>
 
 /// Appends the names of these calls, each after a comma.
 fn push_calls(text: &mut Vec<u8>, rows: &[CallRow]) -> Result<(), AllocError>
-    ensures { OnOk result (text.new.items ≡ text.old.items ++ flat_map (λ row. 44 ∷ row.0.now) rows.now) }
+    ensures { OnOk result (text.new.items ≡ text.old.items ++ flat_map (λ row. 44 ∷ row.1.now) rows.now) }
 {
     'rows: for row in rows {
         text.push(b',')?;
-        text.extend_from_slice(row.0)?;
+        text.extend_from_slice(row.1)?;
     }
     Ok(())
 }
 
 /// The names of these calls, with commas between them.
 fn names_listed(alloc: Global, rows: &[CallRow]) -> Result<Vec<u8>, AllocError>
-    ensures { IfOk result (λ text. text.items ≡ names_listed (map (λ row. (row.0.now, row.1)) rows.now)) }
+    ensures { IfOk result (λ text. text.items ≡ names_listed (map (λ row. (row.0, row.1.now)) rows.now)) }
 {
     let mut text = Vec::new(alloc);
     let Some((first, others)) = rows.split_first() else {
         return Ok(text);
     };
-    text.extend_from_slice(first.0)?;
+    text.extend_from_slice(first.1)?;
     push_calls(&mut text, others)?;
     Ok(text)
 }

@@ -6,29 +6,29 @@ use crate::call_flags::{CLOSE_RANGE_FLAGS, open_words};
 use crate::flags::{Flags, no_flags};
 use crate::mount_calls::strange;
 use crate::process_calls::here;
-use crate::system_call::{Asked, SystemCall};
-use crate::text::Text;
+use crate::string_argument::StringArgument;
+use crate::system_call::{AskedCall, SystemCall};
 use crate::unknown::Unknown;
 use mt_strace::arguments::{Arguments, fields_of};
 use mt_strace::descriptor::{Descriptor, read_descriptor};
 
 /// open(2): a mode may come behind the flags.
-pub(crate) fn open_call<'a>(arguments: Arguments<'a>) -> Asked<'a>
+pub(crate) fn open_call<'a>(arguments: Arguments<'a>) -> AskedCall<'a>
     ensures { result ≡ open_call arguments.entry }
 {
     let mut arguments = arguments;
     let (Some(path), Some(flags)) = (arguments.next(), arguments.next()) else {
         return strange();
     };
-    Asked::Call(SystemCall::Open {
+    AskedCall::Call(SystemCall::Open {
         at: here(),
-        path: Text::new(path),
+        path: StringArgument::new(path),
         words: open_words(&Flags::new(flags), &no_flags()),
     })
 }
 
 /// openat(2).
-pub(crate) fn openat_call<'a>(arguments: Arguments<'a>) -> Asked<'a>
+pub(crate) fn openat_call<'a>(arguments: Arguments<'a>) -> AskedCall<'a>
     ensures { result ≡ openat_call arguments.entry }
 {
     let mut arguments = arguments;
@@ -39,15 +39,15 @@ pub(crate) fn openat_call<'a>(arguments: Arguments<'a>) -> Asked<'a>
     let Some(at) = read_descriptor(at) else {
         return strange();
     };
-    Asked::Call(SystemCall::Open {
+    AskedCall::Call(SystemCall::Open {
         at,
-        path: Text::new(path),
+        path: StringArgument::new(path),
         words: open_words(&Flags::new(flags), &no_flags()),
     })
 }
 
 /// openat2(2), from the fields of its structure on.
-fn openat2_with<'a>(at: Descriptor<'a>, path: &'a [u8], fields: &Arguments<'_>) -> Asked<'a>
+fn openat2_with<'a>(at: Descriptor<'a>, path: &'a [u8], fields: &Arguments<'_>) -> AskedCall<'a>
     ensures { result ≡ openat2_with at.entry path.entry.now fields.now }
 {
     let Some(flags) = fields.again().value(b"flags=") else {
@@ -56,15 +56,15 @@ fn openat2_with<'a>(at: Descriptor<'a>, path: &'a [u8], fields: &Arguments<'_>) 
     let Some(resolve) = fields.again().value(b"resolve=") else {
         return strange();
     };
-    Asked::Call(SystemCall::Open {
+    AskedCall::Call(SystemCall::Open {
         at,
-        path: Text::new(path),
+        path: StringArgument::new(path),
         words: open_words(&Flags::new(flags), &Flags::new(resolve)),
     })
 }
 
 /// openat2(2), which has the flags in a structure.
-pub(crate) fn openat2_call<'a>(arguments: Arguments<'a>) -> Asked<'a>
+pub(crate) fn openat2_call<'a>(arguments: Arguments<'a>) -> AskedCall<'a>
     ensures { result ≡ openat2_call arguments.entry }
 {
     let mut arguments = arguments;
@@ -87,7 +87,7 @@ pub(crate) fn openat2_call<'a>(arguments: Arguments<'a>) -> Asked<'a>
 }
 
 /// creat(2).
-pub(crate) fn creat_call<'a>(arguments: Arguments<'a>) -> Asked<'a>
+pub(crate) fn creat_call<'a>(arguments: Arguments<'a>) -> AskedCall<'a>
     ensures { result ≡ creat_call arguments.entry }
 {
     let mut arguments = arguments;
@@ -95,15 +95,15 @@ pub(crate) fn creat_call<'a>(arguments: Arguments<'a>) -> Asked<'a>
     else {
         return strange();
     };
-    Asked::Call(SystemCall::Open {
+    AskedCall::Call(SystemCall::Open {
         at: here(),
-        path: Text::new(path),
+        path: StringArgument::new(path),
         words: open_words(&no_flags(), &no_flags()),
     })
 }
 
 /// close(2).
-pub(crate) fn close_call<'a>(arguments: Arguments<'a>) -> Asked<'a>
+pub(crate) fn close_call<'a>(arguments: Arguments<'a>) -> AskedCall<'a>
     ensures { result ≡ close_call arguments.entry }
 {
     let mut arguments = arguments;
@@ -113,11 +113,11 @@ pub(crate) fn close_call<'a>(arguments: Arguments<'a>) -> Asked<'a>
     let Some(at) = read_descriptor(at) else {
         return strange();
     };
-    Asked::Call(SystemCall::Close { at })
+    AskedCall::Call(SystemCall::Close { at })
 }
 
 /// close_range(2).
-pub(crate) fn close_range_call<'a>(arguments: Arguments<'a>) -> Asked<'a>
+pub(crate) fn close_range_call<'a>(arguments: Arguments<'a>) -> AskedCall<'a>
     ensures { result ≡ close_range_call arguments.entry }
 {
     let mut arguments = arguments;
@@ -136,10 +136,10 @@ pub(crate) fn close_range_call<'a>(arguments: Arguments<'a>) -> Asked<'a>
         return strange();
     };
     let flags = Flags::new(flags);
-    if !flags.are_known(&CLOSE_RANGE_FLAGS) {
-        return Asked::Unknown(Unknown::Flag);
+    if !flags.are_flags_of(&CLOSE_RANGE_FLAGS) {
+        return AskedCall::Unknown(Unknown::Flag);
     }
-    Asked::Call(SystemCall::CloseRange {
+    AskedCall::Call(SystemCall::CloseRange {
         first,
         last,
         unshares: flags.has(b"CLOSE_RANGE_UNSHARE"),
@@ -148,7 +148,7 @@ pub(crate) fn close_range_call<'a>(arguments: Arguments<'a>) -> Asked<'a>
 }
 
 /// dup(2), dup2(2).
-pub(crate) fn dup_call<'a>(arguments: Arguments<'a>) -> Asked<'a>
+pub(crate) fn dup_call<'a>(arguments: Arguments<'a>) -> AskedCall<'a>
     ensures { result ≡ dup_call arguments.entry }
 {
     let mut arguments = arguments;
@@ -158,14 +158,14 @@ pub(crate) fn dup_call<'a>(arguments: Arguments<'a>) -> Asked<'a>
     let Some(at) = read_descriptor(at) else {
         return strange();
     };
-    Asked::Call(SystemCall::Dup {
+    AskedCall::Call(SystemCall::Dup {
         at,
         closes_on_exec: false,
     })
 }
 
 /// dup3(2).
-pub(crate) fn dup3_call<'a>(arguments: Arguments<'a>) -> Asked<'a>
+pub(crate) fn dup3_call<'a>(arguments: Arguments<'a>) -> AskedCall<'a>
     ensures { result ≡ dup3_call arguments.entry }
 {
     let mut arguments = arguments;
@@ -180,7 +180,7 @@ pub(crate) fn dup3_call<'a>(arguments: Arguments<'a>) -> Asked<'a>
     let Some(at) = read_descriptor(at) else {
         return strange();
     };
-    Asked::Call(SystemCall::Dup {
+    AskedCall::Call(SystemCall::Dup {
         at,
         closes_on_exec: Flags::new(flags).has(b"O_CLOEXEC"),
     })
@@ -188,36 +188,36 @@ pub(crate) fn dup3_call<'a>(arguments: Arguments<'a>) -> Asked<'a>
 
 /// fcntl(2), from its command on: of its commands, those that copy a descriptor, or say whether it is closed when another
 /// program is run.
-fn fcntl_asked<'a>(at: Descriptor<'a>, command: &[u8], arguments: Arguments<'a>) -> Asked<'a>
+fn fcntl_asked<'a>(at: Descriptor<'a>, command: &[u8], arguments: Arguments<'a>) -> AskedCall<'a>
     ensures { result ≡ fcntl_asked at.entry command.now arguments.entry }
 {
     let mut arguments = arguments;
     let Some(value) = arguments.next() else {
-        return Asked::Silent;
+        return AskedCall::Silent;
     };
     if command == b"F_DUPFD".as_slice() {
-        return Asked::Call(SystemCall::Dup {
+        return AskedCall::Call(SystemCall::Dup {
             at,
             closes_on_exec: false,
         });
     }
     if command == b"F_DUPFD_CLOEXEC".as_slice() {
-        return Asked::Call(SystemCall::Dup {
+        return AskedCall::Call(SystemCall::Dup {
             at,
             closes_on_exec: true,
         });
     }
     if command == b"F_SETFD".as_slice() {
-        return Asked::Call(SystemCall::SetClosing {
+        return AskedCall::Call(SystemCall::SetClosing {
             at,
             closes_on_exec: Flags::new(value).has(b"FD_CLOEXEC"),
         });
     }
-    Asked::Silent
+    AskedCall::Silent
 }
 
 /// fcntl(2).
-pub(crate) fn fcntl_call<'a>(arguments: Arguments<'a>) -> Asked<'a>
+pub(crate) fn fcntl_call<'a>(arguments: Arguments<'a>) -> AskedCall<'a>
     ensures { result ≡ fcntl_call arguments.entry }
 {
     let mut arguments = arguments;
@@ -231,7 +231,7 @@ pub(crate) fn fcntl_call<'a>(arguments: Arguments<'a>) -> Asked<'a>
 }
 
 /// symlink(2).
-pub(crate) fn symlink_call<'a>(arguments: Arguments<'a>) -> Asked<'a>
+pub(crate) fn symlink_call<'a>(arguments: Arguments<'a>) -> AskedCall<'a>
     ensures { result ≡ symlink_call arguments.entry }
 {
     let mut arguments = arguments;
@@ -239,15 +239,15 @@ pub(crate) fn symlink_call<'a>(arguments: Arguments<'a>) -> Asked<'a>
     else {
         return strange();
     };
-    Asked::Call(SystemCall::Link {
+    AskedCall::Call(SystemCall::Link {
         at: here(),
-        path: Text::new(path),
-        target: Text::new(target),
+        path: StringArgument::new(path),
+        target: StringArgument::new(target),
     })
 }
 
 /// symlinkat(2).
-pub(crate) fn symlinkat_call<'a>(arguments: Arguments<'a>) -> Asked<'a>
+pub(crate) fn symlinkat_call<'a>(arguments: Arguments<'a>) -> AskedCall<'a>
     ensures { result ≡ symlinkat_call arguments.entry }
 {
     let mut arguments = arguments;
@@ -262,15 +262,15 @@ pub(crate) fn symlinkat_call<'a>(arguments: Arguments<'a>) -> Asked<'a>
     let Some(at) = read_descriptor(at) else {
         return strange();
     };
-    Asked::Call(SystemCall::Link {
+    AskedCall::Call(SystemCall::Link {
         at,
-        path: Text::new(path),
-        target: Text::new(target),
+        path: StringArgument::new(path),
+        target: StringArgument::new(target),
     })
 }
 
 /// readlink(2).
-pub(crate) fn readlink_call<'a>(arguments: Arguments<'a>) -> Asked<'a>
+pub(crate) fn readlink_call<'a>(arguments: Arguments<'a>) -> AskedCall<'a>
     ensures { result ≡ readlink_call arguments.entry }
 {
     let mut arguments = arguments;
@@ -282,15 +282,15 @@ pub(crate) fn readlink_call<'a>(arguments: Arguments<'a>) -> Asked<'a>
     ) else {
         return strange();
     };
-    Asked::Call(SystemCall::Link {
+    AskedCall::Call(SystemCall::Link {
         at: here(),
-        path: Text::new(path),
-        target: Text::new(target),
+        path: StringArgument::new(path),
+        target: StringArgument::new(target),
     })
 }
 
 /// readlinkat(2).
-pub(crate) fn readlinkat_call<'a>(arguments: Arguments<'a>) -> Asked<'a>
+pub(crate) fn readlinkat_call<'a>(arguments: Arguments<'a>) -> AskedCall<'a>
     ensures { result ≡ readlinkat_call arguments.entry }
 {
     let mut arguments = arguments;
@@ -306,9 +306,9 @@ pub(crate) fn readlinkat_call<'a>(arguments: Arguments<'a>) -> Asked<'a>
     let Some(at) = read_descriptor(at) else {
         return strange();
     };
-    Asked::Call(SystemCall::Link {
+    AskedCall::Call(SystemCall::Link {
         at,
-        path: Text::new(path),
-        target: Text::new(target),
+        path: StringArgument::new(path),
+        target: StringArgument::new(target),
     })
 }

@@ -45,15 +45,15 @@ impl<'a> Flags<'a> {
     }
 
     /// Whether each word is one of these.
-    pub fn are_known(&self, known: &[&[u8]]) -> bool
+    pub fn are_flags_of(&self, known: &[&[u8]]) -> bool
         ensures { result ≡ list_all (λ word. list_any (λ flag. bytes_eq flag.now word) known.now) self.now }
     {
-        self.words().all(|word| is_known(known, word))
+        self.words().all(|word| is_flag_of(known, word))
     }
 }
 
 /// Whether a word is one of these.
-pub(crate) fn is_known(known: &[&[u8]], word: &[u8]) -> bool
+pub(crate) fn is_flag_of(known: &[&[u8]], word: &[u8]) -> bool
     ensures { result ≡ list_any (λ flag. bytes_eq flag.now word.now) known.now }
 {
     known.iter().any(|flag| *flag == word)

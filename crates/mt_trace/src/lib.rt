@@ -15,7 +15,7 @@ pub mod mount_flags;
 mod new_mount_calls;
 mod process_calls;
 pub mod process_spaces;
+pub mod string_argument;
 pub mod system_call;
-pub mod text;
 pub mod told_path;
 pub mod unknown;

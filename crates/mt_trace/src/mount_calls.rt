@@ -8,22 +8,22 @@ use crate::call_flags::{
 };
 use crate::flags::{Flags, no_flags};
 use crate::mount_flags::{asked_operation, attribute_change};
-use crate::system_call::{Asked, SystemCall};
-use crate::text::Text;
+use crate::string_argument::StringArgument;
+use crate::system_call::{AskedCall, SystemCall};
 use crate::unknown::Unknown;
 use mt_setattr::change::Change;
 use mt_strace::arguments::{Arguments, fields_of};
 use mt_strace::descriptor::{Descriptor, read_descriptor};
 
 /// A call whose arguments are not its own.
-pub(crate) fn strange<'a>() -> Asked<'a>
+pub(crate) fn strange<'a>() -> AskedCall<'a>
     ensures { result ≡ strange }
 {
-    Asked::Unknown(Unknown::Arguments)
+    AskedCall::Unknown(Unknown::Arguments)
 }
 
 /// mount(2).
-pub(crate) fn mount_call<'a>(arguments: Arguments<'a>) -> Asked<'a>
+pub(crate) fn mount_call<'a>(arguments: Arguments<'a>) -> AskedCall<'a>
     ensures { result ≡ mount_call arguments.entry }
 {
     let mut arguments = arguments;
@@ -39,33 +39,33 @@ pub(crate) fn mount_call<'a>(arguments: Arguments<'a>) -> Asked<'a>
     };
     let flags = Flags::new(flags);
     let Some(operation) = asked_operation(&flags) else {
-        return Asked::Unknown(Unknown::Flag);
+        return AskedCall::Unknown(Unknown::Flag);
     };
-    Asked::Call(SystemCall::Mount {
-        source: Text::new(source),
-        target: Text::new(target),
-        kind: Text::new(kind),
+    AskedCall::Call(SystemCall::Mount {
+        source: StringArgument::new(source),
+        target: StringArgument::new(target),
+        kind: StringArgument::new(kind),
         operation,
-        options: Text::new(options),
+        options: StringArgument::new(options),
     })
 }
 
 /// umount(2), without flags.
-pub(crate) fn umount_call<'a>(arguments: Arguments<'a>) -> Asked<'a>
+pub(crate) fn umount_call<'a>(arguments: Arguments<'a>) -> AskedCall<'a>
     ensures { result ≡ umount_call arguments.entry }
 {
     let mut arguments = arguments;
     let (Some(path), None) = (arguments.next(), arguments.next()) else {
         return strange();
     };
-    Asked::Call(SystemCall::Umount {
-        path: Text::new(path),
+    AskedCall::Call(SystemCall::Umount {
+        path: StringArgument::new(path),
         words: unmount_words(&no_flags()),
     })
 }
 
 /// umount2(2).
-pub(crate) fn umount2_call<'a>(arguments: Arguments<'a>) -> Asked<'a>
+pub(crate) fn umount2_call<'a>(arguments: Arguments<'a>) -> AskedCall<'a>
     ensures { result ≡ umount2_call arguments.entry }
 {
     let mut arguments = arguments;
@@ -74,26 +74,26 @@ pub(crate) fn umount2_call<'a>(arguments: Arguments<'a>) -> Asked<'a>
         return strange();
     };
     let flags = Flags::new(flags);
-    if !flags.are_known(&UNMOUNT_FLAGS) {
-        return Asked::Unknown(Unknown::Flag);
+    if !flags.are_flags_of(&UNMOUNT_FLAGS) {
+        return AskedCall::Unknown(Unknown::Flag);
     }
-    Asked::Call(SystemCall::Umount {
-        path: Text::new(path),
+    AskedCall::Call(SystemCall::Umount {
+        path: StringArgument::new(path),
         words: unmount_words(&flags),
     })
 }
 
 /// pivot_root(2).
-pub(crate) fn pivot_root_call<'a>(arguments: Arguments<'a>) -> Asked<'a>
+pub(crate) fn pivot_root_call<'a>(arguments: Arguments<'a>) -> AskedCall<'a>
     ensures { result ≡ pivot_root_call arguments.entry }
 {
     let mut arguments = arguments;
     let (Some(new), Some(old), None) = (arguments.next(), arguments.next(), arguments.next()) else {
         return strange();
     };
-    Asked::Call(SystemCall::PivotRoot {
-        new: Text::new(new),
-        old: Text::new(old),
+    AskedCall::Call(SystemCall::PivotRoot {
+        new: StringArgument::new(new),
+        old: StringArgument::new(old),
     })
 }
 
@@ -124,26 +124,26 @@ fn setattr_asked<'a>(
     path: &'a [u8],
     flags: &Flags<'_>,
     change: Result<Change, Unknown>,
-) -> Asked<'a>
+) -> AskedCall<'a>
     ensures { result ≡ setattr_asked at.entry path.entry.now flags.now change.entry }
 {
     let change = match change {
         Ok(change) => change,
-        Err(why) => return Asked::Unknown(why),
+        Err(why) => return AskedCall::Unknown(why),
     };
-    if !flags.are_known(&SETATTR_FLAGS) {
-        return Asked::Unknown(Unknown::Flag);
+    if !flags.are_flags_of(&SETATTR_FLAGS) {
+        return AskedCall::Unknown(Unknown::Flag);
     }
-    Asked::Call(SystemCall::MountSetattr {
+    AskedCall::Call(SystemCall::MountSetattr {
         at,
-        path: Text::new(path),
+        path: StringArgument::new(path),
         follows: !flags.has(b"AT_SYMLINK_NOFOLLOW"),
         change,
     })
 }
 
 /// mount_setattr(2).
-pub(crate) fn mount_setattr_call<'a>(arguments: Arguments<'a>) -> Asked<'a>
+pub(crate) fn mount_setattr_call<'a>(arguments: Arguments<'a>) -> AskedCall<'a>
     ensures { result ≡ mount_setattr_call arguments.entry }
 {
     let mut arguments = arguments;
@@ -169,7 +169,7 @@ pub(crate) fn mount_setattr_call<'a>(arguments: Arguments<'a>) -> Asked<'a>
 }
 
 /// open_tree(2).
-pub(crate) fn open_tree_call<'a>(arguments: Arguments<'a>) -> Asked<'a>
+pub(crate) fn open_tree_call<'a>(arguments: Arguments<'a>) -> AskedCall<'a>
     ensures { result ≡ open_tree_call arguments.entry }
 {
     let mut arguments = arguments;
@@ -185,34 +185,34 @@ pub(crate) fn open_tree_call<'a>(arguments: Arguments<'a>) -> Asked<'a>
         return strange();
     };
     let flags = Flags::new(flags);
-    if !flags.are_known(&OPEN_TREE_FLAGS) {
-        return Asked::Unknown(Unknown::Flag);
+    if !flags.are_flags_of(&OPEN_TREE_FLAGS) {
+        return AskedCall::Unknown(Unknown::Flag);
     }
-    Asked::Call(SystemCall::OpenTree {
+    AskedCall::Call(SystemCall::OpenTree {
         at,
-        path: Text::new(path),
+        path: StringArgument::new(path),
         words: tree_words(&flags),
     })
 }
 
 /// A call of move_mount(2), if its flags are followed.
-fn moved_asked<'a>(flags: &Flags<'_>, asks: SystemCall<'a>) -> Asked<'a>
+fn moved_asked<'a>(flags: &Flags<'_>, asks: SystemCall<'a>) -> AskedCall<'a>
     ensures { result ≡ moved_asked flags.now asks.entry }
 {
     if flags.has(b"MOVE_MOUNT_BENEATH") {
-        return Asked::Unknown(Unknown::Beneath);
+        return AskedCall::Unknown(Unknown::Beneath);
     }
     if flags.has(b"MOVE_MOUNT_SET_GROUP") {
-        return Asked::Unknown(Unknown::Group);
+        return AskedCall::Unknown(Unknown::Group);
     }
-    if !flags.are_known(&MOVE_FLAGS) {
-        return Asked::Unknown(Unknown::Flag);
+    if !flags.are_flags_of(&MOVE_FLAGS) {
+        return AskedCall::Unknown(Unknown::Flag);
     }
-    Asked::Call(asks)
+    AskedCall::Call(asks)
 }
 
 /// move_mount(2).
-pub(crate) fn move_mount_call<'a>(arguments: Arguments<'a>) -> Asked<'a>
+pub(crate) fn move_mount_call<'a>(arguments: Arguments<'a>) -> AskedCall<'a>
     ensures { result ≡ move_mount_call arguments.entry }
 {
     let mut arguments = arguments;
@@ -238,9 +238,9 @@ pub(crate) fn move_mount_call<'a>(arguments: Arguments<'a>) -> Asked<'a>
         &flags,
         SystemCall::MoveMount {
             from,
-            source: Text::new(source),
+            source: StringArgument::new(source),
             to,
-            target: Text::new(target),
+            target: StringArgument::new(target),
             words,
         },
     )

@@ -208,7 +208,7 @@ fn known_operation(flags: &Flags<'_>) -> MountOperation
 pub(crate) fn asked_operation(flags: &Flags<'_>) -> Option<MountOperation>
     ensures { result ≡ asked_operation flags.now }
 {
-    if flags.are_known(&MOUNT_FLAGS) {
+    if flags.are_flags_of(&MOUNT_FLAGS) {
         Some(known_operation(flags))
     } else {
         None
@@ -267,7 +267,7 @@ fn attribute_fault(flags: &Flags<'_>) -> Option<Unknown>
     if flags.has(b"MOUNT_ATTR_IDMAP") {
         return Some(Unknown::MappedIds);
     }
-    if flags.are_known(&ATTRIBUTES) {
+    if flags.are_flags_of(&ATTRIBUTES) {
         None
     } else {
         Some(Unknown::Flag)
@@ -278,7 +278,7 @@ fn attribute_fault(flags: &Flags<'_>) -> Option<Unknown>
 fn propagation_fault(flags: &Flags<'_>) -> Option<Unknown>
     ensures { result ≡ propagation_fault flags.now }
 {
-    if flags.are_known(&MOUNT_FLAGS) {
+    if flags.are_flags_of(&MOUNT_FLAGS) {
         None
     } else {
         Some(Unknown::Flag)

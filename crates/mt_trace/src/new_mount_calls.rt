@@ -3,18 +3,18 @@ ghost use Rattle.std.specs.Prelude.{◌≡◌};
 ghost use Rattle.mt_trace.specs.SystemCalls.{fsopen_call, fsmount_asked, fsmount_call, setting_of, fsconfig_call};
 
 use crate::call_flags::{FSMOUNT_FLAGS, OTHER_SETTINGS};
-use crate::flags::{Flags, is_known};
+use crate::flags::{Flags, is_flag_of};
 use crate::mount_calls::strange;
 use crate::mount_flags::attributes_asked;
-use crate::system_call::{Asked, Setting, SystemCall};
-use crate::text::Text;
+use crate::string_argument::StringArgument;
+use crate::system_call::{AskedCall, ContextSetting, SystemCall};
 use crate::unknown::Unknown;
 use mt_setattr::change::SetWords;
 use mt_strace::arguments::Arguments;
 use mt_strace::descriptor::{Descriptor, read_descriptor};
 
 /// fsopen(2).
-pub(crate) fn fsopen_call<'a>(arguments: Arguments<'a>) -> Asked<'a>
+pub(crate) fn fsopen_call<'a>(arguments: Arguments<'a>) -> AskedCall<'a>
     ensures { result ≡ fsopen_call arguments.entry }
 {
     let mut arguments = arguments;
@@ -22,8 +22,8 @@ pub(crate) fn fsopen_call<'a>(arguments: Arguments<'a>) -> Asked<'a>
     else {
         return strange();
     };
-    Asked::Call(SystemCall::Fsopen {
-        kind: Text::new(kind),
+    AskedCall::Call(SystemCall::Fsopen {
+        kind: StringArgument::new(kind),
         closes_on_exec: Flags::new(flags).has(b"FSOPEN_CLOEXEC"),
     })
 }
@@ -33,17 +33,17 @@ fn fsmount_asked<'a>(
     context: Descriptor<'a>,
     flags: &Flags<'_>,
     set: Result<SetWords, Unknown>,
-) -> Asked<'a>
+) -> AskedCall<'a>
     ensures { result ≡ fsmount_asked context.entry flags.now set.entry }
 {
     let set = match set {
         Ok(set) => set,
-        Err(why) => return Asked::Unknown(why),
+        Err(why) => return AskedCall::Unknown(why),
     };
-    if !flags.are_known(&FSMOUNT_FLAGS) {
-        return Asked::Unknown(Unknown::Flag);
+    if !flags.are_flags_of(&FSMOUNT_FLAGS) {
+        return AskedCall::Unknown(Unknown::Flag);
     }
-    Asked::Call(SystemCall::Fsmount {
+    AskedCall::Call(SystemCall::Fsmount {
         context,
         set,
         closes_on_exec: flags.has(b"FSMOUNT_CLOEXEC"),
@@ -51,7 +51,7 @@ fn fsmount_asked<'a>(
 }
 
 /// fsmount(2).
-pub(crate) fn fsmount_call<'a>(arguments: Arguments<'a>) -> Asked<'a>
+pub(crate) fn fsmount_call<'a>(arguments: Arguments<'a>) -> AskedCall<'a>
     ensures { result ≡ fsmount_call arguments.entry }
 {
     let mut arguments = arguments;
@@ -71,29 +71,29 @@ pub(crate) fn fsmount_call<'a>(arguments: Arguments<'a>) -> Asked<'a>
 }
 
 /// What a command of fsconfig(2) sets. `None` if the command is not known.
-fn setting_of<'a>(command: &[u8], key: &'a [u8], value: &'a [u8]) -> Option<Setting<'a>>
+fn setting_of<'a>(command: &[u8], key: &'a [u8], value: &'a [u8]) -> Option<ContextSetting<'a>>
     ensures { result ≡ setting_of command.now key.entry.now value.entry.now }
 {
     if command == b"FSCONFIG_SET_STRING".as_slice() {
-        return Some(Setting::String {
-            key: Text::new(key),
-            value: Text::new(value),
+        return Some(ContextSetting::String {
+            key: StringArgument::new(key),
+            value: StringArgument::new(value),
         });
     }
     if command == b"FSCONFIG_SET_FLAG".as_slice() {
-        return Some(Setting::Flag {
-            key: Text::new(key),
+        return Some(ContextSetting::Flag {
+            key: StringArgument::new(key),
         });
     }
-    if is_known(&OTHER_SETTINGS, command) {
-        Some(Setting::Other)
+    if is_flag_of(&OTHER_SETTINGS, command) {
+        Some(ContextSetting::Other)
     } else {
         None
     }
 }
 
 /// fsconfig(2).
-pub(crate) fn fsconfig_call<'a>(arguments: Arguments<'a>) -> Asked<'a>
+pub(crate) fn fsconfig_call<'a>(arguments: Arguments<'a>) -> AskedCall<'a>
     ensures { result ≡ fsconfig_call arguments.entry }
 {
     let mut arguments = arguments;
@@ -111,7 +111,7 @@ pub(crate) fn fsconfig_call<'a>(arguments: Arguments<'a>) -> Asked<'a>
         return strange();
     };
     match setting_of(command, key, value) {
-        Some(setting) => Asked::Call(SystemCall::Fsconfig { context, setting }),
-        None => Asked::Unknown(Unknown::Flag),
+        Some(setting) => AskedCall::Call(SystemCall::Fsconfig { context, setting }),
+        None => AskedCall::Unknown(Unknown::Flag),
     }
 }

@@ -6,8 +6,8 @@ ghost use Rattle.mt_trace.specs.SystemCalls.{here, clone_call, clone3_call, unsh
 use crate::call_flags::{CloneWords, EXECVEAT_FLAGS, are_clone_flags, clone_words};
 use crate::flags::Flags;
 use crate::mount_calls::strange;
-use crate::system_call::{Asked, SystemCall};
-use crate::text::Text;
+use crate::string_argument::StringArgument;
+use crate::system_call::{AskedCall, SystemCall};
 use crate::unknown::Unknown;
 use mt_strace::arguments::{Arguments, fields_of};
 use mt_strace::descriptor::{Descriptor, DescriptorNumber, read_descriptor};
@@ -35,20 +35,20 @@ fn words_if_known(flags: &Flags<'_>) -> Option<CloneWords>
 }
 
 /// clone(2), of which strace names the arguments.
-pub(crate) fn clone_call<'a>(arguments: Arguments<'a>) -> Asked<'a>
+pub(crate) fn clone_call<'a>(arguments: Arguments<'a>) -> AskedCall<'a>
     ensures { result ≡ clone_call arguments.entry }
 {
     let Some(flags) = arguments.value(b"flags=") else {
         return strange();
     };
     match words_if_known(&Flags::new(flags)) {
-        Some(words) => Asked::Call(SystemCall::Clone(words)),
-        None => Asked::Unknown(Unknown::Flag),
+        Some(words) => AskedCall::Call(SystemCall::Clone(words)),
+        None => AskedCall::Unknown(Unknown::Flag),
     }
 }
 
 /// clone3(2), which has them in a structure.
-pub(crate) fn clone3_call<'a>(arguments: Arguments<'a>) -> Asked<'a>
+pub(crate) fn clone3_call<'a>(arguments: Arguments<'a>) -> AskedCall<'a>
     ensures { result ≡ clone3_call arguments.entry }
 {
     let mut arguments = arguments;
@@ -62,7 +62,7 @@ pub(crate) fn clone3_call<'a>(arguments: Arguments<'a>) -> Asked<'a>
 }
 
 /// unshare(2).
-pub(crate) fn unshare_call<'a>(arguments: Arguments<'a>) -> Asked<'a>
+pub(crate) fn unshare_call<'a>(arguments: Arguments<'a>) -> AskedCall<'a>
     ensures { result ≡ unshare_call arguments.entry }
 {
     let mut arguments = arguments;
@@ -70,13 +70,13 @@ pub(crate) fn unshare_call<'a>(arguments: Arguments<'a>) -> Asked<'a>
         return strange();
     };
     match words_if_known(&Flags::new(flags)) {
-        Some(words) => Asked::Call(SystemCall::Unshare(words)),
-        None => Asked::Unknown(Unknown::Flag),
+        Some(words) => AskedCall::Call(SystemCall::Unshare(words)),
+        None => AskedCall::Unknown(Unknown::Flag),
     }
 }
 
 /// setns(2).
-pub(crate) fn setns_call<'a>(arguments: Arguments<'a>) -> Asked<'a>
+pub(crate) fn setns_call<'a>(arguments: Arguments<'a>) -> AskedCall<'a>
     ensures { result ≡ setns_call arguments.entry }
 {
     let mut arguments = arguments;
@@ -88,13 +88,13 @@ pub(crate) fn setns_call<'a>(arguments: Arguments<'a>) -> Asked<'a>
         return strange();
     };
     match words_if_known(&Flags::new(kinds)) {
-        Some(kinds) => Asked::Call(SystemCall::Setns { space, kinds }),
-        None => Asked::Unknown(Unknown::Flag),
+        Some(kinds) => AskedCall::Call(SystemCall::Setns { space, kinds }),
+        None => AskedCall::Unknown(Unknown::Flag),
     }
 }
 
 /// execve(2).
-pub(crate) fn execve_call<'a>(arguments: Arguments<'a>) -> Asked<'a>
+pub(crate) fn execve_call<'a>(arguments: Arguments<'a>) -> AskedCall<'a>
     ensures { result ≡ execve_call arguments.entry }
 {
     let mut arguments = arguments;
@@ -106,15 +106,15 @@ pub(crate) fn execve_call<'a>(arguments: Arguments<'a>) -> Asked<'a>
     ) else {
         return strange();
     };
-    Asked::Call(SystemCall::Execve {
+    AskedCall::Call(SystemCall::Execve {
         at: here(),
-        path: Text::new(path),
+        path: StringArgument::new(path),
         follows: true,
     })
 }
 
 /// execveat(2).
-pub(crate) fn execveat_call<'a>(arguments: Arguments<'a>) -> Asked<'a>
+pub(crate) fn execveat_call<'a>(arguments: Arguments<'a>) -> AskedCall<'a>
     ensures { result ≡ execveat_call arguments.entry }
 {
     let mut arguments = arguments;
@@ -132,44 +132,44 @@ pub(crate) fn execveat_call<'a>(arguments: Arguments<'a>) -> Asked<'a>
         return strange();
     };
     let flags = Flags::new(flags);
-    if !flags.are_known(&EXECVEAT_FLAGS) {
-        return Asked::Unknown(Unknown::Flag);
+    if !flags.are_flags_of(&EXECVEAT_FLAGS) {
+        return AskedCall::Unknown(Unknown::Flag);
     }
-    Asked::Call(SystemCall::Execve {
+    AskedCall::Call(SystemCall::Execve {
         at,
-        path: Text::new(path),
+        path: StringArgument::new(path),
         follows: !flags.has(b"AT_SYMLINK_NOFOLLOW"),
     })
 }
 
 /// chdir(2).
-pub(crate) fn chdir_call<'a>(arguments: Arguments<'a>) -> Asked<'a>
+pub(crate) fn chdir_call<'a>(arguments: Arguments<'a>) -> AskedCall<'a>
     ensures { result ≡ chdir_call arguments.entry }
 {
     let mut arguments = arguments;
     let (Some(path), None) = (arguments.next(), arguments.next()) else {
         return strange();
     };
-    Asked::Call(SystemCall::Chdir {
-        path: Text::new(path),
+    AskedCall::Call(SystemCall::Chdir {
+        path: StringArgument::new(path),
     })
 }
 
 /// chroot(2).
-pub(crate) fn chroot_call<'a>(arguments: Arguments<'a>) -> Asked<'a>
+pub(crate) fn chroot_call<'a>(arguments: Arguments<'a>) -> AskedCall<'a>
     ensures { result ≡ chroot_call arguments.entry }
 {
     let mut arguments = arguments;
     let (Some(path), None) = (arguments.next(), arguments.next()) else {
         return strange();
     };
-    Asked::Call(SystemCall::Chroot {
-        path: Text::new(path),
+    AskedCall::Call(SystemCall::Chroot {
+        path: StringArgument::new(path),
     })
 }
 
 /// fchdir(2).
-pub(crate) fn fchdir_call<'a>(arguments: Arguments<'a>) -> Asked<'a>
+pub(crate) fn fchdir_call<'a>(arguments: Arguments<'a>) -> AskedCall<'a>
     ensures { result ≡ fchdir_call arguments.entry }
 {
     let mut arguments = arguments;
@@ -179,5 +179,5 @@ pub(crate) fn fchdir_call<'a>(arguments: Arguments<'a>) -> Asked<'a>
     let Some(at) = read_descriptor(at) else {
         return strange();
     };
-    Asked::Call(SystemCall::Fchdir { at })
+    AskedCall::Call(SystemCall::Fchdir { at })
 }

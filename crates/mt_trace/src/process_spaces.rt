@@ -44,28 +44,28 @@ pub struct ProcessSpaces {
     pub control_group: u64,
 }
 
-/// The name of a file of `/proc/PID/ns`, and the kind of namespaces that it names.
+/// A kind of namespaces, and the file of `/proc/PID/ns` that names one of it.
 #[derive(Clone, Copy)]
-struct SpaceFile(&'static [u8], SpaceKind);
+struct SpaceFile(SpaceKind, &'static [u8]);
 
 /// All files of `/proc/PID/ns` that are followed.
 const SPACE_FILES: [SpaceFile; 7] = [
-    SpaceFile(b"mnt", SpaceKind::Mount),
-    SpaceFile(b"user", SpaceKind::User),
-    SpaceFile(b"pid", SpaceKind::Process),
-    SpaceFile(b"pid_for_children", SpaceKind::ForChildren),
-    SpaceFile(b"net", SpaceKind::Network),
-    SpaceFile(b"ipc", SpaceKind::Ipc),
-    SpaceFile(b"cgroup", SpaceKind::ControlGroup),
+    SpaceFile(SpaceKind::Mount, b"mnt"),
+    SpaceFile(SpaceKind::User, b"user"),
+    SpaceFile(SpaceKind::Process, b"pid"),
+    SpaceFile(SpaceKind::ForChildren, b"pid_for_children"),
+    SpaceFile(SpaceKind::Network, b"net"),
+    SpaceFile(SpaceKind::Ipc, b"ipc"),
+    SpaceFile(SpaceKind::ControlGroup, b"cgroup"),
 ];
 
 /// The kind that a file names, if it is in one of these rows.
 fn kind_among(name: &[u8], rows: &[SpaceFile]) -> Option<SpaceKind>
-    ensures { result ≡ looked_up (λ row. bytes_eq row.0.now name.now) (λ row. row.1) rows.now }
+    ensures { result ≡ looked_up (λ row. bytes_eq row.1.now name.now) (λ row. row.0) rows.now }
 {
     for row in rows {
-        if row.0 == name {
-            return Some(row.1);
+        if row.1 == name {
+            return Some(row.0);
         }
     }
     None

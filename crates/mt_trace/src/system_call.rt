@@ -2,25 +2,25 @@
 
 use crate::call_flags::{CloneWords, MoveWords, OpenWords, TreeWords, UnmountWords};
 use crate::mount_flags::MountOperation;
-use crate::text::Text;
+use crate::string_argument::StringArgument;
 use crate::unknown::Unknown;
 use mt_setattr::change::{Change, SetWords};
 use mt_strace::descriptor::Descriptor;
 
 /// What a call of fsconfig(2) sets.
 #[derive(Drop)]
-pub enum Setting<'a> {
+pub enum ContextSetting<'a> {
     /// A key with a value, as the source.
     String {
         /// The key.
-        key: Text<'a>,
+        key: StringArgument<'a>,
         /// Its value.
-        value: Text<'a>,
+        value: StringArgument<'a>,
     },
     /// A key without a value.
     Flag {
         /// The key.
-        key: Text<'a>,
+        key: StringArgument<'a>,
     },
     /// Something that no table tells, or nothing.
     Other,
@@ -33,36 +33,36 @@ pub enum SystemCall<'a> {
     /// Mounts a filesystem, or changes mounts: mount(2).
     Mount {
         /// The source.
-        source: Text<'a>,
+        source: StringArgument<'a>,
         /// Where to.
-        target: Text<'a>,
+        target: StringArgument<'a>,
         /// The type of the filesystem.
-        kind: Text<'a>,
+        kind: StringArgument<'a>,
         /// Which of the things that the call can do.
         operation: MountOperation,
         /// The options of the filesystem.
-        options: Text<'a>,
+        options: StringArgument<'a>,
     },
     /// Unmounts a mount: umount2(2).
     Umount {
         /// The mount.
-        path: Text<'a>,
+        path: StringArgument<'a>,
         /// How.
         words: UnmountWords,
     },
     /// Changes the root mount: pivot_root(2).
     PivotRoot {
         /// The new one.
-        new: Text<'a>,
+        new: StringArgument<'a>,
         /// Where the old one goes.
-        old: Text<'a>,
+        old: StringArgument<'a>,
     },
     /// Changes attributes and propagation of mounts: mount_setattr(2).
     MountSetattr {
         /// Where the path begins.
         at: Descriptor<'a>,
         /// The mount.
-        path: Text<'a>,
+        path: StringArgument<'a>,
         /// Whether a symbolic link at its end is followed.
         follows: bool,
         /// What is changed.
@@ -73,7 +73,7 @@ pub enum SystemCall<'a> {
         /// Where the path begins.
         at: Descriptor<'a>,
         /// The place.
-        path: Text<'a>,
+        path: StringArgument<'a>,
         /// How.
         words: TreeWords,
     },
@@ -82,18 +82,18 @@ pub enum SystemCall<'a> {
         /// Where the path of the source begins.
         from: Descriptor<'a>,
         /// The source.
-        source: Text<'a>,
+        source: StringArgument<'a>,
         /// Where the path of the target begins.
         to: Descriptor<'a>,
         /// The target.
-        target: Text<'a>,
+        target: StringArgument<'a>,
         /// How.
         words: MoveWords,
     },
     /// Begins a filesystem: fsopen(2).
     Fsopen {
         /// Its type.
-        kind: Text<'a>,
+        kind: StringArgument<'a>,
         /// Whether the descriptor is closed when another program is run.
         closes_on_exec: bool,
     },
@@ -102,7 +102,7 @@ pub enum SystemCall<'a> {
         /// What fsopen(2) has returned.
         context: Descriptor<'a>,
         /// What is set.
-        setting: Setting<'a>,
+        setting: ContextSetting<'a>,
     },
     /// Makes a detached mount: fsmount(2).
     Fsmount {
@@ -129,14 +129,14 @@ pub enum SystemCall<'a> {
         /// Where the path begins.
         at: Descriptor<'a>,
         /// The program.
-        path: Text<'a>,
+        path: StringArgument<'a>,
         /// Whether a symbolic link at its end is followed.
         follows: bool,
     },
     /// Changes the current directory: chdir(2).
     Chdir {
         /// The new one.
-        path: Text<'a>,
+        path: StringArgument<'a>,
     },
     /// Changes the current directory to an open one: fchdir(2).
     Fchdir {
@@ -146,14 +146,14 @@ pub enum SystemCall<'a> {
     /// Changes the root directory of the process: chroot(2).
     Chroot {
         /// The new one.
-        path: Text<'a>,
+        path: StringArgument<'a>,
     },
     /// Opens a file: open(2), openat2(2).
     Open {
         /// Where the path begins.
         at: Descriptor<'a>,
         /// The file.
-        path: Text<'a>,
+        path: StringArgument<'a>,
         /// How.
         words: OpenWords,
     },
@@ -192,15 +192,15 @@ pub enum SystemCall<'a> {
         /// Where the path begins.
         at: Descriptor<'a>,
         /// The link.
-        path: Text<'a>,
+        path: StringArgument<'a>,
         /// What it leads to.
-        target: Text<'a>,
+        target: StringArgument<'a>,
     },
 }
 
 /// What is known of a call.
 #[derive(Drop)]
-pub enum Asked<'a> {
+pub enum AskedCall<'a> {
     /// It asks for nothing that is followed.
     Silent,
     /// What it asks for.

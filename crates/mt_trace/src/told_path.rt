@@ -1,6 +1,6 @@
 //! What strace tells a descriptor to lead to, and the number of a child.
 ghost use Rattle.std.specs.Prelude.{◌≡◌};
-ghost use Rattle.mt_trace.specs.ToldPaths.{number_in_brackets, space_named, told_path, number_in_comment, child_of};
+ghost use Rattle.mt_trace.specs.ToldPaths.{number_in_brackets, namespace_told, told_path, number_in_comment, child_of};
 
 use crate::process_spaces::{SpaceKind, kind_of_file};
 use mt_lines::words::{Pieces, number};
@@ -29,8 +29,8 @@ fn number_in_brackets(text: &[u8]) -> Option<u64>
 }
 
 /// The namespace that a text names.
-fn space_named(text: &[u8]) -> Option<(SpaceKind, u64)>
-    ensures { result ≡ space_named text.now }
+fn namespace_told(text: &[u8]) -> Option<(SpaceKind, u64)>
+    ensures { result ≡ namespace_told text.now }
 {
     let mut pieces = Pieces::new(b':', text);
     let (Some(word), Some(behind), None) = (pieces.next(), pieces.next(), pieces.next()) else {
@@ -48,7 +48,7 @@ pub fn told_path<'a>(text: &'a [u8]) -> ToldPath<'a>
     if text.starts_with(b"/") {
         return ToldPath::Path(Excerpt::new(text));
     }
-    match space_named(text) {
+    match namespace_told(text) {
         Some((kind, n)) => ToldPath::Space(kind, n),
         None => ToldPath::Other,
     }

@@ -5,4 +5,4 @@ use Rattle.mt_trace.proofs.process_spaces.kind_among.Given as goal
 
 abbrev pub invariant-loop-row : goal.invariant-loop-row
 invariant-loop-row l =
-    looked_up (λ row. bytes_eq row.0.now l.name) (λ row. row.1) (drop l.row-index l.rows) ≡ looked_up (λ row. bytes_eq row.0.now l.name) (λ row. row.1) l.rows
+    looked_up (λ row. bytes_eq row.1.now l.name) (λ row. row.0) (drop l.row-index l.rows) ≡ looked_up (λ row. bytes_eq row.1.now l.name) (λ row. row.0) l.rows

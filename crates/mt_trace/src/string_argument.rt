@@ -1,7 +1,7 @@
 //! The strings among the arguments of a call.
 ghost use Rattle.std.specs.Prelude.{◌≡◌, IfOk};
 ghost use Rattle.std.specs.Result.{result_map_both};
-ghost use Rattle.mt_trace.specs.Texts.{text_of};
+ghost use Rattle.mt_trace.specs.StringArguments.{string_argument};
 
 use mt_strace::string::read_string;
 use std::alloc::{AllocError, Global};
@@ -9,7 +9,7 @@ use std::marker::Model;
 
 /// Why the bytes of a string are not known.
 #[derive(Clone, Copy, PartialEq, Eq, Debug)]
-pub enum Untold {
+pub enum StringFault {
     /// There is none: `NULL`.
     Missing,
     /// Its end is cut off: the option `-s` of strace was too small.
@@ -18,52 +18,52 @@ pub enum Untold {
     Address,
 }
 
-impl Untold {
+impl StringFault {
     /// The same in words, to come after "the path is not known: ".
     pub fn text(self) -> &'static str {
         match self {
-            Untold::Missing => "it is NULL",
-            Untold::Cut => "it is cut off: record with strace -s 4096",
-            Untold::Address => "strace tells its address alone",
+            StringFault::Missing => "it is NULL",
+            StringFault::Cut => "it is cut off: record with strace -s 4096",
+            StringFault::Address => "strace tells its address alone",
         }
     }
 }
 
 /// A string among the arguments of a call: its bytes, or why they are not known.
 #[derive(Drop)]
-pub struct Text<'a> {
+pub struct StringArgument<'a> {
     argument: &'a [u8],
 }
 
-impl<'a> Model for Text<'a> {
+impl<'a> Model for StringArgument<'a> {
     ghost use Rattle.std.specs.Prelude.{ℕ, List, Result};
-    ghost use Rattle.mt_trace.specs.Texts.{text_of};
-    ghost use Rattle.mt_trace.specs.declared.text.Untold.{Untold};
+    ghost use Rattle.mt_trace.specs.StringArguments.{string_argument};
+    ghost use Rattle.mt_trace.specs.declared.string_argument.StringFault.{StringFault};
 
-    ghost Value = { Result (List ℕ) Untold };
+    ghost Value = { Result (List ℕ) StringFault };
 
-    ghost view = { λ t. text_of t.argument.now };
+    ghost view = { λ t. string_argument t.argument.now };
 }
 
-impl<'a> Text<'a> {
+impl<'a> StringArgument<'a> {
     /// The string of an argument.
-    pub fn new(argument: &'a [u8]) -> Text<'a>
-        ensures { result ≡ text_of argument.entry.now }
+    pub fn new(argument: &'a [u8]) -> StringArgument<'a>
+        ensures { result ≡ string_argument argument.entry.now }
     {
-        Text { argument }
+        StringArgument { argument }
     }
     /// Its bytes, or why they are not known. Fails for want of memory alone.
-    pub fn read(&self, alloc: Global) -> Result<Result<Vec<u8>, Untold>, AllocError>
+    pub fn read(&self, alloc: Global) -> Result<Result<Vec<u8>, StringFault>, AllocError>
         ensures { IfOk result (λ told. result_map_both (λ bytes. bytes.items) (λ why. why) told ≡ self.now) }
     {
         if self.argument == b"NULL".as_slice() {
-            return Ok(Err(Untold::Missing));
+            return Ok(Err(StringFault::Missing));
         }
         let Some(quoted) = read_string(alloc, self.argument)? else {
-            return Ok(Err(Untold::Address));
+            return Ok(Err(StringFault::Address));
         };
         if !quoted.is_whole {
-            return Ok(Err(Untold::Cut));
+            return Ok(Err(StringFault::Cut));
         }
         Ok(Ok(quoted.bytes))
     }
