@@ -7,3 +7,4 @@ pub mod SystemCalls
 pub mod Asking
 pub mod ProcessSpaces
 pub mod ToldPaths
+pub mod Joining
