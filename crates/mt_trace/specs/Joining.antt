@@ -1,6 +1,6 @@
 -- Calls of which beginning and end stand on two lines (strace(1): lines of other processes come between them).
 -- A word with no source is this project's rule.
-use Rattle.std.specs.Prelude.{◌≡◌, ℕ, nat_eq, ◌+◌, if◌then◌else◌, List, [], ◌∷◌, ◌++◌, length, Bool, Option, None, Some, is_some, codes}
+use Rattle.std.specs.Prelude.{◌≡◌, ℕ, nat_eq, ◌+◌, if◌then◌else◌, List, [], ◌∷◌, ◌++◌, length, Bool, false, Option, None, Some, is_some, codes}
 use Rattle.std.specs.BTreeMap.{insert_entry, is_at}
 use Rattle.std.specs.List.{starts_with}
 use Rattle.std.specs.Map.{lookup, remove_entry}
@@ -8,6 +8,7 @@ use Rattle.std.specs.Option.{option_map_or}
 use Rattle.std.specs.Ordering.{nat_cmp}
 use Rattle.mt_strace.specs.declared.line.StraceLine.{StraceLine}
 use Rattle.mt_strace.specs.declared.line.StraceLine.TheVariants as line
+use Rattle.mt_strace.specs.Cuts.{stripped}
 use Rattle.mt_trace.specs.declared.joining.Joining.{Joining}
 use Rattle.mt_trace.specs.declared.joining.Joining.TheVariants as joining
 
@@ -28,7 +29,7 @@ not_waiting n w = remove_entry (is_at (nat_cmp n)) w
 
 -- a beginning is one of a call of this name
 abbrev pub begins_call : List ℕ → List ℕ → Bool
-begins_call name beginning = starts_with nat_eq beginning (name ++ codes "(")
+begins_call name beginning = option_map_or (λ behind. starts_with nat_eq behind (codes "(")) false (stripped name beginning)
 
 -- an end is joined with the beginning of its call
 abbrev pub ended : ℕ → List ℕ → List ℕ → Waiting → Option (List ℕ) → Joining × Waiting
