@@ -8,3 +8,4 @@ pub mod Asking
 pub mod ProcessSpaces
 pub mod ToldPaths
 pub mod Joining
+pub mod Laws

@@ -11,6 +11,7 @@ pub mod call_name;
 mod file_calls;
 mod flags;
 pub mod joining;
+pub mod laws;
 mod mount_calls;
 pub mod mount_flags;
 mod new_mount_calls;
