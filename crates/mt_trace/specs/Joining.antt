@@ -29,7 +29,7 @@ not_waiting n w = remove_entry (is_at (nat_cmp n)) w
 
 -- a beginning is one of a call of this name
 abbrev pub begins_call : List ℕ → List ℕ → Bool
-begins_call name beginning = option_map_or (λ behind. starts_with nat_eq behind (codes "(")) false (stripped name beginning)
+begins_call name beginning = option_map_or (λ behind. starts_with nat_eq behind (codes "(")) (stripped name beginning) false
 
 -- an end is joined with the beginning of its call
 abbrev pub ended : ℕ → List ℕ → List ℕ → Waiting → Option (List ℕ) → Joining × Waiting
@@ -41,6 +41,9 @@ abbrev pub superseded : ℕ → Waiting → Option (List ℕ) → Waiting
 superseded n w None = not_waiting n w
 superseded n w (Some beginning) = insert_entry nat_cmp w n beginning
 
+abbrev pub taken_over : ℕ → ℕ → Waiting → Joining × Waiting
+taken_over n by w = (joining.Over (waiting_at n (not_waiting by w)), superseded n (not_waiting by w) (waiting_at by w))
+
 -- what a line is once beginnings and ends are joined, and the beginnings that wait then. A beginning whose call has no end is told:
 -- when its process begins another one, or ends
 abbrev pub joined : StraceLine → Waiting → Joining × Waiting
@@ -48,8 +51,7 @@ joined (line.Unfinished process name beginning) w =
     (joining.Begun (waiting_at (waiting_number process) w), insert_entry nat_cmp w (waiting_number process) beginning)
 joined (line.Resumed process name end) w = ended (waiting_number process) name end w (waiting_at (waiting_number process) w)
 joined (line.Exited process) w = (joining.Over (waiting_at (waiting_number process) w), not_waiting (waiting_number process) w)
-joined (line.Superseded process by) w =
-    (joining.Over (waiting_at (waiting_number process) (not_waiting by w)), superseded (waiting_number process) (not_waiting by w) (waiting_at by w))
+joined (line.Superseded process by) w = taken_over (waiting_number process) by w
 joined (line.Call call) w = (joining.Whole, w)
 joined line.Silent w = (joining.Whole, w)
 joined (line.Bad why) w = (joining.Whole, w)

@@ -157,4 +157,4 @@ attribute_change flags set clear propagation =
 
 -- the attributes that fsmount(2) gives a new mount
 unfoldable pub attributes_asked : List (List ℕ) → Result SetWords Unknown
-attributes_asked flags = option_map_or (λ why. Err why) (Ok (attribute_set flags)) (attribute_fault flags)
+attributes_asked flags = option_map_or (λ why. Err why) (attribute_fault flags) (Ok (attribute_set flags))

@@ -1,7 +1,6 @@
 -- What is asked of the system by a call, from the arguments that strace tells (the pages of the calls in section 2).
 -- A word with no source is this project's rule.
 use Rattle.std.specs.Prelude.{ℕ, Bool, true, false, not, if◌then◌else◌, List, [], ◌∷◌, Option, None, Some, Result, Ok, Err, codes}
-use Rattle.std.specs.Option.{option_map_or}
 use Rattle.std.specs.Str.{bytes_eq}
 use Rattle.mt_setattr.specs.declared.change.Change.{Change}
 use Rattle.mt_setattr.specs.declared.change.SetWords.{SetWords}
@@ -27,6 +26,15 @@ use Rattle.mt_trace.specs.StringArguments.{string_argument}
 abbrev pub strange : AskedCall
 strange = asked.Unknown unknown.Arguments
 
+-- what a call asks, by an argument that is one of its own, or by flags that are known
+abbrev pub if_its_own : {A : Type 0} → (A → AskedCall) → Option A → AskedCall
+if_its_own asks None = strange
+if_its_own asks (Some argument) = asks argument
+
+abbrev pub if_flags_known : {A : Type 0} → (A → AskedCall) → Option A → AskedCall
+if_flags_known asks None = asked.Unknown unknown.Flag
+if_flags_known asks (Some words) = asks words
+
 -- a call whose flags are all known
 abbrev pub asked_with_flags : List (List ℕ) → List (List ℕ) → SystemCall → AskedCall
 asked_with_flags known flags asks = if are_flags_of known flags then asked.Call asks else asked.Unknown unknown.Flag
@@ -38,7 +46,7 @@ here = record { number = number.CurrentDirectory; path = None; is_deleted = fals
 -- mount(2), umount(2), pivot_root(2)
 abbrev pub mount_call : List (List ℕ) → AskedCall
 mount_call (source ∷ target ∷ kind ∷ flags ∷ options ∷ []) =
-    option_map_or (λ o. asked.Call (call.Mount (string_argument source) (string_argument target) (string_argument kind) o (string_argument options))) (asked.Unknown unknown.Flag)
+    if_flags_known (λ o. asked.Call (call.Mount (string_argument source) (string_argument target) (string_argument kind) o (string_argument options)))
     (asked_operation (flags_of flags))
 mount_call arguments = strange
 
@@ -55,13 +63,14 @@ pivot_root_call (new ∷ old ∷ []) = asked.Call (call.PivotRoot (string_argume
 pivot_root_call arguments = strange
 
 -- mount_setattr(2): which attributes are set and cleared, and the propagation, are fields of a structure
+abbrev pub if_told : (List ℕ → Result Change Unknown) → Option (List ℕ) → Result Change Unknown
+if_told asks None = Err unknown.Arguments
+if_told asks (Some word) = asks word
+
 abbrev pub change_told : List (List ℕ) → List (List ℕ) → Result Change Unknown
 change_told flags fields =
-    option_map_or (λ set. option_map_or (λ clear. option_map_or (λ propagation.
-    attribute_change flags (flags_of set) (flags_of clear) (flags_of propagation))
-    (Err unknown.Arguments) (value_named (codes "propagation=") fields))
-    (Err unknown.Arguments) (value_named (codes "attr_clr=") fields))
-    (Err unknown.Arguments) (value_named (codes "attr_set=") fields)
+    if_told (λ set. if_told (λ clear. if_told (λ propagation. attribute_change flags (flags_of set) (flags_of clear) (flags_of propagation))
+    (value_named (codes "propagation=") fields)) (value_named (codes "attr_clr=") fields)) (value_named (codes "attr_set=") fields)
 
 abbrev pub setattr_asked : Descriptor → List ℕ → List (List ℕ) → Result Change Unknown → AskedCall
 setattr_asked at path flags (Err why) = asked.Unknown why
@@ -69,13 +78,13 @@ setattr_asked at path flags (Ok change) = asked_with_flags setattr_flags flags (
 
 abbrev pub mount_setattr_call : List (List ℕ) → AskedCall
 mount_setattr_call (at ∷ path ∷ flags ∷ attributes ∷ size ∷ []) =
-    option_map_or (λ d. option_map_or (λ fields. setattr_asked d path (flags_of flags) (change_told (flags_of flags) fields)) strange (fields_of attributes)) strange (descriptor_of at)
+    if_its_own (λ d. if_its_own (λ fields. setattr_asked d path (flags_of flags) (change_told (flags_of flags) fields)) (fields_of attributes)) (descriptor_of at)
 mount_setattr_call arguments = strange
 
 -- open_tree(2), move_mount(2)
 abbrev pub open_tree_call : List (List ℕ) → AskedCall
 open_tree_call (at ∷ path ∷ flags ∷ []) =
-    option_map_or (λ d. asked_with_flags open_tree_flags (flags_of flags) (call.OpenTree d (string_argument path) (tree_words (flags_of flags)))) strange (descriptor_of at)
+    if_its_own (λ d. asked_with_flags open_tree_flags (flags_of flags) (call.OpenTree d (string_argument path) (tree_words (flags_of flags)))) (descriptor_of at)
 open_tree_call arguments = strange
 
 abbrev pub moved_asked : List (List ℕ) → SystemCall → AskedCall
@@ -85,7 +94,7 @@ moved_asked flags asks =
 
 abbrev pub move_mount_call : List (List ℕ) → AskedCall
 move_mount_call (from ∷ source ∷ to ∷ target ∷ flags ∷ []) =
-    option_map_or (λ f. option_map_or (λ t. moved_asked (flags_of flags) (call.MoveMount f (string_argument source) t (string_argument target) (move_words (flags_of flags)))) strange (descriptor_of to)) strange (descriptor_of from)
+    if_its_own (λ f. if_its_own (λ t. moved_asked (flags_of flags) (call.MoveMount f (string_argument source) t (string_argument target) (move_words (flags_of flags)))) (descriptor_of to)) (descriptor_of from)
 move_mount_call arguments = strange
 
 -- fsopen(2), fsmount(2)
@@ -99,7 +108,7 @@ fsmount_asked context flags (Ok set) = asked_with_flags fsmount_flags flags (cal
 
 abbrev pub fsmount_call : List (List ℕ) → AskedCall
 fsmount_call (context ∷ flags ∷ attributes ∷ []) =
-    option_map_or (λ d. fsmount_asked d (flags_of flags) (attributes_asked (flags_of attributes))) strange (descriptor_of context)
+    if_its_own (λ d. fsmount_asked d (flags_of flags) (attributes_asked (flags_of attributes))) (descriptor_of context)
 fsmount_call arguments = strange
 
 -- fsconfig(2): what a command of it sets, with a key and a value; what a table does not tell is another setting
@@ -111,26 +120,26 @@ setting_of command key value =
 
 abbrev pub fsconfig_call : List (List ℕ) → AskedCall
 fsconfig_call (context ∷ command ∷ key ∷ value ∷ aux ∷ []) =
-    option_map_or (λ d. option_map_or (λ s. asked.Call (call.Fsconfig d s)) (asked.Unknown unknown.Flag) (setting_of command key value)) strange (descriptor_of context)
+    if_its_own (λ d. if_flags_known (λ s. asked.Call (call.Fsconfig d s)) (setting_of command key value)) (descriptor_of context)
 fsconfig_call arguments = strange
 
 -- clone(2), unshare(2), setns(2): strace names the arguments of the first, and a structure's fields
 abbrev pub clone_asked : (CloneWords → SystemCall) → List (List ℕ) → AskedCall
-clone_asked asks flags = option_map_or (λ words. asked.Call (asks words)) (asked.Unknown unknown.Flag) (words_if_known flags)
+clone_asked asks flags = if_flags_known (λ words. asked.Call (asks words)) (words_if_known flags)
 
 abbrev pub clone_call : List (List ℕ) → AskedCall
-clone_call arguments = option_map_or (λ flags. clone_asked call.Clone (flags_of flags)) strange (value_named (codes "flags=") arguments)
+clone_call arguments = if_its_own (λ flags. clone_asked call.Clone (flags_of flags)) (value_named (codes "flags=") arguments)
 
 abbrev pub clone3_call : List (List ℕ) → AskedCall
 clone3_call [] = strange
-clone3_call (structure ∷ rest) = option_map_or clone_call strange (fields_of structure)
+clone3_call (structure ∷ rest) = if_its_own clone_call (fields_of structure)
 
 abbrev pub unshare_call : List (List ℕ) → AskedCall
 unshare_call (flags ∷ []) = clone_asked call.Unshare (flags_of flags)
 unshare_call arguments = strange
 
 abbrev pub setns_call : List (List ℕ) → AskedCall
-setns_call (space ∷ kinds ∷ []) = option_map_or (λ d. clone_asked (call.Setns d) (flags_of kinds)) strange (descriptor_of space)
+setns_call (space ∷ kinds ∷ []) = if_its_own (λ d. clone_asked (call.Setns d) (flags_of kinds)) (descriptor_of space)
 setns_call arguments = strange
 
 -- execve(2), execveat(2)
@@ -140,7 +149,7 @@ execve_call arguments = strange
 
 abbrev pub execveat_call : List (List ℕ) → AskedCall
 execveat_call (at ∷ path ∷ words ∷ environment ∷ flags ∷ []) =
-    option_map_or (λ d. asked_with_flags execveat_flags (flags_of flags) (call.Execve d (string_argument path) (not (has_flag (codes "AT_SYMLINK_NOFOLLOW") (flags_of flags))))) strange (descriptor_of at)
+    if_its_own (λ d. asked_with_flags execveat_flags (flags_of flags) (call.Execve d (string_argument path) (not (has_flag (codes "AT_SYMLINK_NOFOLLOW") (flags_of flags))))) (descriptor_of at)
 execveat_call arguments = strange
 
 -- chdir(2), fchdir(2), chroot(2)
@@ -149,7 +158,7 @@ chdir_call (path ∷ []) = asked.Call (call.Chdir (string_argument path))
 chdir_call arguments = strange
 
 abbrev pub fchdir_call : List (List ℕ) → AskedCall
-fchdir_call (at ∷ []) = option_map_or (λ d. asked.Call (call.Fchdir d)) strange (descriptor_of at)
+fchdir_call (at ∷ []) = if_its_own (λ d. asked.Call (call.Fchdir d)) (descriptor_of at)
 fchdir_call arguments = strange
 
 abbrev pub chroot_call : List (List ℕ) → AskedCall
@@ -162,16 +171,16 @@ open_call (path ∷ flags ∷ mode) = asked.Call (call.Open here (string_argumen
 open_call arguments = strange
 
 abbrev pub openat_call : List (List ℕ) → AskedCall
-openat_call (at ∷ path ∷ flags ∷ mode) = option_map_or (λ d. asked.Call (call.Open d (string_argument path) (open_words (flags_of flags) no_flags))) strange (descriptor_of at)
+openat_call (at ∷ path ∷ flags ∷ mode) = if_its_own (λ d. asked.Call (call.Open d (string_argument path) (open_words (flags_of flags) no_flags))) (descriptor_of at)
 openat_call arguments = strange
 
 abbrev pub openat2_with : Descriptor → List ℕ → List (List ℕ) → AskedCall
 openat2_with at path fields =
-    option_map_or (λ flags. option_map_or (λ resolve. asked.Call (call.Open at (string_argument path) (open_words (flags_of flags) (flags_of resolve))))
-    strange (value_named (codes "resolve=") fields)) strange (value_named (codes "flags=") fields)
+    if_its_own (λ flags. if_its_own (λ resolve. asked.Call (call.Open at (string_argument path) (open_words (flags_of flags) (flags_of resolve))))
+    (value_named (codes "resolve=") fields)) (value_named (codes "flags=") fields)
 
 abbrev pub openat2_call : List (List ℕ) → AskedCall
-openat2_call (at ∷ path ∷ how ∷ size ∷ []) = option_map_or (λ d. option_map_or (openat2_with d path) strange (fields_of how)) strange (descriptor_of at)
+openat2_call (at ∷ path ∷ how ∷ size ∷ []) = if_its_own (λ d. if_its_own (openat2_with d path) (fields_of how)) (descriptor_of at)
 openat2_call arguments = strange
 
 abbrev pub creat_call : List (List ℕ) → AskedCall
@@ -180,23 +189,23 @@ creat_call arguments = strange
 
 -- close(2), close_range(2)
 abbrev pub close_call : List (List ℕ) → AskedCall
-close_call (at ∷ []) = option_map_or (λ d. asked.Call (call.Close d)) strange (descriptor_of at)
+close_call (at ∷ []) = if_its_own (λ d. asked.Call (call.Close d)) (descriptor_of at)
 close_call arguments = strange
 
 abbrev pub close_range_call : List (List ℕ) → AskedCall
 close_range_call (first ∷ last ∷ flags ∷ []) =
-    option_map_or (λ f. option_map_or (λ l. asked_with_flags close_range_flags (flags_of flags)
+    if_its_own (λ f. if_its_own (λ l. asked_with_flags close_range_flags (flags_of flags)
     (call.CloseRange f l (has_flag (codes "CLOSE_RANGE_UNSHARE") (flags_of flags)) (has_flag (codes "CLOSE_RANGE_CLOEXEC") (flags_of flags))))
-    strange (descriptor_of last)) strange (descriptor_of first)
+    (descriptor_of last)) (descriptor_of first)
 close_range_call arguments = strange
 
 -- dup(2), dup2(2), dup3(2)
 abbrev pub dup_call : List (List ℕ) → AskedCall
 dup_call [] = strange
-dup_call (at ∷ rest) = option_map_or (λ d. asked.Call (call.Dup d false)) strange (descriptor_of at)
+dup_call (at ∷ rest) = if_its_own (λ d. asked.Call (call.Dup d false)) (descriptor_of at)
 
 abbrev pub dup3_call : List (List ℕ) → AskedCall
-dup3_call (at ∷ to ∷ flags ∷ []) = option_map_or (λ d. asked.Call (call.Dup d (has_flag (codes "O_CLOEXEC") (flags_of flags)))) strange (descriptor_of at)
+dup3_call (at ∷ to ∷ flags ∷ []) = if_its_own (λ d. asked.Call (call.Dup d (has_flag (codes "O_CLOEXEC") (flags_of flags)))) (descriptor_of at)
 dup3_call arguments = strange
 
 -- fcntl(2): of its commands, those that copy a descriptor, or say whether it is closed when another program is run
@@ -208,7 +217,7 @@ fcntl_asked at command (value ∷ rest) =
     else (if bytes_eq command (codes "F_SETFD") then asked.Call (call.SetClosing at (has_flag (codes "FD_CLOEXEC") (flags_of value))) else asked.Silent))
 
 abbrev pub fcntl_call : List (List ℕ) → AskedCall
-fcntl_call (at ∷ command ∷ rest) = option_map_or (λ d. fcntl_asked d command rest) strange (descriptor_of at)
+fcntl_call (at ∷ command ∷ rest) = if_its_own (λ d. fcntl_asked d command rest) (descriptor_of at)
 fcntl_call arguments = strange
 
 -- symlink(2), readlink(2): what a link leads to
@@ -217,7 +226,7 @@ symlink_call (target ∷ path ∷ []) = asked.Call (call.Link here (string_argum
 symlink_call arguments = strange
 
 abbrev pub symlinkat_call : List (List ℕ) → AskedCall
-symlinkat_call (target ∷ at ∷ path ∷ []) = option_map_or (λ d. asked.Call (call.Link d (string_argument path) (string_argument target))) strange (descriptor_of at)
+symlinkat_call (target ∷ at ∷ path ∷ []) = if_its_own (λ d. asked.Call (call.Link d (string_argument path) (string_argument target))) (descriptor_of at)
 symlinkat_call arguments = strange
 
 abbrev pub readlink_call : List (List ℕ) → AskedCall
@@ -225,5 +234,5 @@ readlink_call (path ∷ target ∷ size ∷ []) = asked.Call (call.Link here (st
 readlink_call arguments = strange
 
 abbrev pub readlinkat_call : List (List ℕ) → AskedCall
-readlinkat_call (at ∷ path ∷ target ∷ size ∷ []) = option_map_or (λ d. asked.Call (call.Link d (string_argument path) (string_argument target))) strange (descriptor_of at)
+readlinkat_call (at ∷ path ∷ target ∷ size ∷ []) = if_its_own (λ d. asked.Call (call.Link d (string_argument path) (string_argument target))) (descriptor_of at)
 readlinkat_call arguments = strange

@@ -27,7 +27,7 @@ namespace_told text = namespace_with (pieces 58 text)
 -- a path, a namespace, or something that is neither, as a pipe
 abbrev pub told_path : List ℕ → ToldPath
 told_path text =
-    if starts_with nat_eq text (codes "/") then told.Path text else option_map_or (λ (kind, n). told.Space kind n) told.Other (namespace_told text)
+    if starts_with nat_eq text (codes "/") then told.Path text else option_map_or (λ (kind, n). told.Space kind n) (namespace_told text) told.Other
 
 -- the number that strace has for a child: what the call returned, unless that is a number of another namespace, where a comment
 -- says it

@@ -2,8 +2,8 @@
 ghost use Rattle.std.specs.Prelude.{◌≡◌, [], ◌++◌, length, IfOk, OnOk};
 ghost use Rattle.std.specs.BTreeMap.{insert_entry};
 ghost use Rattle.std.specs.Ordering.{nat_cmp};
-ghost use Rattle.mt_trace.specs.declared.joining.Joining.TheVariants as joining;
-ghost use Rattle.mt_trace.specs.Joining.{waiting_number, waiting_at, not_waiting, begins_call, ended, superseded, joined};
+ghost use Rattle.mt_trace.specs.declared.joining.Joining.{Joining};
+ghost use Rattle.mt_trace.specs.Joining.{Waiting, waiting_number, waiting_at, not_waiting, begins_call, ended, taken_over, joined};
 
 use mt_strace::line::StraceLine;
 use std::alloc::{AllocError, Global};
@@ -137,7 +137,7 @@ impl Beginnings {
 
     /// Joins an end with its beginning.
     fn end(&mut self, n: u64, name: &[u8], end: &[u8]) -> Result<Joining, AllocError>
-        ensures { IfOk result (λ joining. (joining, self.new) ≡ ended n name.now end.now self.old (waiting_at n self.old)) }
+        ensures { IfOk result (λ said. ◌≡◌ {A = Joining × Waiting} (said, self.new) (ended n name.now end.now self.old (waiting_at n self.old))) }
     {
         let Some(beginning) = self.waiting.get(&n) else {
             return Ok(Joining::Unbegun);
@@ -153,7 +153,7 @@ impl Beginnings {
 
     /// Lets a thread go on under the number of its process.
     fn supersede(&mut self, n: u64, by: u64) -> Result<Joining, AllocError>
-        ensures { IfOk result (λ joining. (joining, self.new) ≡ (joining.Over (waiting_at n (not_waiting by self.old)), superseded n (not_waiting by self.old) (waiting_at by self.old))) }
+        ensures { IfOk result (λ said. ◌≡◌ {A = Joining × Waiting} (said, self.new) (taken_over n by self.old)) }
     {
         match self.take(by) {
             Some(beginning) => Ok(Joining::Over(self.put(n, beginning)?)),
@@ -164,7 +164,7 @@ impl Beginnings {
     /// What a line is, once beginnings and ends are joined: each line of a trace is given once, in order. Fails for want of memory
     /// alone; a beginning may be lost then.
     pub fn join(&mut self, line: &StraceLine<'_>) -> Result<Joining, AllocError>
-        ensures { IfOk result (λ joining. (joining, self.new) ≡ joined line.now self.old) }
+        ensures { IfOk result (λ said. ◌≡◌ {A = Joining × Waiting} (said, self.new) (joined line.now self.old)) }
     {
         match line {
             StraceLine::Unfinished {

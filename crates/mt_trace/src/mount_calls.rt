@@ -125,7 +125,7 @@ fn setattr_asked<'a>(
     flags: &Flags<'_>,
     change: Result<Change, Unknown>,
 ) -> AskedCall<'a>
-    ensures { result ≡ setattr_asked at.entry path.entry.now flags.now change.entry }
+    ensures { result ≡ setattr_asked at.entry path.entry.now flags.now change }
 {
     let change = match change {
         Ok(change) => change,

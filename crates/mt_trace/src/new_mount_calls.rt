@@ -34,7 +34,7 @@ fn fsmount_asked<'a>(
     flags: &Flags<'_>,
     set: Result<SetWords, Unknown>,
 ) -> AskedCall<'a>
-    ensures { result ≡ fsmount_asked context.entry flags.now set.entry }
+    ensures { result ≡ fsmount_asked context.entry flags.now set }
 {
     let set = match set {
         Ok(set) => set,
