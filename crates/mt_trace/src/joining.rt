@@ -2,8 +2,8 @@
 ghost use Rattle.std.specs.Prelude.{◌≡◌, [], ◌++◌, length, IfOk, OnOk};
 ghost use Rattle.std.specs.BTreeMap.{insert_entry};
 ghost use Rattle.std.specs.Ordering.{nat_cmp};
-ghost use Rattle.mt_trace.specs.declared.joining.Joining.{Joining};
-ghost use Rattle.mt_trace.specs.Joining.{Waiting, waiting_number, waiting_at, not_waiting, begins_call, ended, taken_over, joined};
+ghost use Rattle.mt_trace.specs.declared.joining.JoinedLine.{JoinedLine};
+ghost use Rattle.mt_trace.specs.Joining.{Waiting, waiting_number, waiting_at, not_waiting, begins_call, ended_line, taken_over, joined_line};
 
 use mt_strace::line::StraceLine;
 use std::alloc::{AllocError, Global};
@@ -53,7 +53,7 @@ impl CallText {
 
 /// What a line is, once beginnings and ends are joined.
 #[derive(Drop)]
-pub enum Joining {
+pub enum JoinedLine {
     /// The line says all itself.
     Whole,
     /// It is the beginning of a call, which waits for its end. An earlier one of the process has no end.
@@ -136,35 +136,35 @@ impl Beginnings {
     }
 
     /// Joins an end with its beginning.
-    fn end(&mut self, n: u64, name: &[u8], end: &[u8]) -> Result<Joining, AllocError>
-        ensures { IfOk result (λ said. ◌≡◌ {A = Joining × Waiting} (said, self.new) (ended n name.now end.now self.old (waiting_at n self.old))) }
+    fn end(&mut self, n: u64, name: &[u8], end: &[u8]) -> Result<JoinedLine, AllocError>
+        ensures { IfOk result (λ said. ◌≡◌ {A = JoinedLine × Waiting} (said, self.new) (ended_line n name.now end.now self.old (waiting_at n self.old))) }
     {
         let Some(beginning) = self.waiting.get(&n) else {
-            return Ok(Joining::Unbegun);
+            return Ok(JoinedLine::Unbegun);
         };
         if !begins_call(name, beginning.bytes()) {
-            return Ok(Joining::Unbegun);
+            return Ok(JoinedLine::Unbegun);
         }
         match self.take(n) {
-            Some(beginning) => Ok(Joining::Ended(beginning.with_end(end)?)),
-            None => Ok(Joining::Unbegun),
+            Some(beginning) => Ok(JoinedLine::Ended(beginning.with_end(end)?)),
+            None => Ok(JoinedLine::Unbegun),
         }
     }
 
     /// Lets a thread go on under the number of its process.
-    fn supersede(&mut self, n: u64, by: u64) -> Result<Joining, AllocError>
-        ensures { IfOk result (λ said. ◌≡◌ {A = Joining × Waiting} (said, self.new) (taken_over n by self.old)) }
+    fn supersede(&mut self, n: u64, by: u64) -> Result<JoinedLine, AllocError>
+        ensures { IfOk result (λ said. ◌≡◌ {A = JoinedLine × Waiting} (said, self.new) (taken_over n by self.old)) }
     {
         match self.take(by) {
-            Some(beginning) => Ok(Joining::Over(self.put(n, beginning)?)),
-            None => Ok(Joining::Over(self.take(n))),
+            Some(beginning) => Ok(JoinedLine::Over(self.put(n, beginning)?)),
+            None => Ok(JoinedLine::Over(self.take(n))),
         }
     }
 
     /// What a line is, once beginnings and ends are joined: each line of a trace is given once, in order. Fails for want of memory
     /// alone; a beginning may be lost then.
-    pub fn join(&mut self, line: &StraceLine<'_>) -> Result<Joining, AllocError>
-        ensures { IfOk result (λ said. ◌≡◌ {A = Joining × Waiting} (said, self.new) (joined line.now self.old)) }
+    pub fn join(&mut self, line: &StraceLine<'_>) -> Result<JoinedLine, AllocError>
+        ensures { IfOk result (λ said. ◌≡◌ {A = JoinedLine × Waiting} (said, self.new) (joined_line line.now self.old)) }
     {
         match line {
             StraceLine::Unfinished {
@@ -173,18 +173,18 @@ impl Beginnings {
                 beginning,
             } => {
                 let beginning = CallText::copy_of(self.alloc, beginning.bytes())?;
-                Ok(Joining::Begun(self.put(waiting_number(*process), beginning)?))
+                Ok(JoinedLine::Begun(self.put(waiting_number(*process), beginning)?))
             }
             StraceLine::Resumed { process, name, end } => {
                 self.end(waiting_number(*process), name.bytes(), end.bytes())
             }
             StraceLine::Exited { process } => {
-                Ok(Joining::Over(self.take(waiting_number(*process))))
+                Ok(JoinedLine::Over(self.take(waiting_number(*process))))
             }
             StraceLine::Superseded { process, by } => {
                 self.supersede(waiting_number(*process), *by)
             }
-            StraceLine::Call(_) | StraceLine::Silent | StraceLine::Bad(_) => Ok(Joining::Whole),
+            StraceLine::Call(_) | StraceLine::Silent | StraceLine::Bad(_) => Ok(JoinedLine::Whole),
         }
     }
 }
