@@ -62,7 +62,7 @@ pub(crate) const IN_PLACE_OF_LINES: [Usage; 13] = [
 pub(crate) const IN_PLACE_OF_SOCKETS: [Usage; 9] = [
     Usage {
         words: "what-if [OPTION].. TABLE.. -- LINE [-- LINE]..",
-        says: "tells what lines would change in the namespaces of tables, with no server: each TABLE is a file, or\nwith --pid a process; --all stands for each mount namespace of this machine. A LINE is one of\nmount, umount, unshare, nsenter, pivot_root or of a session; - stands for those of standard input.\n--each tells what each line changes, --json prints objects, and with --fail-if-elsewhere the\nstatus is 4 where a namespace changes that no line names",
+        says: "tells what lines would change in the namespaces of tables, with no server: each TABLE is a file, or\nwith --pid a process; --all stands for each mount namespace of this machine. A LINE is one of\nmount, umount, unshare, nsenter, pivot_root or of a session; - stands for those of standard input.\n--each tells what each line changes, --json prints objects, and --page a page for a browser that plays\nthe lines; with --fail-if-elsewhere the status is 4 where a namespace changes that no line names",
     },
     Usage {
         words: "import",

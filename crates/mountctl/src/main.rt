@@ -11,6 +11,7 @@ mod connection;
 mod explain;
 mod fault;
 mod foretold;
+mod foretold_page;
 mod found;
 mod help;
 mod import;

@@ -73,7 +73,7 @@ fn play_over(
 }
 
 /// Prints the page of these data.
-fn print_page(rt: &HostRuntime, data: &PageData) -> Result<bool, Fault> {
+pub(crate) fn print_page(rt: &HostRuntime, data: &PageData) -> Result<bool, Fault> {
     let mut out = standard_output(rt);
     print_text(&mut out, BEFORE.as_bytes())?;
     print_text(&mut out, data.opening.as_slice())?;

@@ -94,6 +94,8 @@ pub(crate) enum WordFault {
     WhatIf,
     /// Behind `what-if`, without a server.
     Question,
+    /// Two forms of an answer, which has one.
+    Form,
     /// More tables than a server has namespaces.
     TooMany,
     /// Behind `page`.
@@ -127,6 +129,7 @@ impl WordFault {
             WordFault::Question => {
                 "what-if takes files, --pid and processes or --all, and lines behind --, or - for those of standard input"
             }
+            WordFault::Form => "what-if prints a page or JSON",
             WordFault::TooMany => "more than 64 tables",
             WordFault::Page => "page takes a title, or no words",
             WordFault::Reach =>

@@ -5,3 +5,4 @@ pub mod TriedLaws
 pub mod AbridgedLaws
 pub mod EndLaws
 pub mod ForetellLaws
+pub mod StepLaws

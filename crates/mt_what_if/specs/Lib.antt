@@ -23,3 +23,4 @@ pub mod Taken
 pub mod Tried
 pub mod LinesTold
 pub mod Foretelling
+pub mod Steps
