@@ -100,6 +100,10 @@ pub(crate) enum WordFault {
     TooMany,
     /// Behind `page`.
     Page,
+    /// Behind `play`.
+    Play,
+    /// Behind `session`.
+    Session,
     /// Behind `explain`, which stands in the place of a socket.
     Explain,
     /// Behind `help`.
@@ -139,6 +143,8 @@ impl WordFault {
             WordFault::Holders => {
                 "holders takes tables, and behind -- a source, a device, or a namespace and a path; behind a socket those alone"
             }
+            WordFault::Play => "play takes a file, or - for standard input",
+            WordFault::Session => "session takes no words",
             WordFault::Explain => "explain takes the name of a refusal, or an errno",
             WordFault::Help => "help takes a word, or none",
         }

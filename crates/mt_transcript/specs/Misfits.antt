@@ -95,13 +95,13 @@ abbrev pub is_none : List LineView → Bool
 is_none [] = true
 is_none (l ∷ ls) = false
 
-abbrev pub misfit_from : ℕ → Before → List LineView → Option Misfit
+abbrev pub misfit_by : ℕ → Option Why → Option Misfit → Option Misfit
+misfit_by n None later = later
+misfit_by n (Some why) later = Some (record { number = n; why = why })
 
-abbrev pub misfit_next : ℕ → Option Why → Before → List LineView → Option Misfit
+abbrev pub misfit_from : ℕ → Before → List LineView → Option Misfit
 misfit_from n b [] = None
-misfit_from n b (l ∷ ls) = misfit_next n (why_not b l (is_none ls)) (with_line b l) ls
-misfit_next n (Some why) b ls = Some (record { number = n; why = why })
-misfit_next n None b ls = misfit_from (n + 1) b ls
+misfit_from n b (l ∷ ls) = misfit_by n (why_not b l (is_none ls)) (misfit_from (n + 1) (with_line b l) ls)
 
 abbrev pub misfit_of : List LineView → Option Misfit
 misfit_of lines = misfit_from 1 start lines

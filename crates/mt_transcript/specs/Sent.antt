@@ -48,19 +48,19 @@ repeated_parts parts = None
 abbrev pub repeated_piece : List ℕ → Option (List ℕ)
 repeated_piece piece = repeated_parts (pieces 125 piece)
 
-abbrev pub repeated_pieces : List ℕ → List (List ℕ) → Option (List ℕ)
+abbrev pub joined : Option (List ℕ) → Option (List ℕ) → Option (List ℕ)
+joined None other = None
+joined (Some text) other = option_map (λ more. text ++ more) other
 
-abbrev pub repeated_next : List ℕ → Option (List ℕ) → List (List ℕ) → Option (List ℕ)
-repeated_pieces front [] = Some front
-repeated_pieces front (p ∷ ps) = repeated_next front (repeated_piece p) ps
-repeated_next front None ps = None
-repeated_next front (Some text) ps = repeated_pieces (front ++ text) ps
+abbrev pub repeated_pieces : List (List ℕ) → Option (List ℕ)
+repeated_pieces [] = Some []
+repeated_pieces (p ∷ ps) = joined (repeated_piece p) (repeated_pieces ps)
 
 -- a text in which something is repeated
 abbrev pub repeated_by : List (List ℕ) → Option (List ℕ)
 repeated_by [] = None
 repeated_by (front ∷ []) = None
-repeated_by (front ∷ p ∷ ps) = if list_any (λ b. b == 125) front then None else repeated_pieces front (p ∷ ps)
+repeated_by (front ∷ p ∷ ps) = if list_any (λ b. b == 125) front then None else joined (Some front) (repeated_pieces (p ∷ ps))
 
 abbrev pub repeated : List ℕ → Option (List ℕ)
 repeated text = repeated_by (pieces 123 text)

@@ -12,13 +12,13 @@ abbrev pub told_line : List ℕ → List ℕ
 told_line line = line ++ 10 ∷ []
 
 -- the lines of an answer, up to the first other line
-abbrev pub told_in : List LineView → List ℕ
+abbrev pub if_answer : Kind → List ℕ → List ℕ
+if_answer Answer text = text
+if_answer kind text = []
 
-abbrev pub told_by : Kind → List ℕ → List LineView → List ℕ
+abbrev pub told_in : List LineView → List ℕ
 told_in [] = []
-told_in (l ∷ ls) = told_by l.kind l.text ls
-told_by Answer text ls = told_line text ++ told_in ls
-told_by kind text ls = []
+told_in (l ∷ ls) = if_answer l.kind (told_line l.text ++ told_in ls)
 
 -- an answer that did not come, as comments
 abbrev pub other_line : List ℕ → List ℕ

@@ -1,7 +1,7 @@
 //! What an input line of a transcript sends.
-ghost use Rattle.std.specs.Prelude.{◌≡◌, ◌++◌, ◌∷◌, [], OnOk, IfOk};
+ghost use Rattle.std.specs.Prelude.{◌≡◌, Some, IfOk};
 ghost use Rattle.std.specs.Option.{option_map};
-ghost use Rattle.mt_transcript.specs.Sent.{unless_empty, behind, count_of, times, repeated_words, repeated_piece, repeated_pieces, repeated, with_end, sent_by, ends_input};
+ghost use Rattle.mt_transcript.specs.Sent.{unless_empty, behind, count_of, times, repeated_words, repeated_piece, joined, repeated_pieces, repeated, with_end, sent_by, ends_input};
 
 use mt_lines::words::{Pieces, Words, number, words};
 use std::alloc::{AllocError, Global};
@@ -84,7 +84,7 @@ fn repeated_pieces(
     pieces: &mut Pieces<'_>,
     front: &[u8],
 ) -> Result<Option<Vec<u8>>, AllocError>
-    ensures { IfOk result (λ text. option_map (λ x. x.items) text ≡ repeated_pieces front.now pieces.old) }
+    ensures { IfOk result (λ text. option_map (λ x. x.items) text ≡ joined (Some front.now) (repeated_pieces pieces.old)) }
 {
     let mut text = Vec::from_slice(alloc, front)?;
     'pieces: while let Some(piece) = pieces.next() {
