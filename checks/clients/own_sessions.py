@@ -74,13 +74,13 @@ def check_in_place(program, mountctl):
 def check_at_terminal(mountctl):
     """A prompt in front of each line, up to the end."""
     terminal = Terminal(mountctl, "session")
-    found = [terminal.shows(), terminal.types(b"mkfs a tmpfs none\n"), terminal.types(b"# a comment\n"), terminal.types(b"newns a b\n")]
-    wanted = [b"> ", b"ok 1\n> ", b"> "]
-    check("a session at a terminal", found[:3] == wanted, repr(found))
-    check("a bad line at a terminal", found[3].startswith(b"no BadLine\n") and b"newns FS" in found[3] and found[3].endswith(b"\n> "), repr(found[3]))
-    found = [terminal.types(b"newns a\n"), terminal.types(b"tree\n"), terminal.types(b"quit\n")]
-    check("a tree at a terminal", found[0] == b"ok 1\n> " and found[1].startswith(b"namespace 1\n") and found[1].endswith(b"\n> "), repr(found))
-    check("the end of a session at a terminal", found[2] == b"ok\n" and terminal.ends() == 0, repr(found))
+    found = [terminal.shows(b"> "), *(terminal.types(line, b"> ") for line in (b"mkfs a tmpfs none\n", b"# a comment\n", b"newns a b\n"))]
+    check("a session at a terminal", found[:3] == [b"> ", b"ok 1\n> ", b"> "], repr(found))
+    check("a bad line at a terminal", found[3].startswith(b"no BadLine\n") and b"newns FS" in found[3], repr(found[3]))
+    found = [terminal.types(line, b"> ") for line in (b"newns a\n", b"tree\n")]
+    check("a tree at a terminal", found[0] == b"ok 1\n> " and found[1].startswith(b"namespace 1\n"), repr(found))
+    found = terminal.types(b"quit\n", b"ok\n")
+    check("the end of a session at a terminal", found == b"ok\n" and terminal.ends() == 0, repr(found))
 
 
 def check_own_sessions(program, mountctl):

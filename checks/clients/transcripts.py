@@ -7,6 +7,7 @@ for a key.
 import contextlib
 import os
 import pty
+import re
 import select
 import subprocess
 import tempfile
@@ -120,18 +121,18 @@ class Terminal:
         self.running = subprocess.Popen([program, *words], stdin=theirs, stdout=theirs, stderr=subprocess.STDOUT)
         os.close(theirs)
 
-    def shows(self):
-        """What is written until nothing more comes."""
-        parts = []
+    def shows(self, end):
+        """What is written, up to this end, behind which nothing comes for a while."""
+        text = b""
         with contextlib.suppress(OSError):
-            while select.select([self.ours], [], [], PAUSE)[0] and (more := os.read(self.ours, 1 << 16)):
-                parts.append(more)
-        return b"".join(parts)
+            while select.select([self.ours], [], [], PAUSE if text.endswith(end) else MOST_SECONDS)[0]:
+                text += os.read(self.ours, 1 << 16)
+        return text
 
-    def types(self, text):
+    def types(self, text, end):
         """What is written behind this."""
         os.write(self.ours, text)
-        return self.shows()
+        return self.shows(end)
 
     def ends(self):
         """The status at the end."""
@@ -146,14 +147,11 @@ def check_keys(mountctl):
         path = os.path.join(folder, "transcript")
         with open(path, "wb") as file:
             file.write(OTHER)
-        lines = PLAYED.split(b"> ")
-        terminal = Terminal(mountctl, "play", path)
-        found = [terminal.shows(), *(terminal.types(b"\n") for _ in range(4))]
-        said = b"".join(found)
-        check("a transcript at a terminal", (terminal.ends(), said) == (1, PLAYED), shown(said))
         # The comments above a line wait with it.
-        check("each line waits for a key", found[0] == b"> ".join(lines[:2]) and found[1].startswith(b"> newns") and found[2].startswith(b"> show"), repr(found))
-        check("the last line does not", found[4].endswith(b"3 of 5 lines\n"), repr(found))
+        first, second, third, fourth, fifth = re.split(rb"(?m)^(?=> newns|> show|# Behind)", PLAYED)
+        terminal = Terminal(mountctl, "play", path)
+        found = [terminal.shows(first), *(terminal.types(b"\n", part) for part in (second, third, fourth, fifth))]
+        check("a transcript at a terminal", (terminal.ends(), found) == (1, [first, second, third, fourth, fifth]), repr(found))
 
 
 def check_transcripts(_program, mountctl):

@@ -25,8 +25,8 @@ pub(crate) fn answer_sent(
     let mut input = LineReader::new(alloc, Reading::new(sent), LINE_LIMIT)?;
     match serve_next(floor, session, &mut input, answer) {
         None => Ok(true),
-        Some(End::Cut(_) | End::Read(_) | End::Memory) => Err(Fault::NoMemory),
-        Some(End::Quit | End::Stop | End::Input | End::Spent) => Ok(false),
+        Some(End::Cut(_) | End::Read(ReadFault::NoMemory) | End::Memory) => Err(Fault::NoMemory),
+        Some(End::Read(_) | End::Quit | End::Stop | End::Input | End::Spent) => Ok(false),
     }
 }
 

@@ -1,5 +1,7 @@
 //! `play`: a transcript, line by line, in a session of its own.
-ghost use Rattle.std.specs.Prelude.{◌≡◌, []};
+ghost use Rattle.std.specs.Prelude.{◌≡◌, ℕ, List, [], OnOk};
+ghost use Rattle.std.specs.Io.KnownBytes.{Appends};
+ghost use Rattle.mt_transcript.specs.Told.{played_text};
 
 use crate::PROGRAM;
 use crate::fault::Fault;
@@ -15,10 +17,10 @@ use mt_lines::line::{Line, LineReader};
 use mt_lines::stream::{Input, Output, Reading};
 use mt_session::session::Session;
 use mt_terminal::message::Shown;
-use mt_transcript::lines::{Kind, TranscriptLine, lines_of};
-use mt_transcript::misfit::{Misfit, misfit_of, queue_of};
-use mt_transcript::sent::sent_by;
-use mt_transcript::told::{ending_text, other_text, told_in};
+use mt_transcript::lines::{LineKind, TranscriptLine, transcript_lines};
+use mt_transcript::misplaced::{Misplaced, misplaced_in, queue_of};
+use mt_transcript::sent::bytes_sent;
+use mt_transcript::told::{alike_text, answer_told, played_text};
 use std::alloc::Global;
 use std::fs::File;
 use std::io::Read;
@@ -56,22 +58,6 @@ fn print_line<O: Output>(out: &mut O, line: &[u8]) -> Result<(), Fault> {
     Ok(())
 }
 
-/// Prints an answer, and the one that is told where that is another one: whether it is that.
-fn print_answer<O: Output>(
-    alloc: Global,
-    answer: &[u8],
-    told: &[u8],
-    out: &mut O,
-) -> Result<bool, Fault> {
-    print_text(out, answer)?;
-    if answer == told {
-        return Ok(true);
-    }
-    let other = other_text(alloc, told)?;
-    print_text(out, other.as_slice())?;
-    Ok(false)
-}
-
 /// Sends a session the input line of a transcript, unless it has ended, and keeps its answer: whether the session goes on.
 fn send_line(
     alloc: Global,
@@ -87,41 +73,35 @@ fn send_line(
     if !goes_on {
         return Ok(false);
     }
-    match sent_by(alloc, line)? {
+    match bytes_sent(alloc, line)? {
         Some(sent) => answer_sent(alloc, floor, session, sent.as_slice(), answer),
         None => Ok(true),
     }
 }
 
-/// Plays the first of these lines, which is sent: what has come of those before, and of it.
+/// Plays a line that is sent, below which this answer is told: what has come of those before, and of it.
 fn play_sent<O: Output>(
     alloc: Global,
     floor: &mut Floor,
     session: &mut Session,
     before: Count,
-    lines: &[TranscriptLine<'_>],
+    line: &[u8],
+    told: &[u8],
     out: &mut O,
 ) -> Result<Count, Fault>
     requires idle { floor.old.due ≡ [] }
+    ensures printed { OnOk result ((answer : List ℕ) × Appends (O.contents out.old) (O.contents out.new) (played_text line.now answer told.now)) }
     ensures idle { floor.new.due ≡ [] }
 {
-    let Some((line, behind)) = lines.split_first() else {
-        return Ok(before);
-    };
-    let told = told_in(alloc, behind)?;
-    print_line(out, line.text)?;
-    let mut answer = Kept::new(alloc);
-    let goes_on = send_line(
-        alloc,
-        floor,
-        session,
-        before.goes_on,
-        line.text,
-        &mut answer,
-    )?;
-    let is_alike = print_answer(alloc, answer.text(), told.as_slice(), out)?;
+    let mut kept = Kept::new(alloc);
+    let goes_on = send_line(alloc, floor, session, before.goes_on, line, &mut kept)?;
+    let answer = kept.text();
+    let text = played_text(alloc, line, answer, told)?;
+    print_text(out, text.as_slice())?;
     Ok(Count {
-        alike: before.alike.saturating_add(if is_alike { 1 } else { 0 }),
+        alike: before
+            .alike
+            .saturating_add(if answer == told { 1 } else { 0 }),
         sent: before.sent.saturating_add(1),
         goes_on,
     })
@@ -129,7 +109,10 @@ fn play_sent<O: Output>(
 
 /// How many of these lines are sent.
 fn count_sent(lines: &[TranscriptLine<'_>]) -> u64 {
-    lines.iter().filter(|line| line.kind == Kind::Sent).count() as u64
+    lines
+        .iter()
+        .filter(|line| line.kind == LineKind::Sent)
+        .count() as u64
 }
 
 /// Plays the lines of a transcript: what has come of them. Behind each line that is sent, but for the last one, it waits for a key
@@ -154,10 +137,19 @@ fn play_lines<K: Input + Drop, O: Output>(
     };
     'lines: for (place, line) in lines.iter().enumerate() {
         match line.kind {
-            Kind::Comment | Kind::Arguments => print_line(out, line.text)?,
-            Kind::Nothing | Kind::Answer => {}
-            Kind::Sent => {
-                count = play_sent(alloc, floor, session, count, &lines[place..], out)?;
+            LineKind::Comment | LineKind::Arguments => print_line(out, line.text)?,
+            LineKind::Nothing | LineKind::Answer => {}
+            LineKind::Sent => {
+                let told = answer_told(alloc, &lines[place + 1..])?;
+                count = play_sent(
+                    alloc,
+                    floor,
+                    session,
+                    count,
+                    line.text,
+                    told.as_slice(),
+                    out,
+                )?;
                 if waits && count.sent < all {
                     wait_for_key(keys);
                 }
@@ -170,7 +162,7 @@ fn play_lines<K: Input + Drop, O: Output>(
 /// How many posts the queue of a watcher holds in a transcript.
 fn queue_in(lines: &[TranscriptLine<'_>]) -> usize {
     for line in lines {
-        if line.kind == Kind::Arguments {
+        if line.kind == LineKind::Arguments {
             return queue_of(line.text).unwrap_or(QUEUE as u64) as usize;
         }
     }
@@ -189,7 +181,7 @@ fn play_transcript<K: Input + Drop, O: Output>(
     floor.settle();
     let mut session = Session::new(alloc);
     let count = play_lines(alloc, &mut floor, &mut session, lines, keys, waits, out)?;
-    let ending = ending_text(alloc, count.alike, count.sent)?;
+    let ending = alike_text(alloc, count.alike, count.sent)?;
     print_text(out, ending.as_slice())?;
     Ok(count.alike == count.sent)
 }
@@ -215,18 +207,18 @@ fn play_on(rt: &HostRuntime, path: &str, lines: &[TranscriptLine<'_>]) -> Result
 }
 
 /// Says which line of a file does not stand where it may, and why.
-fn tell_misfit(rt: &HostRuntime, path: &str, misfit: Misfit) -> ExitCode {
+fn tell_misfit(rt: &HostRuntime, path: &str, misplaced: Misplaced) -> ExitCode {
     let path = Shown(path.as_bytes());
-    let (number, sentence) = (misfit.number, misfit.why.sentence());
+    let (number, sentence) = (misplaced.number, misplaced.why.sentence());
     let _ = eprintln!(rt; "{NAME}: {path}: line {number}: {sentence}");
     ExitCode::from(2)
 }
 
 /// Plays the transcript that a text is, or says why it is none.
 fn play_text(rt: &HostRuntime, path: &str, text: &[u8]) -> Result<ExitCode, Fault> {
-    let lines = lines_of(rt.alloc(), text)?;
-    if let Some(misfit) = misfit_of(rt.alloc(), lines.as_slice())? {
-        return Ok(tell_misfit(rt, path, misfit));
+    let lines = transcript_lines(rt.alloc(), text)?;
+    if let Some(misplaced) = misplaced_in(rt.alloc(), lines.as_slice())? {
+        return Ok(tell_misfit(rt, path, misplaced));
     }
     if play_on(rt, path, lines.as_slice())? {
         Ok(ExitCode::SUCCESS)

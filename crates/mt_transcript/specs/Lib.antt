@@ -1,4 +1,4 @@
 pub mod Lines
 pub mod Sent
-pub mod Misfits
+pub mod Misplaced
 pub mod Told

@@ -1,8 +1,9 @@
 //! What an input line of a transcript sends.
 ghost use Rattle.std.specs.Prelude.{◌≡◌, Some, IfOk};
 ghost use Rattle.std.specs.Option.{option_map};
-ghost use Rattle.mt_transcript.specs.Sent.{unless_empty, behind, count_of, times, repeated_words, repeated_piece, joined, repeated_pieces, repeated, with_end, sent_by, ends_input};
+ghost use Rattle.mt_transcript.specs.Sent.{unless_empty, behind_mark, times_said, times, repeated_words, repeated_piece, both_texts, repeated_pieces, repeated, bytes_sent, ends_input};
 
+use crate::lines::line_with_end;
 use mt_lines::words::{Pieces, Words, number, words};
 use std::alloc::{AllocError, Global};
 
@@ -20,15 +21,15 @@ fn unless_empty(text: &[u8]) -> Option<&[u8]>
 }
 
 /// The text behind a mark, if a line begins with it, and something stands there.
-fn behind<'a>(mark: &[u8], line: &'a [u8]) -> Option<&'a [u8]>
-    ensures { option_map (λ x. x.now) result ≡ behind mark.now line.entry.now }
+fn behind_mark<'a>(mark: &[u8], line: &'a [u8]) -> Option<&'a [u8]>
+    ensures { option_map (λ x. x.now) result ≡ behind_mark mark.now line.entry.now }
 {
     unless_empty(line.strip_prefix(mark)?)
 }
 
 /// How often a word is to be repeated, if these digits say it.
-fn count_of(digits: &[u8]) -> Option<u64>
-    ensures { result ≡ count_of digits.now }
+fn times_said(digits: &[u8]) -> Option<u64>
+    ensures { result ≡ times_said digits.now }
 {
     let count = number(digits)?;
     if 0 < count && count <= MOST_TIMES {
@@ -56,7 +57,7 @@ fn repeated_words(alloc: Global, inner: &mut Words<'_>) -> Result<Option<Vec<u8>
     let (Some(digits), Some(word), None) = (inner.next(), inner.next(), inner.next()) else {
         return Ok(None);
     };
-    match (count_of(digits), unless_empty(word)) {
+    match (times_said(digits), unless_empty(word)) {
         (Some(count), Some(word)) => Ok(Some(times(alloc, count, word)?)),
         _ => Ok(None),
     }
@@ -84,7 +85,7 @@ fn repeated_pieces(
     pieces: &mut Pieces<'_>,
     front: &[u8],
 ) -> Result<Option<Vec<u8>>, AllocError>
-    ensures { IfOk result (λ text. option_map (λ x. x.items) text ≡ joined (Some front.now) (repeated_pieces pieces.old)) }
+    ensures { IfOk result (λ text. option_map (λ x. x.items) text ≡ both_texts (Some front.now) (repeated_pieces pieces.old)) }
 {
     let mut text = Vec::from_slice(alloc, front)?;
     'pieces: while let Some(piece) = pieces.next() {
@@ -111,37 +112,28 @@ fn repeated(alloc: Global, text: &[u8]) -> Result<Option<Vec<u8>>, AllocError>
     repeated_pieces(alloc, &mut pieces, front)
 }
 
-/// A text with a line end.
-fn with_end(alloc: Global, text: &[u8]) -> Result<Vec<u8>, AllocError>
-    ensures { IfOk result (λ line. line.items ≡ with_end text.now) }
-{
-    let mut line = Vec::from_slice(alloc, text)?;
-    line.push(b'\n')?;
-    Ok(line)
-}
-
 /// What an input line sends, if it is one: `> TEXT` the text and a line end, `>` alone a line end; `>. TEXT` the text without one;
 /// `>* TEXT` and `>*. TEXT` the same of a text in which `{N WORD}` stands for the word, written N times, up to 65,536. Fails for
 /// want of memory alone.
-pub fn sent_by(alloc: Global, line: &[u8]) -> Result<Option<Vec<u8>>, AllocError>
-    ensures { IfOk result (λ sent. option_map (λ x. x.items) sent ≡ sent_by line.now) }
+pub fn bytes_sent(alloc: Global, line: &[u8]) -> Result<Option<Vec<u8>>, AllocError>
+    ensures { IfOk result (λ sent. option_map (λ x. x.items) sent ≡ bytes_sent line.now) }
 {
     if line == b">".as_slice() {
-        return Ok(Some(with_end(alloc, b"")?));
+        return Ok(Some(line_with_end(alloc, b"")?));
     }
-    if let Some(text) = behind(b"> ", line) {
-        return Ok(Some(with_end(alloc, text)?));
+    if let Some(text) = behind_mark(b"> ", line) {
+        return Ok(Some(line_with_end(alloc, text)?));
     }
-    if let Some(text) = behind(b">. ", line) {
+    if let Some(text) = behind_mark(b">. ", line) {
         return Ok(Some(Vec::from_slice(alloc, text)?));
     }
-    if let Some(text) = behind(b">* ", line) {
+    if let Some(text) = behind_mark(b">* ", line) {
         return match repeated(alloc, text)? {
-            Some(text) => Ok(Some(with_end(alloc, &text)?)),
+            Some(text) => Ok(Some(line_with_end(alloc, &text)?)),
             None => Ok(None),
         };
     }
-    match behind(b">*. ", line) {
+    match behind_mark(b">*. ", line) {
         Some(text) => repeated(alloc, text),
         None => Ok(None),
     }
@@ -151,5 +143,5 @@ pub fn sent_by(alloc: Global, line: &[u8]) -> Result<Option<Vec<u8>>, AllocError
 pub fn ends_input(line: &[u8]) -> bool
     ensures { result ≡ ends_input line.now }
 {
-    behind(b">. ", line).is_some() || behind(b">*. ", line).is_some()
+    behind_mark(b">. ", line).is_some() || behind_mark(b">*. ", line).is_some()
 }

@@ -1,29 +1,20 @@
 //! Answers as a transcript tells them, and what is told where another one comes.
-ghost use Rattle.std.specs.Prelude.{◌≡◌, ◌++◌, map, IfOk, OnOk, decimal};
-ghost use Rattle.mt_transcript.specs.Lines.{line_of};
-ghost use Rattle.mt_transcript.specs.Told.{told_line, told_in, other_line, other_lines, other_text, ending_text};
+ghost use Rattle.std.specs.Prelude.{◌≡◌, ◌++◌, map, IfOk, OnOk};
+ghost use Rattle.mt_transcript.specs.Lines.{line_viewed};
+ghost use Rattle.mt_transcript.specs.Told.{answer_told, other_line, other_answer, other_text, told_beside, played_text, alike_text};
 
-use crate::lines::{Kind, TranscriptLine};
+use crate::lines::{LineKind, TranscriptLine, line_with_end, push_line};
 use itoa::Buffer;
 use mt_lines::words::Pieces;
 use std::alloc::{AllocError, Global};
 
-/// Appends a line with its line end.
-fn push_line(text: &mut Vec<u8>, line: &[u8]) -> Result<(), AllocError>
-    ensures { OnOk result (text.new.items ≡ text.old.items ++ told_line line.now) }
-{
-    text.extend_from_slice(line)?;
-    text.push(b'\n')?;
-    Ok(())
-}
-
 /// The answer that the first of these lines tell: they stand below an input line. Fails for want of memory alone.
-pub fn told_in(alloc: Global, lines: &[TranscriptLine<'_>]) -> Result<Vec<u8>, AllocError>
-    ensures { IfOk result (λ text. text.items ≡ told_in (map line_of lines.now)) }
+pub fn answer_told(alloc: Global, lines: &[TranscriptLine<'_>]) -> Result<Vec<u8>, AllocError>
+    ensures { IfOk result (λ text. text.items ≡ answer_told (map line_viewed lines.now)) }
 {
     let mut text = Vec::new(alloc);
     'lines: for line in lines {
-        if line.kind != Kind::Answer {
+        if line.kind != LineKind::Answer {
             return Ok(text);
         }
         push_line(&mut text, line.text)?;
@@ -45,8 +36,8 @@ fn push_other(text: &mut Vec<u8>, line: &[u8]) -> Result<(), AllocError>
 }
 
 /// The lines of an answer that did not come, as comments.
-fn other_lines(alloc: Global, told: &[u8]) -> Result<Vec<u8>, AllocError>
-    ensures { IfOk result (λ text. text.items ≡ other_lines told.now) }
+fn other_answer(alloc: Global, told: &[u8]) -> Result<Vec<u8>, AllocError>
+    ensures { IfOk result (λ text. text.items ≡ other_answer told.now) }
 {
     let mut text = Vec::new(alloc);
     let mut lines = Pieces::new(b'\n', told);
@@ -56,33 +47,52 @@ fn other_lines(alloc: Global, told: &[u8]) -> Result<Vec<u8>, AllocError>
     Ok(text)
 }
 
-/// What is told below an answer where the transcript tells another one: that one, each line a comment, or that it tells none. Fails
-/// for want of memory alone.
-pub fn other_text(alloc: Global, told: &[u8]) -> Result<Vec<u8>, AllocError>
+/// An answer that did not come, each line a comment, or that none is told.
+fn other_text(alloc: Global, told: &[u8]) -> Result<Vec<u8>, AllocError>
     ensures { IfOk result (λ text. text.items ≡ other_text told.now) }
 {
     match told {
         [] => Vec::from_slice(alloc, b"# told: no answer\n"),
-        [_first, ..] => other_lines(alloc, told),
+        [_first, ..] => other_answer(alloc, told),
     }
 }
 
-/// Appends a number.
-fn push_number(text: &mut Vec<u8>, number: u64) -> Result<(), AllocError>
-    ensures { OnOk result (text.new.items ≡ text.old.items ++ decimal number) }
+/// What is told below an answer that came, where another one is told.
+fn told_beside(alloc: Global, answer: &[u8], told: &[u8]) -> Result<Vec<u8>, AllocError>
+    ensures { IfOk result (λ text. text.items ≡ told_beside answer.now told.now) }
 {
-    let mut buffer = Buffer::new();
-    text.extend_from_slice(buffer.format(number).as_bytes())
+    if answer == told {
+        return Ok(Vec::new(alloc));
+    }
+    other_text(alloc, told)
+}
+
+/// What is printed of a line that is played: the line, the answer that came, and where another one is told, that one behind `# told: `.
+/// Fails for want of memory alone.
+pub fn played_text(
+    alloc: Global,
+    line: &[u8],
+    answer: &[u8],
+    told: &[u8],
+) -> Result<Vec<u8>, AllocError>
+    ensures { IfOk result (λ text. text.items ≡ played_text line.now answer.now told.now) }
+{
+    let beside = told_beside(alloc, answer, told)?;
+    let mut text = line_with_end(alloc, line)?;
+    text.extend_from_slice(answer)?;
+    text.extend_from_slice(&beside)?;
+    Ok(text)
 }
 
 /// How many lines of so many were answered as they are told, as a comment. Fails for want of memory alone.
-pub fn ending_text(alloc: Global, alike: u64, count: u64) -> Result<Vec<u8>, AllocError>
-    ensures { IfOk result (λ text. text.items ≡ ending_text alike count) }
+pub fn alike_text(alloc: Global, alike: u64, count: u64) -> Result<Vec<u8>, AllocError>
+    ensures { IfOk result (λ text. text.items ≡ alike_text alike count) }
 {
     let mut text = Vec::from_slice(alloc, b"# as told: ")?;
-    push_number(&mut text, alike)?;
+    let mut buffer = Buffer::new();
+    text.extend_from_slice(buffer.format(alike).as_bytes())?;
     text.extend_from_slice(b" of ")?;
-    push_number(&mut text, count)?;
+    text.extend_from_slice(buffer.format(count).as_bytes())?;
     text.extend_from_slice(b" lines\n")?;
     Ok(text)
 }

@@ -5,7 +5,7 @@ use Rattle.mt_skel.specs.declared.fault.Fault.{Fault}
 use Rattle.mt_propagate.specs.World.{WorldView}
 use Rattle.mt_book.specs.declared.command.Command.{Command}
 use Rattle.mt_page.specs.Data.{StepTexts}
-use Rattle.mt_what_if.specs.Steps.{step_told, IsStep, AreSteps}
+use Rattle.mt_what_if.specs.Steps.{step_told, IsPageStep, AreSteps}
 use Rattle.mt_what_if.specs.Trials.{TrialView, world_after, for_next}
 use Rattle.mt_what_if.specs.Tried.{IsLineTried}
 use Rattle.mt_what_if.specs.declared.foretelling.Question.{Question}
@@ -18,7 +18,7 @@ use Rattle.mt_what_if.proofs.ForetellLaws.{lines_left}
 pub line_step :
     (q : Question) (line : AskedLine) (t mid u : TrialView) (outcome : Outcome) (w : WorldView) (step : StepTexts)
     → mid ≡ for_next t → IsLineTried q.tables.now line mid (record { trial = u; outcome = outcome }) → u.start ≡ mid.start → w ≡ world_after t
-    → step ≡ step_told q line.words.now outcome u.given u.start w (world_after u) → IsStep q line t u outcome step
+    → step ≡ step_told q line.words.now outcome u.given u.start w (world_after u) → IsPageStep q line t u outcome step
 line_step q line t mid u outcome w step begun tried start before told = record {
   tried = subst (λ (x : TrialView). IsLineTried q.tables.now line x (record { trial = u; outcome = outcome })) begun tried;
   told = told ∙ ap (λ (x : WorldView). step_told q line.words.now outcome u.given x w (world_after u)) (start ∙ ap (λ (x : TrialView). x.start) begun)
@@ -32,13 +32,13 @@ Precedes q lines t mid steps =
 
 -- a step is added behind them
 abbrev pub IsAdded : Question → AskedLine → TrialView → TrialView → Outcome → List StepTexts → List StepTexts → Type 0
-IsAdded q line mid u outcome steps more = (step : StepTexts) × (more ≡ steps ++ step ∷ []) × IsStep q line mid u outcome step
+IsAdded q line mid u outcome steps more = (step : StepTexts) × (more ≡ steps ++ step ∷ []) × IsPageStep q line mid u outcome step
 
 -- with what came of it
 pub step_with :
     (q : Question) (line : AskedLine) (mid u : TrialView) (outcome came : Outcome) (step : StepTexts)
-    → outcome ≡ came → IsStep q line mid u outcome step → IsStep q line mid u came step
-step_with q line mid u outcome came step is s = subst (λ (x : Outcome). IsStep q line mid u x step) is s
+    → outcome ≡ came → IsPageStep q line mid u outcome step → IsPageStep q line mid u came step
+step_with q line mid u outcome came step is s = subst (λ (x : Outcome). IsPageStep q line mid u x step) is s
 
 -- a refused line has the last step
 pub refused_step :

@@ -6,7 +6,7 @@ ghost use Rattle.mt_page.specs.Data.{StepTexts};
 ghost use Rattle.mt_what_if.specs.Foretelling.{leaks};
 ghost use Rattle.mt_what_if.specs.LinesTold.{asked_words};
 ghost use Rattle.mt_what_if.specs.Naming.{spaces_told};
-ghost use Rattle.mt_what_if.specs.Steps.{opened, answer_text, note_line, note_text, step_changes, step_told, IsStep, AreSteps};
+ghost use Rattle.mt_what_if.specs.Steps.{table_opened, answer_text, note_line, note_of_taken, step_changes, step_told, IsPageStep, AreSteps};
 ghost use Rattle.mt_what_if.specs.Trials.{world_after};
 
 use crate::asked::AskedLine;
@@ -43,9 +43,9 @@ pub struct Paged {
 }
 
 /// The table of a namespace in a world.
-fn opened(world: &World, space: &KnownSpace) -> Result<Mirror, Fault>
+fn table_opened(world: &World, space: &KnownSpace) -> Result<Mirror, Fault>
     requires { IsWellFormed (world_view world.now) }
-    ensures opened { IfOk result (λ mirror. mirror ≡ opened (world_view world.now) space.now) }
+    ensures opened { IfOk result (λ mirror. mirror ≡ table_opened (world_view world.now) space.now) }
     ensures memory { IsOkUnless result Fault.NoMemory }
 {
     let table = rows_if_there(world, space.number)?;
@@ -55,12 +55,12 @@ fn opened(world: &World, space: &KnownSpace) -> Result<Mirror, Fault>
 /// The tables of these namespaces in a world.
 fn all_opened(alloc: Global, world: &World, spaces: &[KnownSpace]) -> Result<Vec<Mirror>, Fault>
     requires { IsWellFormed (world_view world.now) }
-    ensures opened { IfOk result (λ mirrors. mirrors.items ≡ map (opened (world_view world.now)) spaces.now) }
+    ensures opened { IfOk result (λ mirrors. mirrors.items ≡ map (table_opened (world_view world.now)) spaces.now) }
     ensures memory { IsOkUnless result Fault.NoMemory }
 {
     let mut mirrors = Vec::new(alloc);
     'spaces: for space in spaces {
-        mirrors.push(opened(world, space)?)?;
+        mirrors.push(table_opened(world, space)?)?;
     }
     Ok(mirrors)
 }
@@ -94,8 +94,8 @@ fn push_note_line(note: &mut Vec<u8>, taken: &[u8]) -> Result<(), AllocError>
 }
 
 /// What is taken to be there, each thing a line of a note.
-fn note_text(alloc: Global, taken: &[u8]) -> Result<Vec<u8>, AllocError>
-    ensures { IfOk result (λ note. note.items ≡ note_text taken.now) }
+fn note_of_taken(alloc: Global, taken: &[u8]) -> Result<Vec<u8>, AllocError>
+    ensures { IfOk result (λ note. note.items ≡ note_of_taken taken.now) }
 {
     let mut note = Vec::new(alloc);
     let mut lines = Pieces::new(b'\n', taken);
@@ -154,7 +154,7 @@ fn step_told(
         line: asked_line(alloc, words)?,
         answer: answer_text(alloc, outcome)?,
         reason: Vec::new(alloc),
-        note: note_text(alloc, &taken)?,
+        note: note_of_taken(alloc, &taken)?,
         changes,
     })
 }
@@ -168,7 +168,7 @@ fn push_step(
     steps: &mut Vec<Step>,
 ) -> Result<Outcome, Fault>
     ensures start { trial.new.start ≡ trial.old.start }
-    ensures told { IfOk result (λ outcome. (step : StepTexts) × (steps.new.items ≡ steps.old.items ++ step ∷ []) × IsStep question.now line.now trial.old trial.new outcome step) }
+    ensures told { IfOk result (λ outcome. (step : StepTexts) × (steps.new.items ≡ steps.old.items ++ step ∷ []) × IsPageStep question.now line.now trial.old trial.new outcome step) }
     ensures memory { IsOkUnless result Fault.NoMemory }
 {
     let before = trial.world().copy()?;
@@ -228,7 +228,7 @@ pub fn foretell_steps(
     question: &Question<'_, '_>,
 ) -> Result<Paged, Fault>
     ensures start { scene.new.trial.start ≡ scene.old.trial.start }
-    ensures opening { IfOk result (λ page. page.opening.items ≡ map (opened scene.old.trial.start) question.now.names.now) }
+    ensures opening { IfOk result (λ page. page.opening.items ≡ map (table_opened scene.old.trial.start) question.now.names.now) }
     ensures steps { IfOk result (λ page. AreSteps question.now question.now.lines.now scene.old.trial scene.new.trial page.outcome page.steps.items) }
     ensures spaces { IfOk result (λ page. page.spaces.items ≡ spaces_told question.now.names.now question.now.lines.now scene.old.trial.start (world_after scene.new.trial)) }
     ensures elsewhere { IfOk result (λ page. page.leaks ≡ leaks question.now scene.old.trial.start (world_after scene.new.trial)) }

@@ -1,10 +1,10 @@
 //! Lines that do not stand where they may.
 ghost use Rattle.std.specs.Prelude.{◌≡◌, map, IfOk};
-ghost use Rattle.mt_transcript.specs.Lines.{line_of};
-ghost use Rattle.mt_transcript.specs.Misfits.{sentence_of, if_within, queue_of, is_behind_answer, start, with_line, last_why, sent_why, comment_why, arguments_why, answer_why, why_not, misfit_of};
+ghost use Rattle.mt_transcript.specs.Lines.{line_viewed};
+ghost use Rattle.mt_transcript.specs.Misplaced.{sentence_of, if_within, queue_of, is_behind_answer, before_all, with_line, last_why, sent_why, comment_why, arguments_why, answer_why, why_not, misplaced_in};
 
-use crate::lines::{Kind, TranscriptLine};
-use crate::sent::{ends_input, sent_by};
+use crate::lines::{LineKind, TranscriptLine};
+use crate::sent::{bytes_sent, ends_input};
 use mt_lines::words::number;
 use std::alloc::{AllocError, Global};
 
@@ -32,7 +32,7 @@ pub enum Why {
 
 /// A line that may not stand where it does.
 #[derive(Clone, Copy, PartialEq, Eq, Debug)]
-pub struct Misfit {
+pub struct Misplaced {
     /// Its number, from 1.
     pub number: u64,
     /// Why it may not.
@@ -43,7 +43,7 @@ pub struct Misfit {
 #[derive(Clone, Copy)]
 pub(crate) struct Before {
     /// What the last one is; nothing where there is none.
-    kind: Kind,
+    kind: LineKind,
     /// Whether one of them is sent.
     is_sent: bool,
     /// Whether one of them ends the input.
@@ -86,18 +86,18 @@ pub fn queue_of(line: &[u8]) -> Option<u64>
 }
 
 /// Whether an answer may stand behind a line.
-fn is_behind_answer(kind: Kind) -> bool
+fn is_behind_answer(kind: LineKind) -> bool
     ensures { result ≡ is_behind_answer kind }
 {
-    matches!(kind, Kind::Sent | Kind::Answer)
+    matches!(kind, LineKind::Sent | LineKind::Answer)
 }
 
 /// What stands in front of the first line: nothing.
-fn start() -> Before
-    ensures { result ≡ start }
+fn before_all() -> Before
+    ensures { result ≡ before_all }
 {
     Before {
-        kind: Kind::Nothing,
+        kind: LineKind::Nothing,
         is_sent: false,
         ends: false,
     }
@@ -106,9 +106,9 @@ fn start() -> Before
 impl Before {
     /// What the lines up to this one say of the next.
     fn with_line(self, line: TranscriptLine<'_>) -> Before
-        ensures { result ≡ with_line self (line_of line) }
+        ensures { result ≡ with_line self (line_viewed line) }
     {
-        let is_sent = line.kind == Kind::Sent;
+        let is_sent = line.kind == LineKind::Sent;
         Before {
             kind: line.kind,
             is_sent: self.is_sent || is_sent,
@@ -122,7 +122,7 @@ impl Before {
     {
         if !text.is_empty() {
             Some(Why::Unended)
-        } else if self.kind == Kind::Arguments {
+        } else if self.kind == LineKind::Arguments {
             Some(Why::Place)
         } else {
             None
@@ -136,7 +136,7 @@ impl Before {
         if self.ends {
             return Ok(Some(Why::Behind));
         }
-        match sent_by(alloc, text)? {
+        match bytes_sent(alloc, text)? {
             Some(_sent) => Ok(None),
             None => Ok(Some(Why::Unread)),
         }
@@ -146,7 +146,7 @@ impl Before {
     fn comment_why(self) -> Option<Why>
         ensures { result ≡ comment_why self }
     {
-        if self.kind == Kind::Arguments {
+        if self.kind == LineKind::Arguments {
             Some(Why::Place)
         } else {
             None
@@ -157,7 +157,7 @@ impl Before {
     fn arguments_why(self, text: &[u8]) -> Option<Why>
         ensures { result ≡ arguments_why self text.now }
     {
-        if self.is_sent || self.kind == Kind::Arguments {
+        if self.is_sent || self.kind == LineKind::Arguments {
             Some(Why::Place)
         } else if queue_of(text).is_none() {
             Some(Why::Arguments)
@@ -184,31 +184,34 @@ impl Before {
         line: TranscriptLine<'_>,
         is_last: bool,
     ) -> Result<Option<Why>, AllocError>
-        ensures { IfOk result (λ why. why ≡ why_not self (line_of line) is_last) }
+        ensures { IfOk result (λ why. why ≡ why_not self (line_viewed line) is_last) }
     {
         if is_last {
             return Ok(self.last_why(line.text));
         }
         match line.kind {
-            Kind::Nothing => Ok(Some(Why::Empty)),
-            Kind::Comment => Ok(self.comment_why()),
-            Kind::Arguments => Ok(self.arguments_why(line.text)),
-            Kind::Sent => self.sent_why(alloc, line.text),
-            Kind::Answer => Ok(self.answer_why()),
+            LineKind::Nothing => Ok(Some(Why::Empty)),
+            LineKind::Comment => Ok(self.comment_why()),
+            LineKind::Arguments => Ok(self.arguments_why(line.text)),
+            LineKind::Sent => self.sent_why(alloc, line.text),
+            LineKind::Answer => Ok(self.answer_why()),
         }
     }
 }
 
 /// The first of the lines of a transcript that does not stand where it may, and why: of these the last one is what stands behind the
 /// last line end. Fails for want of memory alone.
-pub fn misfit_of(alloc: Global, lines: &[TranscriptLine<'_>]) -> Result<Option<Misfit>, AllocError>
-    ensures { IfOk result (λ misfit. misfit ≡ misfit_of (map line_of lines.now)) }
+pub fn misplaced_in(
+    alloc: Global,
+    lines: &[TranscriptLine<'_>],
+) -> Result<Option<Misplaced>, AllocError>
+    ensures { IfOk result (λ misplaced. misplaced ≡ misplaced_in (map line_viewed lines.now)) }
 {
-    let mut before = start();
+    let mut before = before_all();
     'lines: for (place, line) in lines.iter().enumerate() {
         let is_last = place + 1 == lines.len();
         if let Some(why) = before.why_not(alloc, *line, is_last)? {
-            return Ok(Some(Misfit {
+            return Ok(Some(Misplaced {
                 number: place as u64 + 1,
                 why,
             }));

@@ -1,17 +1,17 @@
 -- Which lines of a transcript do not stand where they may.
 -- A word with no source is this project's rule.
-use Rattle.std.specs.Prelude.{ℕ, ◌+◌, nat_lt, nat_le, nat_eq, Bool, true, false, not, ◌||◌, ◌&&◌, if◌then◌else◌, List, [], ◌∷◌, drop, Option, Some, None, codes}
+use Rattle.std.specs.Prelude.{ℕ, ◌+◌, nat_lt, nat_le, nat_eq, Bool, true, false, not, ◌||◌, ◌&&◌, if◌then◌else◌, List, [], ◌∷◌, ◌++◌, drop, Option, Some, None, codes}
 use Rattle.std.specs.List.{starts_with}
 use Rattle.mt_lines.specs.Words.{number_in_text}
-use Rattle.mt_transcript.specs.Lines.{LineView}
-use Rattle.mt_transcript.specs.Sent.{sent_by, ends_input}
-use Rattle.mt_transcript.specs.declared.lines.Kind.{Kind}
-use Rattle.mt_transcript.specs.declared.lines.Kind.TheVariants.{Nothing, Comment, Arguments, Sent, Answer}
-use Rattle.mt_transcript.specs.declared.misfit.Before.{Before}
-use Rattle.mt_transcript.specs.declared.misfit.Misfit.{Misfit}
-use Rattle.mt_transcript.specs.declared.misfit.TheConstants.{MOST_POSTS}
-use Rattle.mt_transcript.specs.declared.misfit.Why.{Why}
-use Rattle.mt_transcript.specs.declared.misfit.Why.TheVariants as why
+use Rattle.mt_transcript.specs.Lines.{ReadLine}
+use Rattle.mt_transcript.specs.Sent.{bytes_sent, ends_input}
+use Rattle.mt_transcript.specs.declared.lines.LineKind.{LineKind}
+use Rattle.mt_transcript.specs.declared.lines.LineKind.TheVariants.{Nothing, Comment, Arguments, Sent, Answer}
+use Rattle.mt_transcript.specs.declared.misplaced.Before.{Before}
+use Rattle.mt_transcript.specs.declared.misplaced.Misplaced.{Misplaced}
+use Rattle.mt_transcript.specs.declared.misplaced.TheConstants.{MOST_POSTS}
+use Rattle.mt_transcript.specs.declared.misplaced.Why.{Why}
+use Rattle.mt_transcript.specs.declared.misplaced.Why.TheVariants as why
 
 -- what is wrong, in words
 abbrev pub sentence_of : Why → List ℕ
@@ -32,27 +32,27 @@ within_by None = None
 within_by (Some n) = if_within n
 
 abbrev pub queue_of : List ℕ → Option ℕ
-queue_of line = if starts_with nat_eq line (codes "$ --queue ") then within_by (number_in_text (drop 10 line)) else None
+queue_of line = if starts_with nat_eq line (codes "$ -" ++ codes "-queue ") then within_by (number_in_text (drop 10 line)) else None
 
 -- what a line is
-abbrev pub is_sent : Kind → Bool
+abbrev pub is_sent : LineKind → Bool
 is_sent Sent = true
 is_sent kind = false
 
-abbrev pub are_arguments : Kind → Bool
+abbrev pub are_arguments : LineKind → Bool
 are_arguments Arguments = true
 are_arguments kind = false
 
-abbrev pub is_behind_answer : Kind → Bool
+abbrev pub is_behind_answer : LineKind → Bool
 is_behind_answer Sent = true
 is_behind_answer Answer = true
 is_behind_answer kind = false
 
 -- what the lines in front of one say of it
-abbrev pub start : Before
-start = record { kind = Nothing; is_sent = false; ends = false }
+abbrev pub before_all : Before
+before_all = record { kind = Nothing; is_sent = false; ends = false }
 
-abbrev pub with_line : Before → LineView → Before
+abbrev pub with_line : Before → ReadLine → Before
 with_line b l = record { kind = l.kind; is_sent = b.is_sent || is_sent l.kind; ends = b.ends || (is_sent l.kind && ends_input l.text) }
 
 -- why a line may not stand there
@@ -65,7 +65,7 @@ why_unread None = Some why.Unread
 why_unread (Some sent) = None
 
 abbrev pub sent_why : Before → List ℕ → Option Why
-sent_why b text = if b.ends then Some why.Behind else why_unread (sent_by text)
+sent_why b text = if b.ends then Some why.Behind else why_unread (bytes_sent text)
 
 abbrev pub comment_why : Before → Option Why
 comment_why b = if are_arguments b.kind then Some why.Place else None
@@ -80,28 +80,28 @@ arguments_why b text = if b.is_sent || are_arguments b.kind then Some why.Place 
 abbrev pub answer_why : Before → Option Why
 answer_why b = if is_behind_answer b.kind then None else Some why.Lost
 
-abbrev pub why_by : Kind → Before → List ℕ → Option Why
+abbrev pub why_by : LineKind → Before → List ℕ → Option Why
 why_by Nothing b text = Some why.Empty
 why_by Comment b text = comment_why b
 why_by Arguments b text = arguments_why b text
 why_by Sent b text = sent_why b text
 why_by Answer b text = answer_why b
 
-abbrev pub why_not : Before → LineView → Bool → Option Why
+abbrev pub why_not : Before → ReadLine → Bool → Option Why
 why_not b l is_last = if is_last then last_why b l.text else why_by l.kind b l.text
 
 -- the first line that may not stand where it does, of lines that count from a number on
-abbrev pub is_none : List LineView → Bool
-is_none [] = true
-is_none (l ∷ ls) = false
+abbrev pub has_no_line : List ReadLine → Bool
+has_no_line [] = true
+has_no_line (l ∷ ls) = false
 
-abbrev pub misfit_by : ℕ → Option Why → Option Misfit → Option Misfit
-misfit_by n None later = later
-misfit_by n (Some why) later = Some (record { number = n; why = why })
+abbrev pub misplaced_by : ℕ → Option Why → Option Misplaced → Option Misplaced
+misplaced_by n None later = later
+misplaced_by n (Some why) later = Some (record { number = n; why = why })
 
-abbrev pub misfit_from : ℕ → Before → List LineView → Option Misfit
-misfit_from n b [] = None
-misfit_from n b (l ∷ ls) = misfit_by n (why_not b l (is_none ls)) (misfit_from (n + 1) (with_line b l) ls)
+abbrev pub misplaced_from : ℕ → Before → List ReadLine → Option Misplaced
+misplaced_from n b [] = None
+misplaced_from n b (l ∷ ls) = misplaced_by n (why_not b l (has_no_line ls)) (misplaced_from (n + 1) (with_line b l) ls)
 
-abbrev pub misfit_of : List LineView → Option Misfit
-misfit_of lines = misfit_from 1 start lines
+abbrev pub misplaced_in : List ReadLine → Option Misplaced
+misplaced_in lines = misplaced_from 1 before_all lines
