@@ -7,8 +7,8 @@ Usage: bench/profile.py [--program PATH] [--only WORD] [--times N]
 
 The program is crates/mountd/out/mountd, which `rt run mountd` builds; valgrind counts, and has to be there. A world is
 made without counting, and so are its commands twice; then they are counted, N times (4) in all. A bound tree and a
-copied namespace stay, so that the world grows by its own size each time. The growth is the slope of log(instructions)
-over log(size): 0 does not grow, 1 grows with the size.
+copied namespace stay, so that the world grows by its own size each time; an opened tree is closed or attached. The growth
+is the slope of log(instructions) over log(size): 0 does not grow, 1 grows with the size.
 """
 import argparse
 import math
@@ -111,7 +111,7 @@ def masters(others):
     return lines
 
 
-# A world, its sizes, and the commands that are counted together.
+# A world, its sizes, and the commands that are counted together. TREE is the number of the namespace that the commands make.
 WORLDS = {
     "copies": (many_peers, (10, 100, 1000), ["mount 1 d /w/t", "umount 1 /w/t"]),
     "receivers without the directory": (peers_elsewhere, (10, 100, 1000), ["mount 1 d /w/t", "umount 1 /w/t"]),
@@ -129,6 +129,11 @@ WORLDS = {
     "the same with ten receivers": (received_trees, (4, 16, 50), ["rbind 1 /x /s", "detach 1 /s"]),
     "a tree that is bound": (tree, (40, 160, 500), ["rbind 1 /x /s"]),
     "a namespace that is copied": (many_mounts, (40, 160, 500), ["copyns 1"]),
+    "a tree of one mount among mounts": (many_mounts, (40, 400, 2000), ["newtree d", "movetree TREE 1 /x", "umount 1 /x"]),
+    "one that is opened among mounts": (many_mounts, (40, 400, 2000), ["opentree 1 /d7", "movetree TREE 1 /x", "umount 1 /x"]),
+    "a tree that is opened and closed": (tree, (40, 160, 500), ["opentree 1 /x rec", "dropns TREE"]),
+    "a tree that is opened, attached and detached": (tree, (40, 160, 500), ["opentree 1 /x rec", "movetree TREE 1 /s", "detach 1 /s"]),
+    "the same with ten receivers of the tree": (received_trees, (4, 16, 50), ["opentree 1 /x rec", "movetree TREE 1 /s", "detach 1 /s"]),
     "attributes of a tree": (many_mounts, (40, 400, 2000), ["setattr 1 / rec set=ro", "setattr 1 / rec clr=ro"]),
 }
 
@@ -142,15 +147,21 @@ def counted(program, lines, commands, times):
             ["valgrind", "--tool=callgrind", "--instr-atstart=no", f"--callgrind-out-file={out}", program, "-"],
             stdin=subprocess.PIPE, stdout=subprocess.PIPE, stderr=subprocess.DEVNULL)
         try:
-            feed(run, lines + commands * 2)
+            feed(run, lines + done(lines, commands, 0, 2))
             subprocess.run(["callgrind_control", "-i", "on", str(run.pid)], check=True, capture_output=True)
-            feed(run, commands * times)
+            feed(run, done(lines, commands, 2, 2 + times))
         finally:
             run.stdin.close()
             run.wait()
         text = subprocess.run(["callgrind_annotate", "--inclusive=yes", "--threshold=100", out], check=True,
                               capture_output=True, text=True).stdout
     return {part: instructions(text, name) for part, name in PARTS.items()}
+
+
+def done(lines, commands, first, end):
+    """The commands from one time up to another, each time with the number of the namespace that they make."""
+    spaces = sum(line.split()[0] in ("newns", "copyns") for line in lines)
+    return [line.replace("TREE", str(spaces + 1 + time)) for time in range(first, end) for line in commands]
 
 
 def feed(run, lines):

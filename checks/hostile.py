@@ -99,9 +99,10 @@ def fault_of(line):
     form = FORMS.get(command)
     if form is None or b"" in words or b"\0" in line:
         return "BadLine"
-    fixed = form.rstrip("?*=")
+    fixed = form.rstrip("?R*=")
     rest = words[len(fixed) :]
-    allowed = form[-1:] == "*" or rest == [] or (form[-1:] == "?" and rest == [b"less"]) or (form[-1:] == "=" and are_attributes(rest))
+    last = {"?": [b"less"], "R": [b"rec"]}.get(form[-1:])
+    allowed = form[-1:] == "*" or rest == [] or rest == last or (form[-1:] == "=" and are_attributes(rest))
     if len(words) < len(fixed) or not allowed:
         return "BadLine"
     faults = {WORD_FAULTS[kind](word) for kind, word in zip(fixed, words)}
@@ -118,6 +119,7 @@ WORDS = {
     "T": [b"1", b"8", b"1024"],
     "F": [b"1", b"8", b"1048576"],
     "?": [b"less"],
+    "R": [b"rec"],
     "=": [b"set=ro", b"set=noatime,nosuid", b"set=ro,ro", b"set=noatime,strictatime"],
     "*": [b"rec", b"set=ro", b"clr=ro", b"set=noatime", b"clr=atime,noexec", b"prop=shared", b"prop=slave", b"set=ro,ro"],
 }
@@ -134,7 +136,7 @@ def whole(chance):
     command = chance.choice(list(FORMS))
     words = [command]
     for kind in FORMS[command]:
-        times = 1 if kind not in "?*=" else chance.randint(0, 3 if kind == "*" else 1)
+        times = 1 if kind not in "?R*=" else chance.randint(0, 3 if kind == "*" else 1)
         words += [chance.choice(WORDS[kind]) for _ in range(times)]
     return b" ".join(words)
 

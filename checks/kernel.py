@@ -41,7 +41,7 @@ SEEN = re.compile(r"(?m)^\| (\d+\.\d+)\.\S+ \|")
 # A name and a reason of the page's table of differences.
 NAMED = re.compile(r"(?m)^\| `([a-z-]+)` \|.*\| ([^|]+) \|$")
 # What a machine has to allow.
-ALLOWED = [b"mkfs a tmpfs none", b"newns a", b"copyns 1", b"copyns 1 less"]
+ALLOWED = [b"mkfs a tmpfs none", b"newns a", b"copyns 1", b"copyns 1 less", b"opentree 1 / rec"]
 # How long a failing script is made shorter, in seconds.
 SHORTENING = 10
 
@@ -60,7 +60,7 @@ class Replayed:
     def __init__(self, lines):
         self.lines = iter(lines)
 
-    def next_line(self, _rows):
+    def next_line(self, _rows, _trees):
         return next(self.lines, None)
 
 
@@ -83,16 +83,25 @@ class Sum:
             print(f"known difference {kind.name}, {self.known[kind.name]} times: {kind.why}")
 
 
+def lines_of(source, play):
+    """The lines of an author, and then those that put up the trees that are left."""
+    while (line := source.next_line(play.rows(), play.trees)) is not None:
+        yield line
+    yield from play.last_lines()
+
+
 def play_lines(program, source, is_thorough=False):
     """Plays the lines of an author until one is unknown, or the tables are apart."""
     lines, unknown = [], ""
     with Play(program, is_thorough) as play:
-        while not play.is_apart and not unknown and (line := source.next_line(play.rows())) is not None:
+        for line in lines_of(source, play):
             lines.append(line)
             try:
                 play.step(line)
             except (Unknown, Silent, Ended) as found:
                 unknown = f"behind {shown(line)}\n{found}\n{play.both_tables()}"
+            if unknown or play.is_apart:
+                break
     return Played(lines, play, unknown)
 
 
@@ -142,7 +151,7 @@ def check_scripts(program, seed, count, end, total):
     """Random scripts are the same on both sides, but for the known differences."""
     done, before = 0, total.counts["accepted"]
     while done < count and time.monotonic() < end:
-        played = play_lines(program, Author(random.Random(f"{seed} {done}")))
+        played = play_lines(program, Author(random.Random(f"{seed} {done}"), has_trees=True))
         total.add(played.play)
         if played.unknown:
             check(f"script {done} of seed {seed}", False, shortest(program, played))

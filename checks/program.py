@@ -3,7 +3,7 @@
 
 The parts are those of sessions/ and documents/: the format of cases and the cases, README's example, the sessions of
 docs/TOUR.md and its states, the tables, odd input, closed streams and arguments, the faults of reads and writes, limits,
-memory that stays level, worlds of many mounts and allocations that are refused. A failure is printed with what shows why,
+memory that stays level, worlds of many mounts, trees in the place of mounts and binds, and allocations that are refused. A failure is printed with what shows why,
 and then the status is 1. The server on a socket is for server.py.
 
 --update checks nothing: it writes the program's answers into docs/TOUR.md, cases/ and checks/sessions/shapes.txt, and from
@@ -15,7 +15,7 @@ import time
 
 from documents import example, states, tour
 from harness.runs import failures
-from sessions import cases, faults, level, limits, memory, runtimes, shapes, streams, tables
+from sessions import cases, faults, level, limits, memory, runtimes, shapes, streams, tables, trees
 
 PARTS = {
     "format": cases.check_format,
@@ -26,6 +26,7 @@ PARTS = {
     "findmnt": tables.check_findmnt,
     "containers": runtimes.check_contained,
     "copies": tables.check_copies,
+    "trees": trees.check_two_lines,
     "pieces": streams.check_pieces,
     "input": streams.check_input,
     "closed": streams.check_closed,

@@ -16,7 +16,7 @@ import tempfile
 
 from clients.hosts import PRIVATE, SHARED, SLAVE, Guest
 from clients.outcomes import SPACE, Numbers, Row, files_of, import_tables, row_of
-from harness.runs import answer_groups, check, read, run, session, shown
+from harness.runs import TOP, answer_groups, check, read, run, session, shown
 
 # How many questions are asked about each of the recorded tables, and how many lines one has at most.
 QUESTIONS, LINES = 40, 4
@@ -28,6 +28,37 @@ TABLES = (
     *([("checks", "sessions", "containers", f"{name}.mountinfo")] for name in ("bwrap", "runc", "runc-rshared")),
     [("docs", "tables", "host"), ("docs", "tables", "container")],
 )
+
+# Refusals that no rows of tables say more of.
+UNEXPLAINED = "TooMany", "NoEntry"
+
+# A line that is refused, of the tables of a host and a container, and what is told of it.
+REFUSED = "mount", "--move", "/home", "/run/h"
+REFUSED_SAID = b"""1 mount --move /home /run/h
+    taken to be there: directory /h of 0:26
+  no SharedParent: SRC, /home stands on mount 29 at /, which is shared, in group 1
+      29 / /dev/sda2 shared:1
+    to change that: setattr 1 / prop=private (or prop=slave, which still gets what the others mount)
+elsewhere: nothing changes in 1 other namespace
+"""
+
+# A line that takes the host's mount out of its peer group, which is the master of the container's; and a table with one more mount of
+# that group, so that it stays the master.
+LEFT = "mount", "--make-private", "/home"
+LEFT_SAID = b"""1 mount --make-private /home
+  host:
+    ~ 40 /home shared:30 -> private
+  container:
+    ~ 311 /home master:30 -> private
+    ? 311 /home keeps master:30, if group 30 has a mount in a namespace that was not read
+elsewhere: 1 of 1 other namespace changes: container
+"""
+OTHER = [b"401 400 8:3 / / rw,relatime shared:30 - ext4 /dev/sda3 rw"]
+KEPT_SAID = b"""1 mount --make-private /home
+  host:
+    ~ 40 /home shared:30 -> private
+elsewhere: nothing changes in 2 other namespaces
+"""
 
 # Options of a row that a line sets, and the propagation that it makes.
 SETS = b"set=ro", b"set=nosuid,noexec", b"clr=nodev", b"set=noatime clr=atime"
@@ -75,6 +106,10 @@ class Answer:
 
     def refusals(self):
         return [one["refusal"] for one in self.objects if "refusal" in one]
+
+    def unexplained(self):
+        """The refusals of which nothing more is told."""
+        return [one["refusal"] for one in self.objects if "refusal" in one and not one.get("reason", "").startswith(one["refusal"] + ": ")]
 
     def changes(self, space):
         return [one for one in self.objects if one.get("namespace") == space]
@@ -165,11 +200,27 @@ def check_question(program, mountctl, name, lines_of_tables, lines):
     check(f"{name}: what is refused of\n{said}", answer.refusals() == wanted and answer.status == len(wanted), f"{answer.refusals()} {wanted} {answer.complaint}")
     if refused:
         # What comes after a refused line is not asked.
+        check(f"{name}: why that is refused of\n{said}", set(answer.unexplained()) <= set(UNEXPLAINED), str(answer.objects))
         return
     numbers = Numbers()
     for number, (table, group) in enumerate(zip(rows, groups[len(sent) :]), 1):
         why = numbers.why_other(changed(table, answer.changes(number)), list(map(row_of, group[1:])))
         check(f"{name}: table {number} after\n{said}", why is None, str(why))
+
+
+def check_said(mountctl, name, names, line, wanted):
+    """All that is told of a line in the namespaces of the tables of these files."""
+    status, text, complaint = run(mountctl, b"", "what-if", *names, "--", *line)
+    check(name, (status, text) == wanted, f"{status} {shown(text)} {complaint}")
+
+
+def check_by_hand(mountctl):
+    """A refused line, and which mounts are in its way; and a master that may have a mount in a table which is not there."""
+    names = [os.path.join(TOP, "docs", "tables", name) for name in ("host", "container")]
+    check_said(mountctl, "a refused line with its reason", names, REFUSED, (1, REFUSED_SAID))
+    check_said(mountctl, "a master without a mount", names, LEFT, (0, LEFT_SAID))
+    with files_of([OTHER]) as others:
+        check_said(mountctl, "a master with a mount in one more table", names + others, LEFT, (0, KEPT_SAID))
 
 
 def check_recorded(program, mountctl):
@@ -268,6 +319,7 @@ def check_machine(mountctl):
 
 
 def check_foretold(program, mountctl):
+    check_by_hand(mountctl)
     check_recorded(program, mountctl)
     if shutil.which("mount") is None:
         print("there is no mount(8): no line of it is carried out", flush=True)

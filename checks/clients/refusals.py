@@ -149,6 +149,34 @@ BY_HAND = (
     ([], b"dropns 7", [b"NoNamespace: namespace 7 is not there", b"    1 / none private in namespace 1"]),
     ([], b"setattr 1 /n set=noatime", [b"BadAttr: set= has two access times, or one without clr=atime", HELP + b"one access time, with clr=atime"]),
     ([], b"mount 1 a /n set=ro,noatime,relatime", [b"BadAttr: set= has two access times", HELP + b"one access time"]),
+    (
+        [b"setattr 1 /m prop=unbindable"],
+        b"opentree 1 /m",
+        [b"Unbindable: /m is on mount 2 at /m, which is unbindable", b"    2 /m /dev/x unbindable", HELP + b"setattr 1 /m prop=private"],
+    ),
+    ([], b"movetree 7 1 /m", [b"NoNamespace: namespace 7 is not there", b"    1 / none private"]),
+    ([b"newtree d"], b"movetree 2 1 /", [b"RootPlace: / is the root of the root mount, mount 1 at /", b"    1 / none private", HELP + b"another path; only a pivot changes the root"]),
+    (
+        [b"opentree 1 /m rec"],
+        b"movetree 2 2 /s/n",
+        [
+            b"IntoItself: /s/n is on mount 6 at /s, which stands on mount 5 at /, which would be moved",
+            b"    5 / /dev/x private",
+            b"    6 /s none private",
+            HELP + b"a place that is neither on mount 5 at / nor on what stands on it",
+        ],
+    ),
+    (
+        [b"opentree 1 /m rec", b"setattr 2 /s prop=unbindable", b"setattr 1 /n prop=shared"],
+        b"movetree 2 1 /n/m",
+        [
+            b"UnbindableInside: /n/m is on mount 4 at /n, which is shared, in group 1, and 1 mount is unbindable in the tree of mount 5 at /",
+            b"    6 /s none unbindable in namespace 2",
+            b"    4 /n none shared:1",
+            HELP + b"setattr 2 /s prop=private",
+            HELP + b"setattr 1 /n prop=private, where it would stand",
+        ],
+    ),
 )
 
 

@@ -4,7 +4,7 @@ import re
 
 from harness.refusals import NAMES, NEVER_IN_LINUX, OF_FORM, TABLE
 from harness.runs import check, read, shown
-from kernels.differences import ERRNO, PIVOT_ERRNO
+from kernels.differences import ERRNO, PIVOT_ERRNO, TREE_ERRNO
 
 # An entry of the page: the name of a refusal, and what it says.
 ENTRY = re.compile(r"(?m)^\.It Er (\w+)\n((?:(?!\.It |\.El).*\n)*)")
@@ -55,7 +55,8 @@ def check_completion():
 def check_kernel():
     """What docs/KERNEL.md says that Linux has in the place of refusals, and what the check beside the kernel takes, is what the table says."""
     wanted = {name: TABLE[name].errnos for name in NAMES if name not in NEVER_IN_LINUX and name != "NoMemory"}
-    compared = {name: ERRNO.get(name, set()) | PIVOT_ERRNO.get(name, set()) for name in {*ERRNO, *PIVOT_ERRNO}}
+    tables = ERRNO, PIVOT_ERRNO, TREE_ERRNO
+    compared = {name: set().union(*(table.get(name, set()) for table in tables)) for name in set().union(*tables)}
     check("the errnos of kernels/differences.py", compared == wanted, f"{compared}\n{wanted}")
     text, found = shown(read("docs", "KERNEL.md")).split("\n## Refusals\n")[1].split("\n## ")[0], {}
     for names, errnos in PAIR.findall(text):

@@ -28,16 +28,17 @@ TABLE = read_table()
 # All words that begin a line.
 LINES = tuple(TABLE)
 
-# What stands behind each: labels, paths, numbers, what is watched, counts, `less`, `set=`, and the rest of the line.
-LETTERS = {"Label": "L", "Path": "P", "Space": "N", "Scope": "W", "Count(1_024)": "T", "Count(1_048_576)": "F", "Less": "?", "Attributes": "=", "Setting": "*"}
+# What stands behind each: labels, paths, numbers, what is watched, counts, `less`, `rec`, `set=`, and the rest of the line.
+LETTERS = {"Label": "L", "Path": "P", "Space": "N", "Scope": "W", "Count(1_024)": "T", "Count(1_048_576)": "F", "Less": "?", "Recursive": "R", "Attributes": "=", "Setting": "*"}
 FORMS = {word: re.sub(r"\*+", "*", "".join(LETTERS[name] for name in row.arguments)) for word, row in TABLE.items()}
 
 # Those that make a world: the commands. Those that end a session or all.
 CHANGING = tuple(word for word in LINES if TABLE[word].changes)
 ENDING = tuple(word for word in LINES if TABLE[word].form == "Done" and word not in CHANGING)
 
-# Commands that make a namespace, and those that are answered by the number of what they make.
-MAKING_NAMESPACES = b"newns", b"copyns"
+# Commands that make a namespace, those of them that make a detached tree, and those that are answered by the number of what they make.
+MAKING_TREES = b"opentree", b"newtree"
+MAKING_NAMESPACES = b"newns", b"copyns", *MAKING_TREES
 NUMBERED = tuple(word for word in CHANGING if TABLE[word].form == "Number")
 
 # Commands that bring a mount to a place.

@@ -27,6 +27,9 @@ class Mismatch(NamedTuple):
 # The fields that matched rows have in common as they are.
 PLAIN = "root", "options", "kind", "source"
 
+# From this number on an ID only stands for one that cannot be read.
+STAND_IN = 1 << 40
+
 
 def place_in(parent, row):
     """The names that lead from the mount point of the parent to that of the row."""
@@ -94,9 +97,12 @@ class Comparison:
     def __init__(self):
         self.mounts, self.groups, self.devices = Bijection(), Bijection(), Bijection()
         self.texts, self.pairs = {}, {}
+        # The mounts of detached trees that have no partner: ours, and theirs.
+        self.unmatched = set(), set()
 
-    def compare(self, ours, theirs):
-        """How the tables of all namespaces differ after a command: a list of mismatches."""
+    def compare(self, ours, theirs, trees=frozenset()):
+        """How the tables of all namespaces differ after a command: a list of mismatches. Of mounts in detached trees no partners are
+        kept, but for root mounts."""
         for space in [space for space in self.pairs if space not in ours]:
             del self.pairs[space], self.texts[space]
         found = [Mismatch(space, "table", None, None) for space in sorted(ours.keys() ^ theirs.keys())]
@@ -104,6 +110,8 @@ class Comparison:
             if self.texts.get(space) != (ours[space], theirs[space]):
                 self.texts[space] = ours[space], theirs[space]
                 self.pairs[space] = matched(ours[space], theirs[space])
+        alone = [pair for space in trees & self.pairs.keys() for pair in self.pairs[space] if None in pair]
+        self.unmatched = tuple({pair[side].id for pair in alone if pair[side]} for side in (0, 1))
         for numbers in self.mounts, self.groups, self.devices:
             numbers.begin()
         for space, pairs in self.pairs.items():
@@ -116,15 +124,16 @@ class Comparison:
         here = {ours.id for pairs in self.pairs.values() for ours, _ in pairs if ours}
         there = {theirs.id for pairs in self.pairs.values() for _, theirs in pairs if theirs}
         before = self.mounts.before.items()
-        ours = {one for one, another in before if one in here and another not in there}
-        return ours, {another for one, another in before if one not in here and another in there}
+        lost = {one for one, another in before if one in here and another not in there}
+        kept = {another for one, another in before if one not in here and another in there}
+        return lost | self.unmatched[0], kept | self.unmatched[1]
 
     def differing(self, ours, theirs):
         """What of two matched rows differs."""
         if ours is None or theirs is None:
             return ["partner"]
         found = [field for field in PLAIN if getattr(ours, field) != getattr(theirs, field)]
-        if not self.mounts.fits(ours.id, theirs.id):
+        if theirs.id < STAND_IN and not self.mounts.fits(ours.id, theirs.id):
             found.append("mount")
         if not self.devices.fits(ours.device, theirs.device):
             found.append("device")

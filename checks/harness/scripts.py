@@ -30,8 +30,13 @@ COMMANDS = {
     "dropns": 0.3,
     "mkdir": 0.3,
 }
+# And these, where it has detached trees.
+TREE_COMMANDS = {"opentree": 3, "newtree": 0.8, "movetree": 4}
 # What does not make more mounts, or not many.
-SMALL = "move", "pivot", "umount", "detach", "setattr", "dropns", "mkdir"
+SMALL = "move", "pivot", "umount", "detach", "setattr", "dropns", "mkdir", "movetree"
+# What makes a namespace, or a tree, and what a tree refuses.
+MAKING = "copyns", "newns", "opentree", "newtree"
+REFUSED_BY_TREES = "copyns", "move", "pivot", "umount", "detach"
 KINDS = {b"shared": 4, b"slave": 3, b"private": 1, b"unbindable": 0.7}
 FLAGS = [b"ro", b"nosuid", b"nodev", b"noexec", b"nodiratime", b"nosymfollow"]
 TIMES = [b"noatime", b"strictatime", b"relatime"]
@@ -46,9 +51,9 @@ def joined(point, names):
 class Author:
     """Writes one script."""
 
-    def __init__(self, chance):
+    def __init__(self, chance, has_trees=False):
         self.chance = chance
-        self.commands, self.kinds = self.liked(COMMANDS), self.liked(KINDS)
+        self.commands, self.kinds = self.liked(COMMANDS | (TREE_COMMANDS if has_trees else {})), self.liked(KINDS)
         self.less = chance.choice([0, 0, 0.3, 0.8])
         self.attributes = chance.choice([0, 0.1, 0.6])
         # How often a path leads anywhere, and how often a command has rec.
@@ -92,30 +97,41 @@ class Author:
             self.directories[name].append(path)
         return b"mkdir %b %b" % (name, path)
 
-    def next_line(self, tables):
-        """The next line of the script, or None: tables has our rows of each namespace."""
+    def next_line(self, tables, trees=()):
+        """The next line of the script, or None: tables has our rows of each namespace, and trees those that are detached trees."""
         if self.planned:
             return self.planned.pop(0)
         self.left -= 1
         if self.left < 0:
             return None
         word = self.picked(self.allowed(tables))
-        if word in ("mkdir", "newns"):
+        if word in ("mkdir", "newns", "newtree"):
             name = self.chance.choice(self.filesystems)
-            return self.made(name, self.chance.choice(self.drawn)) if word == "mkdir" else b"newns " + name
+            return self.made(name, self.chance.choice(self.drawn)) if word == "mkdir" else b"%b %b" % (word.encode(), name)
         if not tables:
             return b"newns a"
+        if word == "movetree" and trees:
+            return self.attached(tables, trees)
         space = self.chance.choice(list(tables))
-        if word in ("move", "pivot", "umount", "detach") and len(tables[space]) == 1:
+        if space in trees and word in REFUSED_BY_TREES and self.chance.random() < 0.9:
+            word = self.chance.choice(["mount", "bind", "rbind", "setattr", "opentree", "dropns"])
+        if word == "movetree" or (word in ("move", "pivot", "umount", "detach") and len(tables[space]) == 1):
             word = "mount"
         return b" ".join([word.encode(), b"%d" % space, *getattr(self, word)(tables[space])])
+
+    def attached(self, tables, trees):
+        """The line that attaches a tree, mostly in another namespace."""
+        tree = self.chance.choice(list(trees) if self.chance.random() < 0.95 else list(tables))
+        others = [space for space in tables if space != tree or self.chance.random() < 0.1] or list(tables)
+        space = self.chance.choice(others)
+        return b"movetree %d %d %b" % (tree, space, self.path(tables[space]))
 
     def allowed(self, tables):
         """The commands that may come now, with their weights."""
         is_full = sum(map(len, tables.values())) > MOST_MOUNTS
         words = [word for word in self.commands if not is_full or word in SMALL]
         if len(tables) >= MOST_SPACES:
-            words = [word for word in words if word not in ("copyns", "newns")]
+            words = [word for word in words if word not in MAKING]
         return {word: self.commands[word] for word in words}
 
     # Paths in a namespace.
@@ -181,6 +197,9 @@ class Author:
 
     def dropns(self, _rows):
         return []
+
+    def opentree(self, rows):
+        return [self.chance.choice([self.path, self.point])(rows), *([b"rec"] if self.chance.random() < 0.5 else [])]
 
     def setattr(self, rows):
         options = [b"rec"] if self.chance.random() < self.rec else []

@@ -26,6 +26,8 @@ class Step(NamedTuple):
     kept: set = set()
     # The namespaces that are less privileged copies, or copies of such.
     less: set = set()
+    # Whether its paths lead through a tree that was opened in a namespace that is gone.
+    is_orphan: bool = False
 
 
 class Difference(NamedTuple):
@@ -48,10 +50,15 @@ ERRNO = {
     "UnbindableInside": {errno.EINVAL},
     "Busy": {errno.EBUSY},
     "BadAttr": {errno.EINVAL},
+    "Detached": {errno.EINVAL},
+    "NotDetached": {errno.EINVAL},
 }
 
 # The errno of pivot_root(2), where it is another one: all that is on the root mount is busy.
 PIVOT_ERRNO = {"RootPlace": {errno.EBUSY}, "IntoItself": {errno.EINVAL, errno.EBUSY}}
+
+# That of move_mount(2) of a tree onto itself.
+TREE_ERRNO = {"IntoItself": {errno.EINVAL}}
 
 # Both refuse, and the kernel for another reason that holds too: command, our refusal, its errno.
 OTHER_ORDER = {
@@ -63,6 +70,12 @@ OTHER_ORDER = {
     (b"pivot", "RootPlace", errno.ENOENT),
     (b"pivot", "RootPlace", errno.EINVAL),
     (b"setattr", "NoEntry", errno.EINVAL),
+    (b"move", "Detached", errno.ENOENT),
+    (b"pivot", "Detached", errno.ENOENT),
+    (b"umount", "Detached", errno.ENOENT),
+    (b"detach", "Detached", errno.ENOENT),
+    (b"movetree", "NotDetached", errno.ENOENT),
+    (b"movetree", "NotDetached", errno.ELOOP),
 }
 
 # What the kernel says where a locked mount stands against a command.
@@ -74,6 +87,7 @@ LOCKED = {
     b"bind": {errno.EINVAL},
     b"rbind": {errno.EPERM},
     b"setattr": {errno.EPERM},
+    b"opentree": {errno.EINVAL, errno.EPERM},
 }
 
 ACCESS_TIMES = {b"noatime", b"strictatime"}
@@ -121,6 +135,12 @@ def is_other_order(step):
     """The kernel asks for unbindable mounts before it asks for a move into itself: there has to be one."""
     is_in_reach = step.refusal != "IntoItself" or any(b"unbindable" in row.tags for row in step.before[int(step.words[1])])
     return (step.words[0], step.refusal, step.errno) in OTHER_ORDER and is_in_reach
+
+
+def is_origin(step):
+    """The kernel lets nobody open a tree, or mount on it, that was opened in a namespace that is gone."""
+    is_used = step.words[0] in (b"opentree", b"mount", b"bind", b"rbind", b"movetree")
+    return step.refusal == "" and step.errno == errno.EINVAL and is_used and step.is_orphan
 
 
 def is_locked(step):
@@ -175,6 +195,7 @@ REFUSALS = [
     Difference("relatime", is_relatime, "a word that is asked for is done or refused"),
     Difference("empty-change", is_empty_change, "a path is looked up whatever is asked of it"),
     Difference("other-order", is_other_order, "one order for each command is what its contract states"),
+    Difference("origin", is_origin, "commands come from nobody: there are no processes here"),
     Difference("locked", is_locked, "there are no users and privileges here"),
 ]
 
@@ -205,7 +226,7 @@ def name_of(kinds, step):
 
 def is_same_refusal(step):
     """Whether both sides have refused, and for the same reason."""
-    own = PIVOT_ERRNO if step.words[0] == b"pivot" else {}
+    own = {b"pivot": PIVOT_ERRNO, b"movetree": TREE_ERRNO}.get(step.words[0], {})
     return step.errno in own.get(step.refusal, ERRNO.get(step.refusal, set()))
 
 

@@ -3,7 +3,7 @@ import collections
 
 from harness import commands, protocol, refusals
 from harness.comparison import Comparison
-from harness.protocol import unescaped
+from harness.protocol import row_of, rows_of, unescaped
 from harness.runs import Served, shown
 from kernels import differences, syscalls
 from kernels.differences import Step
@@ -12,6 +12,15 @@ from kernels.spaces import Worker
 
 class Unknown(Exception):
     """A difference that has no name."""
+
+
+def can_be_copied(lines):
+    """The lines of a tree's table that a copy of it has: those of no unbindable mount, and of nothing that stands on one."""
+    rows = [row_of(line) for line in lines]
+    left = {row.id for row in rows if b"unbindable" in row.tags}
+    while more := {row.id for row in rows if row.parent in left} - left:
+        left |= more
+    return [line for line, row in zip(lines, rows) if row.id not in left]
 
 
 class Play:
@@ -29,6 +38,10 @@ class Play:
         self.comparison = Comparison()
         # Our tables, by namespace, and how many user namespaces each lies within.
         self.tables, self.levels, self.made = {}, {}, 0
+        # Those of them that are detached trees: each with the namespace in which it was opened, or 0.
+        self.trees = {}
+        # Whether mounts were carried from a less privileged copy to another namespace, or to one, so that locked ones may be anywhere.
+        self.is_mixed = False
         self.accepted = []
         # How many steps there were of each kind, how many of each known difference, and of each pair of refusals.
         self.counts, self.known, self.refusals = (collections.Counter() for _ in range(3))
@@ -44,17 +57,18 @@ class Play:
 
     def rows(self):
         """Our rows of each namespace."""
-        return {space: [ours for ours, _ in pairs if ours] for space, pairs in self.comparison.pairs.items()}
+        return {space: rows_of(text) for space, text in self.tables.items()}
 
     def step(self, line):
         """Asks both sides, and compares. A difference that has no name is Unknown."""
         [[answer, *_]] = self.server.ask(line)
         words = [unescaped(word) for word in line.split(b" ")]
         refusal = (protocol.refusal_of(answer) or b"").decode()
-        if words[0] not in commands.CHANGING or refusal in refusals.NEVER_IN_LINUX:
+        if words[0] not in commands.CHANGING or refusal in refusals.NEVER_IN_LINUX or self.is_of_numbers(words, refusal):
             self.counts["without a counterpart"] += 1
             return
-        step = Step(words, refusal, self.level(words) > 0, before=self.rows())
+        is_less = self.is_mixed or self.level(words) > 0
+        step = Step(words, refusal, is_less, before=self.rows(), is_orphan=self.is_orphan(words))
         name = differences.left_out(step)
         if name and not self.is_thorough:
             self.counts["left out"] += 1
@@ -66,9 +80,21 @@ class Play:
         else:
             self.accept(step, line)
 
+    def is_of_numbers(self, words, refusal):
+        """Whether the kernel has no such call: it copies no tree, and attaches nothing in a namespace that is not there."""
+        is_copied_tree = words[0] == b"copyns" and refusal == "Detached"
+        return is_copied_tree or (words[0] == b"movetree" and int(words[2]) not in self.levels)
+
     def level(self, words):
-        """How many user namespaces the namespace of a command lies within."""
-        return 0 if words[0] in (b"mkfs", b"mkdir", b"newns") else self.levels[int(words[1])]
+        """How many user namespaces the namespace of a command lies within; of a tree that is attached, it or the other namespace."""
+        spaces = words[1:3] if words[0] == b"movetree" else words[1:2]
+        return 0 if words[0] in (b"mkfs", b"mkdir", b"newns", b"newtree") else max(self.levels[int(space)] for space in spaces)
+
+    def is_orphan(self, words):
+        """Whether the paths of a command lead through a tree, and the namespace in which that was opened is gone."""
+        space = words[2:3] if words[0] == b"movetree" else words[1:2]
+        origin = self.trees.get(int(space[0]), 0) if words[0] not in (b"mkfs", b"mkdir", b"newns", b"newtree") else 0
+        return origin != 0 and origin not in self.levels
 
     def judge(self, step, is_changed):
         """A step that one side has refused, or both."""
@@ -102,25 +128,39 @@ class Play:
         """A step that both sides have accepted."""
         self.counts["accepted"] += 1
         self.accepted.append(line)
-        if step.words[0] in commands.MAKING_NAMESPACES:
-            self.made += 1
-            self.levels[self.made] = self.level(step.words) + len(step.words[2:])
-        elif step.words[0] == b"dropns":
-            del self.levels[int(step.words[1])]
+        self.count(step.words)
         found = self.mismatches()
         if found != []:
             lost, kept = self.comparison.alone()
-            less = {space for space, level in self.levels.items() if level > 0}
+            less = {space for space, level in self.levels.items() if level > 0 or self.is_mixed}
             step = step._replace(mismatches=found, after=self.rows(), lost=lost, kept=kept, less=less)
             name = self.name(differences.ROWS, step, "\n".join(map(str, found)))
             self.is_apart = not (name == "unbindable-copy" and self.repaired(found))
 
+    def count(self, words):
+        """Counts the namespaces and trees behind a command."""
+        if words[0] in commands.MAKING_NAMESPACES:
+            self.made += 1
+            self.levels[self.made] = self.level(words) + (words[0] == b"copyns") * len(words[2:])
+            if words[0] in commands.MAKING_TREES:
+                opened = int(words[1]) if words[0] == b"opentree" else 0
+                self.trees[self.made] = self.trees.get(opened, opened)
+        elif words[0] in (b"dropns", b"movetree"):
+            ended = int(words[1])
+            self.is_mixed |= words[0] == b"movetree" and self.levels[ended] != self.levels[int(words[2])]
+            del self.levels[ended]
+            self.trees.pop(ended, None)
+
     def mismatches(self):
         """How the tables of all namespaces differ, but for how a `#` is written."""
         spaces = list(self.levels)
-        shown_tables = self.server.ask(*(b"show %d" % space for space in spaces))
-        self.tables = {space: b"\n".join(rows) for space, [_, *rows] in zip(spaces, shown_tables)}
-        found = self.comparison.compare(self.tables, self.worker.tables)
+        shown_tables = {space: rows for space, [_, *rows] in zip(spaces, self.server.ask(*(b"show %d" % space for space in spaces)))}
+        self.tables = {space: b"\n".join(rows) for space, rows in shown_tables.items()}
+        # What the kernel tells of a tree is what a copy of it has, if there can be one.
+        told = {space: b"\n".join(can_be_copied(rows) if space in self.trees else rows) for space, rows in shown_tables.items()}
+        unread = self.trees.keys() - self.worker.tables.keys()
+        told = {space: text for space, text in told.items() if space not in unread}
+        found = self.comparison.compare(told, self.worker.tables, self.trees.keys())
         left = [mismatch for mismatch in found if not differences.is_number_sign(mismatch)]
         self.known["number-sign"] += len(left) < len(found)
         return left
@@ -132,6 +172,13 @@ class Play:
             if found == b"ok %d %b" % (ours.id, ours.root):
                 self.worker.run([b"setattr", b"%d" % space, unescaped(ours.point), b"prop=unbindable"])
         return self.mismatches() == []
+
+    def last_lines(self):
+        """The lines that attach each tree that is left in a namespace of its own, where all of it is compared."""
+        lines = [b"mkfs last tmpfs none", b"mkdir last /tree"] if self.trees else []
+        for space, tree in enumerate(self.trees, self.made + 1):
+            lines += [b"newns last", b"movetree %d %d /tree" % (tree, space)]
+        return lines
 
     def both_tables(self):
         """The tables of both sides, for a reader."""

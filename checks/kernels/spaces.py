@@ -7,6 +7,7 @@ its root directory, and the worker enters it for each command and each reading o
 root of the namespace's root mount, also where something is mounted on that.
 
 A less privileged copy belongs to a user namespace one level further down; the root user of the outermost one may enter it.
+A detached tree (trees.py) is entered where it was opened; the paths of its commands lead from its descriptor.
 """
 import contextlib
 import multiprocessing
@@ -14,8 +15,9 @@ import os
 import socket
 from typing import NamedTuple
 
-from kernels import syscalls
-from kernels.syscalls import CLONE_NEWNS, CLONE_NEWUSER
+from kernels import syscalls, trees
+from kernels.syscalls import AT_FDCWD, CLONE_NEWNS, CLONE_NEWUSER
+from kernels.trees import Tree, path_from, standing_in
 
 DIRECTORY = os.O_PATH | os.O_DIRECTORY | os.O_CLOEXEC
 # What an option of setattr is in mount_setattr(2), but for `rec`.
@@ -49,7 +51,8 @@ class Kernel:
         syscalls.unshare(CLONE_NEWNS)
         syscalls.mount(None, b"/", syscalls.MS_REC | syscalls.MS_PRIVATE)
         empty = syscalls.new_filesystem(b"tmpfs", b"empty")
-        os.mkdir("root", dir_fd=empty)
+        for name in "root", os.fsdecode(trees.PLACE.lstrip(b"/")):
+            os.mkdir(name, dir_fd=empty)
         self.change_root(empty, b"/tmp")
         self.empty = self.here(0)
         self.inside = self.empty
@@ -79,10 +82,23 @@ class Kernel:
         os.chroot(".")
         self.inside = space
 
-    def add(self, space):
-        """Counts a namespace that this process may have made by entering it."""
+    def enter_for(self, number):
+        """Enters a namespace, or the one in which a tree was opened, and answers from which folder its paths lead."""
+        place = self.spaces[int(number)]
+        if isinstance(place, Tree):
+            self.enter(self.spaces.get(place.origin, self.empty))
+            return place.fd
+        self.enter(place)
+        return AT_FDCWD
+
+    def count(self, space):
+        """Counts a namespace or a tree."""
         self.made += 1
         self.spaces[self.made] = space
+
+    def add(self, space):
+        """Counts a namespace that this process may have made by entering it."""
+        self.count(space)
         # Where this process is has no Space that it may be compared with, so the next one is entered in any case.
         self.inside = None
 
@@ -164,46 +180,78 @@ class Kernel:
         self.spaces.pop(int(number)).close()
 
     def mount(self, number, name, path, *options):
-        self.enter(self.spaces[int(number)])
+        folder = self.enter_for(number)
         words = {word for option in options for word in option.removeprefix(b"set=").split(b",")}
-        syscalls.mount_filesystem(self.filesystems[name], path, words)
+        syscalls.mount_filesystem(self.filesystems[name], path_from(folder, path), words, folder)
 
-    def bind(self, number, source, path, flags=0):
-        self.enter(self.spaces[int(number)])
-        syscalls.mount(source, path, syscalls.MS_BIND | flags)
+    def bind(self, number, source, path, is_recursive=False):
+        folder = self.enter_for(number)
+        if folder != AT_FDCWD:
+            trees.bind(folder, path_from(folder, source), path_from(folder, path), is_recursive)
+            return
+        syscalls.mount(source, path, syscalls.MS_BIND | (syscalls.MS_REC if is_recursive else 0))
 
     def rbind(self, number, source, path):
-        self.bind(number, source, path, syscalls.MS_REC)
+        self.bind(number, source, path, is_recursive=True)
 
     def move(self, number, source, path):
-        self.enter(self.spaces[int(number)])
-        syscalls.mount(source, path, syscalls.MS_MOVE)
+        with standing_in(self.enter_for(number)) as place:
+            syscalls.mount(place(source), place(path), syscalls.MS_MOVE)
 
     def pivot(self, number, new, old):
         space = self.spaces[int(number)]
-        self.enter(space)
-        syscalls.pivot_root(new, old)
+        with standing_in(self.enter_for(number)) as place:
+            syscalls.pivot_root(place(new), place(old))
         # The root directory of this process is that of the new root mount now.
         os.close(space.root)
         self.inside = self.spaces[int(number)] = space._replace(root=os.open("/", DIRECTORY))
 
-    def umount(self, number, path):
-        self.enter(self.spaces[int(number)])
-        syscalls.umount(path)
+    def umount(self, number, path, flags=0):
+        with standing_in(self.enter_for(number)) as place:
+            syscalls.umount(place(path), flags)
 
     def detach(self, number, path):
-        self.enter(self.spaces[int(number)])
-        syscalls.umount(path, syscalls.MNT_DETACH)
+        self.umount(number, path, syscalls.MNT_DETACH)
 
     def setattr(self, number, path, *options):
-        self.enter(self.spaces[int(number)])
+        folder = self.enter_for(number)
         changes = {"flags": syscalls.AT_RECURSIVE if b"rec" in options else 0}
         for option in options:
             name, _, words = option.partition(b"=")
             for word in words.split(b",") if words else []:
                 value = (syscalls.PROPAGATION if name == b"prop" else syscalls.ATTRIBUTES)[word]
                 changes[CHANGES[name]] = changes.get(CHANGES[name], 0) | value
-        syscalls.mount_setattr(path, **changes)
+        if folder == AT_FDCWD:
+            syscalls.mount_setattr(path, **changes)
+        else:
+            self.set_in_tree(folder, path, changes)
+
+    def set_in_tree(self, folder, path, changes):
+        """Changes a mount of a tree. Below its root mount mount_setattr(2) changes nothing, and mount(2) the propagation."""
+        has_attributes = changes.get("attr_set", 0) or changes.get("attr_clr", 0)
+        if path == b"/" or has_attributes or "propagation" not in changes:
+            flags = changes.pop("flags") | syscalls.AT_EMPTY_PATH
+            syscalls.mount_setattr(path_from(folder, path), **changes, flags=flags, folder=folder)
+            return
+        flags = changes["propagation"] | (syscalls.MS_REC if changes["flags"] else 0)
+        with standing_in(folder) as place:
+            syscalls.mount(None, place(path), flags)
+
+    def opentree(self, number, path, *options):
+        opened = self.spaces[int(number)]
+        folder = self.enter_for(number)
+        fd = syscalls.open_copy(path_from(folder, path), folder, is_recursive=b"rec" in options)
+        self.count(Tree(fd, opened.origin if isinstance(opened, Tree) else int(number), opened.level))
+
+    def newtree(self, name):
+        self.enter(self.empty)
+        self.count(Tree(syscalls.open_copy(b"", self.filesystems[name]), 0, 0))
+
+    def movetree(self, tree, number, path):
+        moved = self.spaces[int(tree)]
+        folder = self.enter_for(number)
+        syscalls.attach(moved.fd if isinstance(moved, Tree) else moved.root, path_from(folder, path), folder)
+        self.spaces.pop(int(tree)).close()
 
     def carry_out(self, words):
         """Carries out a command, and answers the errno, or 0."""
@@ -213,10 +261,27 @@ class Kernel:
         except OSError as error:
             return error.errno
 
+    def table_of_tree(self, number, tree):
+        """The table of a tree by its number, if it can be copied: its root mount is not unbindable, and its origin is there."""
+        folder = self.enter_for(number)
+        try:
+            copy = syscalls.open_copy(b"", folder, is_recursive=True)
+        except OSError:
+            return {}
+        self.enter(self.empty)
+        try:
+            return {number: trees.table_of(tree, copy, self.proc)}
+        finally:
+            os.close(copy)
+
     def tables(self):
-        """The text of /proc/self/mountinfo in each namespace in which it is not what was answered before, or None."""
+        """The text of /proc/self/mountinfo in each namespace, or of the like in each tree, in which it is not what was answered before,
+        or None."""
         now = {}
         for number, space in self.spaces.items():
+            if isinstance(space, Tree):
+                now.update(self.table_of_tree(number, space))
+                continue
             self.enter(space)
             file = os.open("self/mountinfo", os.O_RDONLY, dir_fd=self.proc)
             with open(file, "rb") as lines:

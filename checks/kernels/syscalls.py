@@ -18,6 +18,7 @@ AT_EMPTY_PATH = 0x1000
 AT_RECURSIVE = 0x8000
 OPEN_TREE_CLONE = 1
 MOVE_MOUNT_F_EMPTY_PATH = 4
+MOVE_MOUNT_T_EMPTY_PATH = 0x40
 FSCONFIG_SET_STRING = 1
 FSCONFIG_CMD_CREATE = 6
 CLOSE_ON_EXEC = 1
@@ -102,18 +103,34 @@ def new_filesystem(kind, source):
         os.close(opened)
 
 
-def mount_filesystem(filesystem, path, words=()):
+def look_up(path, folder=AT_FDCWD):
+    """Looks up a path, which leads from a folder. The empty one is the folder."""
+    os.stat(path or b".", dir_fd=None if folder == AT_FDCWD else folder)
+
+
+def open_copy(path, folder=AT_FDCWD, is_recursive=False):
+    """A descriptor of a detached tree: a copy of the mount at a path, or of all mounts below it too."""
+    flags = AT_RECURSIVE if is_recursive else 0
+    return call(OPEN_TREE, folder, path, OPEN_TREE_CLONE | AT_EMPTY_PATH | flags | os.O_CLOEXEC)
+
+
+def attach(tree, path, folder=AT_FDCWD):
+    """Attaches at a path the mount of a descriptor, with all that stands on it."""
+    call(MOVE_MOUNT, tree, b"", folder, path, MOVE_MOUNT_F_EMPTY_PATH | (0 if path else MOVE_MOUNT_T_EMPTY_PATH))
+
+
+def mount_filesystem(filesystem, path, words=(), folder=AT_FDCWD):
     """Mounts at a path the root of such a filesystem, which is private and stands on top there, with attributes.
 
     As mount(2) does, it looks up the path first, and no mount is seen without them.
     """
-    os.stat(path)
-    tree = call(OPEN_TREE, filesystem, b"", OPEN_TREE_CLONE | AT_EMPTY_PATH | os.O_CLOEXEC)
+    look_up(path, folder)
+    tree = open_copy(b"", filesystem)
     try:
         if words:
             attributes = functools.reduce(operator.or_, (ATTRIBUTES[word] for word in words))
             mount_setattr(b"", attributes, ATTRIBUTES[b"atime"], flags=AT_EMPTY_PATH, folder=tree)
-        call(MOVE_MOUNT, tree, b"", AT_FDCWD, path, MOVE_MOUNT_F_EMPTY_PATH)
+        attach(tree, path, folder)
     finally:
         os.close(tree)
 

@@ -15,7 +15,7 @@ use mt_mounts::mount::SpaceId;
 use mt_protocol::refusal::refusal_named;
 use mt_reach::row::SeenRow;
 use mt_reach::rows::SeenRows;
-use mt_refused::asked::asked_space;
+use mt_refused::asked::{asked_space, asked_tree};
 use mt_refused::missing::missing_text;
 use mt_refused::text::refused_text;
 use mt_refused::titles::Titles;
@@ -36,15 +36,18 @@ enum Question {
     Nothing,
     /// Those of the command's namespace.
     Own,
-    /// Those of all namespaces.
+    /// Those of all namespaces, as where a tree of one goes to another.
     All,
 }
 
 /// Which rows the reason of a refusal is found by, if there are any.
-fn question_of(refusal: Refusal) -> Option<Question> {
+fn question_of(refusal: Refusal, command: &Command) -> Option<Question> {
     match refusal {
         Refusal::BadAttr => Some(Question::Nothing),
         Refusal::SharedParent | Refusal::NoNamespace => Some(Question::All),
+        Refusal::IntoItself | Refusal::UnbindableInside if asked_tree(command).is_some() => {
+            Some(Question::All)
+        }
         Refusal::NoEntry
         | Refusal::NotMountRoot
         | Refusal::RootPlace
@@ -178,10 +181,10 @@ pub(crate) fn tell_reason_of<E: Eprint, R: Input + Drop, W: Output>(
     requires fresh { fault_of lines.old ≡ None }
     ensures fresh { OnOk result (fault_of lines.new ≡ None) }
 {
-    let Some(question) = question_of(refusal) else {
+    let Some(command) = command_of(alloc, line, refusal)? else {
         return Ok(());
     };
-    let Some(command) = command_of(alloc, line, refusal)? else {
+    let Some(question) = question_of(refusal, &command) else {
         return Ok(());
     };
     let missing = missing_path(alloc, &command, refusal, lines, writer)?;

@@ -1,17 +1,17 @@
 -- What is known of a command that was accepted: its effect, and that no refusal holds; and what a mount, a bind and a move lead to
 -- once their places are judged: it is left to see whether the copies are too many.
-use Rattle.std.proofs.Common.{◌≡◌, ℕ, Bool, true, false, ◌&&◌, ◌||◌, List, length, Option, Some, None, Result, Ok, Err, ap, not, [], ◌∷◌, sym, ◌∙◌, arith}
+use Rattle.std.proofs.Common.{◌≡◌, ℕ, Bool, true, false, ◌&&◌, ◌||◌, ◌==◌, List, length, Option, Some, None, Result, Ok, Err, ap, not, [], ◌∷◌, sym, ◌∙◌, arith}
 use Rattle.std.specs.Prelude.{is_none, is_some, unwrap_or, IsTrue}
 use Rattle.std.proofs.lemmas.Bool.{not-false}
 use Rattle.mt_skel.specs.declared.fault.Fault.{Fault}
 use Rattle.mt_skel.specs.Outcome.{refusal_of, refuse_if, outcome}
 use Rattle.mt_skel.proofs.OutcomeLaws.{not_refused, accepted, passed, stopped}
 use Rattle.mt_skel.specs.Skeleton.{fs_named}
-use Rattle.mt_skel.specs.declared.fault.Fault.TheVariants.{NotMountRoot, RootPlace, BadAttr, SharedParent, IntoItself, Unbindable, UnbindableInside, TooMany}
+use Rattle.mt_skel.specs.declared.fault.Fault.TheVariants.{NotMountRoot, RootPlace, BadAttr, SharedParent, IntoItself, Unbindable, UnbindableInside, TooMany, Detached}
 use Rattle.mt_mounts.specs.declared.mount.Place.{Place}
 use Rattle.mt_mounts.specs.Forest.{is_below}
 use Rattle.mt_mounts.specs.Walk.{walk}
-use Rattle.mt_propagate.specs.World.{WorldView, is_space, state_of, group_of}
+use Rattle.mt_propagate.specs.World.{WorldView, is_space, is_tree, with_tree, state_of, group_of}
 use Rattle.mt_propagate.specs.Named.{place_or_nowhere, is_root_place, is_root_mount, is_mount_root}
 use Rattle.mt_propagate.specs.Limits.{too_many_mounts, too_many_spaces}
 use Rattle.mt_propagate.specs.Copies.{Source, new_copies, copy_id}
@@ -21,6 +21,8 @@ use Rattle.mt_setattr.specs.declared.change.SetWords.{SetWords}
 use Rattle.mt_setattr.specs.Words.{nothing_set, sets_two_times, new_with}
 use Rattle.mt_bind.specs.Sources.{fresh_with, source_at, tree_of}
 use Rattle.mt_bind.specs.Mounting.{stands_on_shared, any_unbindable, mounted_refusals, mounted_with, mounted, bound_refusals, bound, moved_refusals, moved, too_many, copied_with_id, mounted_effect, bound_effect, moved_effect}
+use Rattle.mt_bind.specs.Opening.{opened_sources, with_opened, opened_refusals, tree_opened, tree_made}
+use Rattle.mt_bind.specs.Attaching.{whole_tree, has_unbindable, with_attached, attached_refusals, attached}
 use Rattle.mt_bind.specs.Pivoting.{root_id, with_pivot, pivoted_refusals, pivoted}
 
 -- the place where a path ends
@@ -63,6 +65,7 @@ new_space_accepted w name v i e =
 -- a copy of a namespace
 pub record IsAcceptedCopy (w : WorldView) (n : ℕ) (less : Bool) (v : WorldView) (i : ℕ) : Type 0 where
   pub there : is_space w n ≡ true
+  pub attached : is_tree w n ≡ false
   pub few_spaces : too_many_spaces w ≡ false
   pub few : too_many_mounts w (length (originals w n)) ≡ false
   pub world : with_copy w n less ≡ v
@@ -73,10 +76,77 @@ copy_space_accepted w n less v i e =
     let a = accepted (copy_space_refusals w n) _ _ e in
     record {
       there = not-false _ (not_refused _ _ a.1.0);
+      attached = not_refused _ _ a.1.1.0;
+      few_spaces = not_refused _ _ a.1.1.1.0;
+      few = not_refused _ _ a.1.1.1.1.0;
+      world = ap (λ x. x.0) a.0;
+      number = ap (λ x. x.1) a.0;
+    }
+
+-- a detached tree of a filesystem
+pub record IsAcceptedTree (w : WorldView) (name : List ℕ) (v : WorldView) (i : ℕ) : Type 0 where
+  pub named : fs_named w.skel name ≡ Some (fs_of w name)
+  pub few_spaces : too_many_spaces w ≡ false
+  pub few : too_many_mounts w 1 ≡ false
+  pub world : with_tree (with_space w (fs_of w name)) w.next_space ≡ v
+  pub number : w.next_space ≡ i
+
+pub tree_made_accepted : (w : WorldView) (name : List ℕ) (v : WorldView) (i : ℕ) → tree_made w name ≡ Ok (v, i) → IsAcceptedTree w name v i
+tree_made_accepted w name v i e =
+    let a = accepted (new_space_refusals w (fs_named w.skel name)) _ _ e in
+    record {
+      named = has_name _ (not_refused _ _ a.1.0);
       few_spaces = not_refused _ _ a.1.1.0;
       few = not_refused _ _ a.1.1.1.0;
       world = ap (λ x. x.0) a.0;
       number = ap (λ x. x.1) a.0;
+    }
+
+-- an opening
+pub record IsAcceptedOpening (w : WorldView) (n : ℕ) (path : List (List ℕ)) (recursive : Bool) (v : WorldView) (i : ℕ) : Type 0 where
+  pub ended : walk w.skel w.forest n path ≡ Ok (path_end w n path)
+  pub bindable : (state_of w (path_end w n path).mount).unbindable ≡ false
+  pub few_spaces : too_many_spaces w ≡ false
+  pub few : too_many_mounts w (length (opened_sources w recursive (path_end w n path))) ≡ false
+  pub world : with_opened w (opened_sources w recursive (path_end w n path)) ≡ v
+  pub number : w.next_space ≡ i
+
+pub opened_accepted : (w : WorldView) (n : ℕ) (path : List (List ℕ)) (recursive : Bool) (v : WorldView) (i : ℕ) → tree_opened w n path recursive ≡ Ok (v, i) → IsAcceptedOpening w n path recursive v i
+opened_accepted w n path recursive v i e =
+    let a = accepted (opened_refusals w recursive (walk w.skel w.forest n path)) _ _ e in
+    record {
+      ended = has_ended _ a.1.0;
+      bindable = not_refused _ _ a.1.1.0;
+      few_spaces = not_refused _ _ a.1.1.1.0;
+      few = not_refused _ _ a.1.1.1.1.0;
+      world = ap (λ x. x.0) a.0;
+      number = ap (λ x. x.1) a.0;
+    }
+
+-- an attaching
+pub record IsAcceptedAttaching (w : WorldView) (tree n : ℕ) (path : List (List ℕ)) (v : WorldView) : Type 0 where
+  pub there : is_space w tree ≡ true
+  pub detached : is_tree w tree ≡ true
+  pub ended : walk w.skel w.forest n path ≡ Ok (path_end w n path)
+  pub off_root : is_root_place w (path_end w n path) ≡ false
+  pub apart : (n == tree) ≡ false
+  pub bindable : (is_some (group_of w (path_end w n path).mount) && has_unbindable w tree) ≡ false
+  pub few : AreFew w (whole_tree w tree) (path_end w n path)
+  pub world : with_attached w tree (path_end w n path) ≡ v
+
+pub attached_accepted : (w : WorldView) (tree n : ℕ) (path : List (List ℕ)) (v : WorldView) → attached w tree n path ≡ Ok v → IsAcceptedAttaching w tree n path v
+attached_accepted w tree n path v e =
+    let a = accepted (attached_refusals w tree n (walk w.skel w.forest n path)) _ _ e in
+    let late = a.1.1.1.1 in
+    record {
+      there = not-false _ (not_refused _ _ a.1.0);
+      detached = not-false _ (not_refused _ _ a.1.1.0);
+      ended = has_ended _ a.1.1.1.0;
+      off_root = not_refused _ _ late.0;
+      apart = not_refused _ _ late.1.0;
+      bindable = not_refused _ _ late.1.1.0;
+      few = not_refused _ _ late.1.1.1.0;
+      world = a.0;
     }
 
 -- the end of a namespace
@@ -141,6 +211,7 @@ bind_accepted w n recursive from to v i e =
 
 -- a move
 pub record IsAcceptedMove (w : WorldView) (n : ℕ) (from to : List (List ℕ)) (v : WorldView) : Type 0 where
+  pub attached : is_tree w n ≡ false
   pub begun : walk w.skel w.forest n from ≡ Ok (path_end w n from)
   pub named : is_mount_root w (path_end w n from) ≡ true
   pub placed : is_root_mount w (path_end w n from) ≡ false
@@ -154,12 +225,14 @@ pub record IsAcceptedMove (w : WorldView) (n : ℕ) (from to : List (List ℕ)) 
 
 pub move_accepted : (w : WorldView) (n : ℕ) (from to : List (List ℕ)) (v : WorldView) → moved w n from to ≡ Ok v → IsAcceptedMove w n from to v
 move_accepted w n from to v e =
-    let a = accepted (moved_refusals w (walk w.skel w.forest n from) (walk w.skel w.forest n to)) _ _ e in
-    let late = a.1.1.1.1 in
+    let a = accepted (refuse_if (is_tree w n) Detached ∷ moved_refusals w (walk w.skel w.forest n from) (walk w.skel w.forest n to)) _ _ e in
+    let early = a.1.1 in
+    let late = early.1.1.1 in
     record {
-      begun = has_ended _ a.1.0;
-      named = not-false _ (not_refused _ _ a.1.1.0);
-      placed = not_refused _ _ a.1.1.1.0;
+      attached = not_refused _ _ a.1.0;
+      begun = has_ended _ early.0;
+      named = not-false _ (not_refused _ _ early.1.0);
+      placed = not_refused _ _ early.1.1.0;
       ended = has_ended _ late.0;
       off_root = not_refused _ _ late.1.0;
       unshared = not_refused _ _ late.1.1.0;
@@ -171,6 +244,7 @@ move_accepted w n from to v e =
 
 -- a pivot
 pub record IsAcceptedPivot (w : WorldView) (n : ℕ) (new old : List (List ℕ)) (v : WorldView) : Type 0 where
+  pub attached : is_tree w n ≡ false
   pub begun : walk w.skel w.forest n new ≡ Ok (path_end w n new)
   pub named : is_mount_root w (path_end w n new) ≡ true
   pub placed : is_root_mount w (path_end w n new) ≡ false
@@ -182,12 +256,14 @@ pub record IsAcceptedPivot (w : WorldView) (n : ℕ) (new old : List (List ℕ))
 
 pub pivot_accepted : (w : WorldView) (n : ℕ) (new old : List (List ℕ)) (v : WorldView) → pivoted w n new old ≡ Ok v → IsAcceptedPivot w n new old v
 pivot_accepted w n new old v e =
-    let a = accepted (pivoted_refusals w (walk w.skel w.forest n new) (walk w.skel w.forest n old)) _ _ e in
-    let late = a.1.1.1.1 in
+    let a = accepted (refuse_if (is_tree w n) Detached ∷ pivoted_refusals w (walk w.skel w.forest n new) (walk w.skel w.forest n old)) _ _ e in
+    let early = a.1.1 in
+    let late = early.1.1.1 in
     record {
-      begun = has_ended _ a.1.0;
-      named = not-false _ (not_refused _ _ a.1.1.0);
-      placed = not_refused _ _ a.1.1.1.0;
+      attached = not_refused _ _ a.1.0;
+      begun = has_ended _ early.0;
+      named = not-false _ (not_refused _ _ early.1.0);
+      placed = not_refused _ _ early.1.1.0;
       ended = has_ended _ late.0;
       off_root = not_refused _ _ late.1.0;
       unshared = not_refused _ _ late.1.1.0;
@@ -234,11 +310,12 @@ past_places w s p = outcome (refuse_if (is_below w.forest s.mount p.mount) IntoI
     ∷ too_many w (tree_of w s.mount) p ∷ []) (copied w (tree_of w s.mount) p)
 
 -- a move of a mount that is no root mount from a parent that is not shared, where both paths end
-pub moved_judged : (w : WorldView) (n : ℕ) (from to : List (List ℕ)) (s p : Place) → walk w.skel w.forest n from ≡ Ok s → is_mount_root w s ≡ true → is_root_mount w s ≡ false
+pub moved_judged : (w : WorldView) (n : ℕ) (from to : List (List ℕ)) (s p : Place) → is_tree w n ≡ false → walk w.skel w.forest n from ≡ Ok s → is_mount_root w s ≡ true → is_root_mount w s ≡ false
     → walk w.skel w.forest n to ≡ Ok p → is_root_place w p ≡ false → stands_on_shared w s.mount ≡ false
     → moved w n from to ≡ past_places w s p
-moved_judged w n from to s p begun named placed ended off unshared =
-    (λ i. outcome (moved_refusals w (begun i) (ended i)) (moved_effect w (begun i) (ended i)))
+moved_judged w n from to s p attached begun named placed ended off unshared =
+    passed (is_tree w n) Detached _ _ attached
+    ∙ (λ i. outcome (moved_refusals w (begun i) (ended i)) (moved_effect w (begun i) (ended i)))
     ∙ passed (not (is_mount_root w s)) NotMountRoot _ _ (ap not named)
     ∙ passed (is_root_mount w s) RootPlace _ _ placed
     ∙ passed (is_root_place w p) RootPlace _ _ off

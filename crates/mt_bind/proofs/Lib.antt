@@ -10,3 +10,7 @@ pub mod SizeLaws
 pub mod MemberLaws
 pub mod PivotingLaws
 pub mod InsideLaws
+pub mod SourceCopyLaws
+pub mod OpenedSourceLaws
+pub mod OpeningLaws
+pub mod AttachingLaws

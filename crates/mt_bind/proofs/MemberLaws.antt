@@ -75,6 +75,12 @@ module _ (w : WorldView) (p : Place) where
   pub alone_is : (ids : List ℕ) → ids ≡ p.mount ∷ [] → copied_source w p.mount p.dir ids false ≡ alone w p
   alone_is ids e = rw (e, eq-eqb p.mount p.mount refl) refl
 
+  -- either, by the IDs of its mounts
+  pub either_is : rises id_of w.forest ≡ true → (recursive : Bool) (ids : List ℕ) → ids ≡ cond recursive (map id_of (filter (λ m. is_bound_along w p m.id) w.forest)) (p.mount ∷ [])
+      → copied_source w p.mount p.dir ids false ≡ cond recursive (tree_within w p) (alone w p)
+  either_is rising true ids e = tree_is rising ids e
+  either_is rising false ids e = alone_is ids e
+
   -- neither moves
   pub stays : (recursive : Bool) → (cond recursive (tree_within w p) (alone w p)).moved ≡ false
   stays recursive = grind arith
@@ -101,7 +107,7 @@ module _ (w : WorldView) (src : Source) (dest : Place) (still : src.moved ≡ fa
   full s most = let some = some_there src.mounts src.top.id src.top s.tree.top_there in let many = copies_many in grind (arith, nat_tests)
 
 -- a test of IDs is one of their mounts
-any_ids : (t : ℕ → Bool) (ms : List Mount) → list_any t (map id_of ms) ≡ list_any (λ (m : Mount). t m.id) ms
+pub any_ids : (t : ℕ → Bool) (ms : List Mount) → list_any t (map id_of ms) ≡ list_any (λ (m : Mount). t m.id) ms
 any_ids t [] = refl
 any_ids t (m ∷ ms) = rw (any_ids t ms) refl
 

@@ -2,7 +2,7 @@
 use Rattle.std.proofs.Common.{◌≡◌, ℕ, Bool, true, false, List, Option, Some, Ok, sym, ap, ◌∙◌, subst, arith}
 use Rattle.std.specs.Prelude.{unwrap_or}
 use Rattle.mt_skel.specs.Outcome.{refusal_of}
-use Rattle.mt_skel.specs.Skeleton.{root_of}
+use Rattle.mt_skel.specs.Skeleton.{directory, root_of}
 use Rattle.mt_mounts.specs.declared.mount.Attrs.{Attrs}
 use Rattle.mt_mounts.specs.declared.mount.Mount.{Mount}
 use Rattle.mt_mounts.specs.declared.mount.Place.{Place}
@@ -10,7 +10,7 @@ use Rattle.mt_mounts.specs.Forest.{mount_at, is_below}
 use Rattle.mt_mounts.specs.Walk.{walk}
 use Rattle.mt_propagate.specs.World.{WorldView, space_of}
 use Rattle.mt_propagate.specs.Named.{unknown, is_root_place, is_root_mount}
-use Rattle.mt_propagate.specs.WellFormed.{IsWellFormed}
+use Rattle.mt_propagate.specs.WellFormed.{IsWellFormed, fs_at}
 use Rattle.mt_propagate.specs.Contained.{IsLocal}
 use Rattle.mt_propagate.specs.Copies.{Source}
 use Rattle.mt_propagate.specs.Copied.{copied}
@@ -24,7 +24,7 @@ use Rattle.mt_bind.specs.Sources.{fresh_with, source_at, tree_of}
 use Rattle.mt_bind.specs.Mounting.{mounted_with, bound, moved}
 use Rattle.mt_bind.proofs.AcceptedLaws.{path_end, fs_of, mount_with_accepted, bind_accepted, move_accepted}
 use Rattle.mt_bind.proofs.TreeOfLaws.{below_self, tree_source, tree_below}
-use Rattle.mt_bind.proofs.SourceLaws.{fresh_is_source, alone_is_source, alone_only, holds_there, no_zero, one_row, within_source, within_below}
+use Rattle.mt_bind.proofs.SourceLaws.{fresh_is_source, alone_is_source, alone_only, alone_shows, holds_there, no_zero, one_row, own_id, top_is, within_source, within_shows, within_below}
 
 -- the end of a walk that is no root place is a destination
 pub destination : (w : WorldView) (n : ℕ) (path : List (List ℕ)) (p : Place) → IsWellFormed w → walk w.skel w.forest n path ≡ Ok p → is_root_place w p ≡ false → IsDestination w p
@@ -81,8 +81,19 @@ pub bound_source : (w : WorldView) (n : ℕ) (from : List (List ℕ)) (recursive
 bound_source w n from true p dest h e = let r = (walked w n h from p e).0 in within_source w h p r.0 r.1 r.3 dest
 bound_source w n from false p dest h e = let r = (walked w n h from p e).0 in alone_is_source w h p r.0 r.1 r.3 dest
 
+-- whose top is the mount where the walk ends
+pub bound_top : (w : WorldView) (n : ℕ) (from : List (List ℕ)) (recursive : Bool) (p : Place) → IsWellFormed w → walk w.skel w.forest n from ≡ Ok p → (source_at w recursive p).top.id ≡ p.mount
+bound_top w n from true p h e = let r = (walked w n h from p e).0 in ap (λ (m : Mount). m.id) (top_is w h p r.0 r.1 r.3) ∙ own_id w h p r.0 r.1 r.3
+bound_top w n from false p h e = let r = (walked w n h from p e).0 in ap (λ (m : Mount). m.id) (top_is w h p r.0 r.1 r.3) ∙ own_id w h p r.0 r.1 r.3
+
+-- whose mounts are there, and show the filesystems that they show there
+pub bound_shows : (w : WorldView) (n : ℕ) (from : List (List ℕ)) (recursive : Bool) (p : Place) → IsWellFormed w → walk w.skel w.forest n from ≡ Ok p → (i : ℕ) (m : Mount) → mount_at (source_at w recursive p).mounts i ≡ Some m
+    → (y : Mount) × (mount_at w.forest i ≡ Some y) × ((directory w.skel m.root).fs ≡ fs_at w i)
+bound_shows w n from true p h e i m f = let r = (walked w n h from p e).0 in within_shows w h p r.0 r.1 r.3 i m f
+bound_shows w n from false p h e i m f = let r = (walked w n h from p e).0 in alone_shows w h p r.0 r.1 r.3 i m f
+
 -- whose mounts are below the top
-bound_below : (w : WorldView) (n : ℕ) (from : List (List ℕ)) (recursive : Bool) (p : Place) → IsWellFormed w → walk w.skel w.forest n from ≡ Ok p → (i : ℕ) (m : Mount) → mount_at (source_at w recursive p).mounts i ≡ Some m → is_below w.forest p.mount i ≡ true
+pub bound_below : (w : WorldView) (n : ℕ) (from : List (List ℕ)) (recursive : Bool) (p : Place) → IsWellFormed w → walk w.skel w.forest n from ≡ Ok p → (i : ℕ) (m : Mount) → mount_at (source_at w recursive p).mounts i ≡ Some m → is_below w.forest p.mount i ≡ true
 bound_below w n from true p h e i m f = let r = (walked w n h from p e).0 in within_below w h p r.0 r.1 r.3 i m f
 bound_below w n from false p h e i m f =
     let r = (walked w n h from p e).0 in

@@ -37,7 +37,7 @@ use Rattle.mt_bind.specs.Pivoting.{root_id, pivoted, with_pivot, MayPivot, pivot
 use Rattle.mt_bind.proofs.AcceptedLaws.{path_end, pivot_accepted}
 use Rattle.mt_bind.proofs.MountLaws.{destination}
 use Rattle.mt_bind.proofs.TreeOfLaws.{below_parent}
-use Rattle.mt_bind.proofs.NamespaceCopyLaws.{each_way}
+use Rattle.mt_bind.proofs.SourceCopyLaws.{each_way}
 
 -- a root mount has no place
 pub root_unplaced : (n : ℕ) (m : Mount) → is_root n m ≡ true → m.place ≡ None

@@ -4,20 +4,22 @@ use Rattle.std.specs.List.{filter}
 use Rattle.std.proofs.lemmas.Bool.Decides.{nat_tests}
 use Rattle.std.proofs.lemmas.List.{length-map}
 use Rattle.mt_mounts.specs.declared.mount.Mount.{Mount}
-use Rattle.mt_mounts.specs.Forest.{is_below}
+use Rattle.mt_mounts.specs.Forest.{id_of, is_below}
 use Rattle.mt_peers.specs.Loss.{left}
-use Rattle.mt_propagate.specs.World.{WorldView}
+use Rattle.mt_propagate.specs.World.{WorldView, with_tree}
 use Rattle.mt_propagate.specs.Limits.{too_many_mounts}
 use Rattle.mt_propagate.proofs.SizeLaws.{IsSized, few_pass, copied_sized}
-use Rattle.mt_bind.specs.Spaces.{originals, new_space, with_space, copy_space, with_copy, drop_space, without_space}
+use Rattle.mt_bind.specs.Spaces.{originals, new_space, with_space, copy_space, drop_space, without_space}
 use Rattle.mt_setattr.specs.declared.change.SetWords.{SetWords}
 use Rattle.mt_setattr.specs.Words.{new_with}
 use Rattle.mt_bind.specs.Sources.{fresh_with, top_at, is_bound_along, source_at, tree_of}
 use Rattle.mt_bind.specs.Mounting.{mounted_with, bound, moved}
+use Rattle.mt_bind.specs.Copying.{copy_of, with_copies}
+use Rattle.mt_bind.specs.Opening.{opened_sources, tree_opened, tree_made}
+use Rattle.mt_bind.specs.Attaching.{whole_tree, attached}
 use Rattle.mt_bind.specs.Pivoting.{root_id, pivoted_mount, with_pivot, pivoted}
 use Rattle.mt_bind.proofs.SpaceLaws.{new_root}
-use Rattle.mt_bind.proofs.NamespaceCopyLaws.{copy}
-use Rattle.mt_bind.proofs.AcceptedLaws.{path_end, fs_of, new_space_accepted, copy_space_accepted, drop_space_accepted, mount_with_accepted, bind_accepted, move_accepted, pivot_accepted}
+use Rattle.mt_bind.proofs.AcceptedLaws.{path_end, fs_of, new_space_accepted, tree_made_accepted, opened_accepted, attached_accepted, copy_space_accepted, drop_space_accepted, mount_with_accepted, bind_accepted, move_accepted, pivot_accepted}
 
 -- a namespace more, with these mounts
 added_sized : (w v : WorldView) (ms : List Mount) → too_many_mounts w (length ms) ≡ false → v.forest ≡ w.forest ++ ms → v.next_mount ≡ w.next_mount + length ms → v.next_space ≡ w.next_space + 1 → v.peering.next ≡ w.peering.next → IsSized w v 1
@@ -36,13 +38,36 @@ space_sized w v name i e =
     let a = new_space_accepted w name v i e in
     subst (λ (x : WorldView). IsSized w x 1) a.world (added_sized w (with_space w (fs_of w name)) (new_root w (fs_of w name) ∷ []) a.few refl refl refl refl)
 
+-- a detached tree of a filesystem
+pub tree_made_sized : (w v : WorldView) (name : List ℕ) (i : ℕ) → tree_made w name ≡ Ok (v, i) → IsSized w v 1
+unfolding with_space
+tree_made_sized w v name i e =
+    let a = tree_made_accepted w name v i e in
+    subst (λ (x : WorldView). IsSized w x 1) a.world (added_sized w (with_tree (with_space w (fs_of w name)) w.next_space) (new_root w (fs_of w name) ∷ []) a.few refl refl refl refl)
+
+-- a namespace of copies
+copies_sized : (w : WorldView) (ms : List Mount) (less : Bool) → too_many_mounts w (length ms) ≡ false → IsSized w (with_copies w ms less) 1
+unfolding with_copies
+copies_sized w ms less few =
+    let count = length-map ms (copy_of w (map id_of ms)) in
+    added_sized w (with_copies w ms less) (map (copy_of w (map id_of ms)) ms) (ap (too_many_mounts w) count ∙ few) refl (ap (λ k. w.next_mount + k) (sym count)) refl refl
+
+-- an opened one
+pub opened_sized : (w v : WorldView) (n : ℕ) (path : List (List ℕ)) (recursive : Bool) (i : ℕ) → tree_opened w n path recursive ≡ Ok (v, i) → IsSized w v 1
+opened_sized w v n path recursive i e =
+    let a = opened_accepted w n path recursive v i e in
+    let s = copies_sized w (opened_sources w recursive (path_end w n path)) false a.few in
+    subst (λ (x : WorldView). IsSized w x 1) a.world (record { spaces = s.spaces; mounts = s.mounts; groups = s.groups; within = s.within })
+
+-- an attached one
+pub attached_sized : (w v : WorldView) (tree n : ℕ) (path : List (List ℕ)) → length w.forest ≤ 4096 → attached w tree n path ≡ Ok v → IsSized w v 0
+attached_sized w v tree n path few e =
+    let a = attached_accepted w tree n path v e in
+    subst (λ (x : WorldView). IsSized w x 0) a.world (copied_sized w (whole_tree w tree) (path_end w n path) (omega (arith, few, few_pass (λ (m : Mount). m.space == tree) w.forest)) a.few)
+
 -- a copy of a namespace
 pub copy_sized : (w v : WorldView) (n : ℕ) (less : Bool) (i : ℕ) → copy_space w n less ≡ Ok (v, i) → IsSized w v 1
-unfolding with_copy
-copy_sized w v n less i e =
-    let a = copy_space_accepted w n less v i e in
-    let count = length-map (originals w n) (copy w n) in
-    subst (λ (x : WorldView). IsSized w x 1) a.world (added_sized w (with_copy w n less) (map (copy w n) (originals w n)) (ap (too_many_mounts w) count ∙ a.few) refl (ap (λ k. w.next_mount + k) (sym count)) refl refl)
+copy_sized w v n less i e = let a = copy_space_accepted w n less v i e in subst (λ (x : WorldView). IsSized w x 1) a.world (copies_sized w (originals w n) less a.few)
 
 -- the end of a namespace
 pub dropped_sized : (w v : WorldView) (n : ℕ) → length w.forest ≤ 4096 → drop_space w n ≡ Ok v → IsSized w v 0

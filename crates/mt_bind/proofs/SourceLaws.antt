@@ -114,6 +114,13 @@ module _ (w : WorldView) (h : IsWellFormed w) where
             let at : i ≡ p.mount = o.0 ∙ ap (λ (v : Mount). v.id) top_is ∙ own_id in
             ap (λ (v : Mount). (directory w.skel v.root).fs) (o.1 ∙ top_is) ∙ shows_same ∙ ap (fs_at w) (sym at)
 
+    -- it shows the filesystem that the mount shows
+    pub alone_shows : (i : ℕ) (x : Mount) → mount_at (top_at w p ∷ []) i ≡ Some x → (y : Mount) × (mount_at w.forest i ≡ Some y) × ((directory w.skel x.root).fs ≡ fs_at w i)
+    alone_shows i x e =
+        let o = one_row (top_at w p) i x e in
+        let at : i ≡ p.mount = o.0 ∙ ap (λ (v : Mount). v.id) top_is ∙ own_id in
+        (q, ap (mount_at w.forest) at ∙ row, ap (λ (v : Mount). (directory w.skel v.root).fs) (o.1 ∙ top_is) ∙ shows_same ∙ ap (fs_at w) (sym at))
+
     -- it is the one source mount
     pub alone_only : (i : ℕ) (m : Mount) → mount_at (top_at w p ∷ []) i ≡ Some m → i ≡ p.mount
     alone_only i m e = (one_row (top_at w p) i m e).0 ∙ ap (λ (v : Mount). v.id) top_is ∙ own_id
@@ -224,6 +231,10 @@ module _ (w : WorldView) (h : IsWellFormed w) (p : Place) (q : Mount) (row : mou
     group_fs = λ i g m e is. let x = from_row i m e in ap (λ (v : Mount). (directory w.skel v.root).fs) x.3 ∙ shows_cut i x.0 x.1;
     master_fs = λ i g m e is. let x = from_row i m e in ap (λ (v : Mount). (directory w.skel v.root).fs) x.3 ∙ shows_cut i x.0 x.1;
   }
+
+  -- its mounts are there, and show the filesystems that they show there
+  pub within_shows : (i : ℕ) (m : Mount) → mount_at ms i ≡ Some m → (y : Mount) × (mount_at w.forest i ≡ Some y) × ((directory w.skel m.root).fs ≡ fs_at w i)
+  within_shows i m e = let x = from_row i m e in (x.0, x.1, ap (λ (v : Mount). (directory w.skel v.root).fs) x.3 ∙ shows_cut i x.0 x.1)
 
   -- its mounts are below the top
   pub within_below : (i : ℕ) (m : Mount) → mount_at ms i ≡ Some m → is_below w.forest p.mount i ≡ true

@@ -1,5 +1,5 @@
 -- Which mounts are below a mount, and the way up from them; such trees are source trees, and one with all below its top may move.
-use Rattle.std.proofs.Common.{◌≡◌, ◌≢◌, ℕ, ◌<◌, true, false, List, length, Some, None, refl, sym, ap, ◌∙◌, subst, IsTrue, zero, suc, ◌≤◌, Bool, not, ◌==◌, eqb, eqb-true, eq-eqb, [], ◌∷◌, arith}
+use Rattle.std.proofs.Common.{◌≡◌, ◌≢◌, ℕ, ◌<◌, true, false, List, length, Some, None, refl, sym, ap, ◌∙◌, subst, IsTrue, zero, suc, ◌≤◌, Bool, not, ◌==◌, eqb, eqb-true, eq-eqb, [], ◌∷◌, inl, arith}
 use Rattle.std.specs.Prelude.{is_none}
 use Rattle.std.specs.List.{filter, take_while}
 use Rattle.std.proofs.lemmas.Bool.{true≢false, ne_eqb}
@@ -152,8 +152,7 @@ module _ (w : WorldView) (h : IsWellFormed w) (i : ℕ) (q : Mount) (row : mount
     master_fs = λ j g m e is. shows_same j m e;
     moves = λ _. record {
       known = λ j m e. (from_row j m e).0;
-      placed = λ e. true≢false (sym (ap is_none e) ∙ placed);
-      same_space = λ u e. space u e ∙ ap (λ (m : Mount). m.space) (sym top_is);
+      home = inl (record { placed = λ e. true≢false (sym (ap is_none e) ∙ placed); same_space = λ u e. space u e ∙ ap (λ (m : Mount). m.space) (sym top_is) });
       outside = ap (λ k. is_below w.forest k dest.mount) (ap (λ (m : Mount). m.id) top_is ∙ own) ∙ off;
     };
   }

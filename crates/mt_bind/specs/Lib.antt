@@ -5,4 +5,6 @@ pub mod Sources
 pub mod Judged
 pub mod Mounting
 pub mod Pivoting
+pub mod Opening
+pub mod Attaching
 pub mod Laws

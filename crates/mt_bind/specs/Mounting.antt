@@ -5,14 +5,14 @@ use Rattle.std.specs.Prelude.{ℕ, Bool, false, not, ◌&&◌, List, [], ◌∷�
 use Rattle.std.specs.List.{list_any}
 use Rattle.std.specs.Option.{unwrap_or, option_map_or}
 use Rattle.mt_skel.specs.declared.fault.Fault.{Fault}
-use Rattle.mt_skel.specs.declared.fault.Fault.TheVariants.{NoFilesystem, RootPlace, BadAttr, TooMany, Unbindable, NotMountRoot, SharedParent, IntoItself, UnbindableInside}
+use Rattle.mt_skel.specs.declared.fault.Fault.TheVariants.{NoFilesystem, RootPlace, BadAttr, TooMany, Unbindable, NotMountRoot, SharedParent, IntoItself, UnbindableInside, Detached}
 use Rattle.mt_skel.specs.Outcome.{refuse_if, refusal_of, outcome}
 use Rattle.mt_skel.specs.Skeleton.{fs_named}
 use Rattle.mt_mounts.specs.declared.mount.Mount.{Mount}
 use Rattle.mt_mounts.specs.declared.mount.Place.{Place}
 use Rattle.mt_mounts.specs.Forest.{parent, is_below}
 use Rattle.mt_mounts.specs.Walk.{walk}
-use Rattle.mt_propagate.specs.World.{WorldView, state_of, group_of}
+use Rattle.mt_propagate.specs.World.{WorldView, is_tree, state_of, group_of}
 use Rattle.mt_propagate.specs.Named.{place_or_nowhere, is_root_place, is_root_mount, is_mount_root}
 use Rattle.mt_propagate.specs.Limits.{too_many_mounts}
 use Rattle.mt_propagate.specs.Copies.{Source, new_copies, copy_id}
@@ -105,9 +105,10 @@ module _ (w : WorldView) where
   abbrev pub moved_effect : Result Place Fault → Result Place Fault → WorldView
   moved_effect from to = copied w (tree_of w (place_or_nowhere from).mount) (place_or_nowhere to)
 
-  -- a mount and all below it go to another place (`sharedsubtree`, move semantics)
+  -- a mount and all below it go to another place (`sharedsubtree`, move semantics), but not in a detached tree (mount(2), EINVAL). A
+  -- detached tree is a namespace that is there
   abbrev pub moved : ℕ → List (List ℕ) → List (List ℕ) → Result WorldView Fault
   moved n from to =
       let source = walk w.skel w.forest n from in
       let place = walk w.skel w.forest n to in
-      outcome (moved_refusals source place) (moved_effect source place)
+      outcome (refuse_if (is_tree w n) Detached ∷ moved_refusals source place) (moved_effect source place)

@@ -3,13 +3,13 @@
 use Rattle.std.specs.Prelude.{◌≡◌, ◌≢◌, ℕ, cond, not, ◌||◌, ◌==◌, List, [], ◌∷◌, map, Option, Some, None, is_some, Result, IsTrue}
 use Rattle.std.specs.Option.{option_map, unwrap_or}
 use Rattle.mt_skel.specs.declared.fault.Fault.{Fault}
-use Rattle.mt_skel.specs.declared.fault.Fault.TheVariants.{RootPlace, NotMountRoot, SharedParent, IntoItself}
+use Rattle.mt_skel.specs.declared.fault.Fault.TheVariants.{RootPlace, NotMountRoot, SharedParent, IntoItself, Detached}
 use Rattle.mt_skel.specs.Outcome.{refuse_if, refusal_of, outcome}
 use Rattle.mt_mounts.specs.declared.mount.Mount.{Mount}
 use Rattle.mt_mounts.specs.declared.mount.Place.{Place}
 use Rattle.mt_mounts.specs.Forest.{id_of, mount_at, is_below, root_mount}
 use Rattle.mt_mounts.specs.Walk.{walk}
-use Rattle.mt_propagate.specs.World.{WorldView, group_of}
+use Rattle.mt_propagate.specs.World.{WorldView, is_tree, group_of}
 use Rattle.mt_propagate.specs.Named.{place_or_nowhere, is_root_place, is_root_mount, is_mount_root}
 use Rattle.mt_propagate.specs.Sound.{IsDestination}
 use Rattle.mt_bind.specs.Mounting.{stands_on_shared}
@@ -44,12 +44,13 @@ module _ (w : WorldView) where
   abbrev pub pivoted_effect : ℕ → Result Place Fault → Result Place Fault → WorldView
   pivoted_effect n new old = with_pivot w (place_or_nowhere new).mount (root_id n) (place_or_nowhere old)
 
-  -- afterwards the mount that one path names is the root mount, and the old one stands where the other path ends (pivot_root(2))
+  -- afterwards the mount that one path names is the root mount, and the old one stands where the other path ends (pivot_root(2)); not in
+  -- a detached tree (pivot_root(2), EINVAL), which is a namespace that is there
   abbrev pub pivoted : ℕ → List (List ℕ) → List (List ℕ) → Result WorldView Fault
   pivoted n new old =
       let root = walk w.skel w.forest n new in
       let place = walk w.skel w.forest n old in
-      outcome (pivoted_refusals root place) (pivoted_effect n root place)
+      outcome (refuse_if (is_tree w n) Detached ∷ pivoted_refusals root place) (pivoted_effect n root place)
 
 -- a mount may become the root mount of its namespace, and the old one may then go to a place (pivot_root(2))
 pub record MayPivot (w : WorldView) (new old : ℕ) (p : Place) : Type 0 where

@@ -1,28 +1,36 @@
 -- New namespaces: with one private mount, and as a copy of another; and the end of a namespace.
 -- A word with no source is this project's rule.
-use Rattle.std.specs.Prelude.{ℕ, ◌+◌, Bool, not, ◌==◌, List, [], ◌∷◌, ◌++◌, map, length, Option, None, is_none, Result}
+use Rattle.std.specs.Prelude.{ℕ, ◌+◌, Bool, not, ◌==◌, List, [], ◌∷◌, ◌++◌, length, Option, None, is_none, Result}
 use Rattle.std.specs.Option.{unwrap_or}
 use Rattle.mt_skel.specs.declared.fault.Fault.{Fault}
-use Rattle.mt_skel.specs.declared.fault.Fault.TheVariants.{NoFilesystem, NoNamespace, TooMany}
+use Rattle.mt_skel.specs.declared.fault.Fault.TheVariants.{NoFilesystem, NoNamespace, TooMany, Detached}
 use Rattle.mt_skel.specs.Keyed.{without}
 use Rattle.mt_skel.specs.Outcome.{refuse_if, outcome}
 use Rattle.mt_skel.specs.Skeleton.{fs_named, root_of}
 use Rattle.mt_mounts.specs.declared.mount.Mount.{Mount}
 use Rattle.mt_mounts.specs.Attrs.{new_attrs}
-use Rattle.mt_mounts.specs.Forest.{id_of, mounts_in}
+use Rattle.mt_mounts.specs.Forest.{mounts_in}
 use Rattle.mt_peers.specs.Loss.{left}
-use Rattle.mt_propagate.specs.World.{WorldView, is_space, private, state_of, space_of}
+use Rattle.mt_propagate.specs.World.{WorldView, is_space, is_tree, private, space_of}
 use Rattle.mt_propagate.specs.Limits.{too_many_mounts, too_many_spaces}
-use Rattle.mt_bind.specs.Copying.{copy_number, copy_of, state_of_copy}
+use Rattle.mt_bind.specs.Copying.{with_copies}
 
--- one namespace more, whose root mount is private and shows the root of a filesystem
-unfoldable pub with_space : WorldView → ℕ → WorldView
-with_space w fs = record w {
-  forest = w.forest ++ record { id = w.next_mount; space = w.next_space; place = None; root = root_of w.skel fs; attrs = new_attrs } ∷ [];
+-- the root mount of the next namespace, which shows the root of a filesystem
+abbrev pub next_root : WorldView → ℕ → Mount
+next_root w fs = record { id = w.next_mount; space = w.next_space; place = None; root = root_of w.skel fs; attrs = new_attrs }
+
+-- one namespace more, whose root mount is private
+abbrev pub with_root : WorldView → Mount → WorldView
+with_root w root = record w {
+  forest = w.forest ++ root ∷ [];
   peering = record w.peering { peers = w.peering.peers ++ record { mount = w.next_mount; state = private } ∷ [] };
   next_mount = w.next_mount + 1;
   next_space = w.next_space + 1;
 }
+
+-- and shows the root of a filesystem
+unfoldable pub with_space : WorldView → ℕ → WorldView
+with_space w fs = with_root w (next_root w fs)
 
 -- the refusals of a new namespace, of the filesystem that was found
 abbrev pub new_space_refusals : WorldView → Option ℕ → List (Option Fault)
@@ -44,18 +52,14 @@ module _ (w : WorldView) (n : ℕ) where
   originals = mounts_in w.forest n
 
   -- a copy of each mount of a namespace, in a new one (`sharedsubtree`, clone namespace)
-  unfoldable pub with_copy : Bool → WorldView
-  with_copy less = record w {
-    forest = w.forest ++ map (copy_of w (map id_of originals)) originals;
-    peering = record w.peering { peers = w.peering.peers ++ map (λ m. record { mount = copy_number w (map id_of originals) m.id; state = state_of_copy less (state_of w m.id) }) originals };
-    next_mount = w.next_mount + length originals;
-    next_space = w.next_space + 1;
-  }
+  abbrev pub with_copy : Bool → WorldView
+  with_copy less = with_copies w originals less
 
-  -- the refusals of a copy of a namespace
+  -- the refusals of a copy of a namespace, which is no detached tree (that it is not copied: this project's rule)
   abbrev pub copy_space_refusals : List (Option Fault)
   copy_space_refusals =
       refuse_if (not (is_space w n)) NoNamespace
+      ∷ refuse_if (is_tree w n) Detached
       ∷ refuse_if (too_many_spaces w) TooMany
       ∷ refuse_if (too_many_mounts w (length originals)) TooMany ∷ []
 

@@ -1,10 +1,12 @@
 //! Binds: copies of one mount, or of the tree of mounts below a directory.
-ghost use Rattle.std.specs.Prelude.{◌≡◌, ◌≢◌, ◌^◌, ◌<◌, cond, IfOk, IfErr, OnErr, IsOkUnless, Ok, Err, [], ◌∷◌};
+ghost use Rattle.std.specs.Prelude.{◌≡◌, ◌≢◌, ◌^◌, ◌<◌, cond, map, IfOk, IfErr, OnErr, IsOkUnless, Ok, Err, [], ◌∷◌};
+ghost use Rattle.std.specs.List.{filter};
+ghost use Rattle.mt_mounts.specs.Forest.{id_of};
 ghost use Rattle.mt_propagate.specs.World.{world_view, state_of};
 ghost use Rattle.mt_propagate.specs.WellFormed.{IsWellFormed};
 ghost use Rattle.mt_propagate.specs.Touched.{since_view};
 ghost use Rattle.mt_propagate.specs.Plans.{source_of};
-ghost use Rattle.mt_bind.specs.Sources.{alone, tree_within};
+ghost use Rattle.mt_bind.specs.Sources.{alone, tree_within, is_bound_along};
 ghost use Rattle.mt_bind.specs.Mounting.{bound};
 
 use crate::members::members_within;
@@ -35,17 +37,26 @@ fn only(world: &World, id: MountId) -> Result<Vec<MountId>, Fault>
     Ok(ids)
 }
 
+/// The mounts that a bind of a place copies, by rising ID: its mount alone, or with `recursive` the tree of mounts below
+/// it.
+pub(crate) fn members_at(world: &World, from: Place, recursive: bool) -> Result<Vec<MountId>, Fault>
+    requires well_formed { IsWellFormed (world_view world.now) }
+    ensures members { IfOk result (λ ids. ids.items ≡ cond recursive (map id_of (filter (λ m. is_bound_along (world_view world.now) from m.id) world.now.forest.mounts)) (from.mount ∷ [])) }
+    ensures memory { IsOkUnless result Fault.NoMemory }
+{
+    if recursive {
+        return members_within(world, from);
+    }
+    only(world, from.mount)
+}
+
 /// What a bind of a place copies: its mount alone, or with `recursive` the tree of mounts below it.
 fn sources_at(world: &World, from: Place, recursive: bool) -> Result<Sources, Fault>
     requires well_formed { IsWellFormed (world_view world.now) }
     ensures sources { IfOk result (λ sources. source_of (world_view world.now) sources ≡ cond recursive (tree_within (world_view world.now) from) (alone (world_view world.now) from)) }
     ensures memory { IsOkUnless result Fault.NoMemory }
 {
-    let members = if recursive {
-        members_within(world, from)?
-    } else {
-        only(world, from.mount)?
-    };
+    let members = members_at(world, from, recursive)?;
     Ok(Sources::Tree {
         top: from.mount,
         root: from.dir,

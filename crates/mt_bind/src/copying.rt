@@ -51,8 +51,8 @@ fn copy_of(world: &World, originals: &[Mount], mount: &Mount) -> Mount
     }
 }
 
-/// The copies of the mounts of a namespace.
-fn copies(world: &World, originals: &[Mount]) -> Result<Vec<Mount>, Fault>
+/// The copies of these mounts in the next namespace.
+pub(crate) fn copies(world: &World, originals: &[Mount]) -> Result<Vec<Mount>, Fault>
     requires rising { IsTrue (rises id_of originals.now) }
     requires numbers { world.now.next_mount + length originals.now < 2 ^ 64 }
     ensures copies { IfOk result (λ copies. copies.items ≡ map (copy_of (world_view world.now) (map id_of originals.now)) originals.now) }
@@ -79,8 +79,12 @@ fn state_of_copy(less: bool, state: State) -> State
     state
 }
 
-/// The states of the copies of the mounts of a namespace, in one that is less privileged or not.
-fn states(world: &World, originals: &[Mount], less: bool) -> Result<Vec<(MountId, State)>, Fault>
+/// The states of the copies of these mounts, in a namespace that is less privileged or not.
+pub(crate) fn states(
+    world: &World,
+    originals: &[Mount],
+    less: bool,
+) -> Result<Vec<(MountId, State)>, Fault>
     requires rising { IsTrue (rises id_of originals.now) }
     requires numbers { world.now.next_mount + length originals.now < 2 ^ 64 }
     ensures states { IfOk result (λ states. peers_of states.items ≡ map (peer_of (world_view world.now) (map id_of originals.now) less) originals.now) }
@@ -96,7 +100,7 @@ fn states(world: &World, originals: &[Mount], less: bool) -> Result<Vec<(MountId
 }
 
 /// Makes room for this many more mounts, and changes nothing.
-fn make_room(world: &mut World, more: usize) -> Result<(), Fault>
+pub(crate) fn make_room(world: &mut World, more: usize) -> Result<(), Fault>
     ensures room { OnOk result ((more ≤ world.new.forest.room) × (more ≤ world.new.peers.room)) }
     ensures memory { IsOkUnless result Fault.NoMemory }
     ensures world { world_view world.new ≡ world_view world.old }
@@ -108,7 +112,7 @@ fn make_room(world: &mut World, more: usize) -> Result<(), Fault>
 }
 
 /// Adds the mounts of one more namespace with their states, and answers its number.
-fn add_space(world: &mut World, mounts: &[Mount], states: &[(MountId, State)]) -> SpaceId
+pub(crate) fn add_space(world: &mut World, mounts: &[Mount], states: &[(MountId, State)]) -> SpaceId
     requires room { (length mounts.now ≤ world.old.forest.room) × (length states.now ≤ world.old.peers.room) }
     requires rising { IsTrue (rises id_of (world.old.forest.mounts ++ mounts.now)) }
     requires apart { HasDistinctPlaces (world.old.forest.mounts ++ mounts.now) }
@@ -136,7 +140,7 @@ fn add_space(world: &mut World, mounts: &[Mount], states: &[(MountId, State)]) -
 /// master. With `less` the new namespace is less privileged: there the copy of a mount in a group is in no group, and
 /// has that group as its master.
 ///
-/// Refused as `NoNamespace`, as `TooMany` at 64 namespaces or above 4,096 mounts, and as `NoMemory`;
+/// Refused as `NoNamespace`, `Detached` if the namespace is a detached tree, as `TooMany` at 64 namespaces or above 4,096 mounts, and as `NoMemory`;
 /// then nothing has changed.
 pub fn copy_space(world: &mut World, space: SpaceId, less: bool) -> Result<SpaceId, Fault>
     requires well_formed { IsWellFormed (world_view world.old) }
@@ -149,6 +153,9 @@ pub fn copy_space(world: &mut World, space: SpaceId, less: bool) -> Result<Space
 {
     if world.forest.root(space).is_none() {
         return Err(Fault::NoNamespace);
+    }
+    if world.is_tree(space) {
+        return Err(Fault::Detached);
     }
     let originals = world.forest.mounts_in(space)?;
     if too_many(world, originals.len()) {

@@ -15,7 +15,7 @@ use mt_propagate::world::World;
 use mt_skel::fault::Fault;
 
 /// The IDs of the mounts of a namespace, rising.
-fn ids_in(world: &World, space: SpaceId) -> Result<Vec<MountId>, Fault>
+pub(crate) fn ids_in(world: &World, space: SpaceId) -> Result<Vec<MountId>, Fault>
     ensures ids { IfOk result (λ ids. ids.items ≡ map id_of (originals (world_view world.now) space)) }
     ensures memory { IsOkUnless result Fault.NoMemory }
 {

@@ -49,7 +49,7 @@ fn has_unbindable(world: &World, ids: &[MountId]) -> bool
 }
 
 /// Whether one of these mounts is unbindable and the place where they go is on a shared mount.
-fn is_unbindable_inside(world: &World, place: Place, ids: &[MountId]) -> bool
+pub(crate) fn is_unbindable_inside(world: &World, place: Place, ids: &[MountId]) -> bool
     ensures { result ≡ is_some (group_of (world_view world.now) place.mount) && list_any (λ k. (state_of (world_view world.now) k).unbindable) ids.now }
 {
     is_shared(world, place.mount) && has_unbindable(world, ids)
@@ -58,8 +58,8 @@ fn is_unbindable_inside(world: &World, place: Place, ids: &[MountId]) -> bool
 /// Moves the mount that one path names, with all that stand on it, to where another path ends, and
 /// makes copies of them at each propagation target of that place. The mounts keep their IDs.
 ///
-/// Refused as `NoNamespace`, `NoEntry` if a component of the path is not there, `NotMountRoot` if it ends below a
-/// mount's root, `RootPlace` if it names a root mount, `NoEntry` and `RootPlace` of the other path, `SharedParent` if
+/// Refused as `NoNamespace`, `Detached` if the namespace is a detached tree, `NoEntry` if a component of the path is not
+/// there, `NotMountRoot` if it ends below a mount's root, `RootPlace` if it names a root mount, `NoEntry` and `RootPlace` of the other path, `SharedParent` if
 /// the mount stands on one in a peer group, `IntoItself` if the place is in the tree that moves, `UnbindableInside` if
 /// the place's mount is in a peer group and one that moves is unbindable, `TooMany` above 4,096 mounts, and as
 /// `NoMemory`; then nothing has changed.
@@ -77,6 +77,9 @@ pub fn move_mount(
     ensures kept { IsWellFormed (world_view world.new) }
     ensures since { since_view world.new ≡ since_view world.old }
 {
+    if world.is_tree(space) {
+        return Err(Fault::Detached);
+    }
     let source = world.forest.walk(&world.skel, space, from)?;
     if !is_mount_root(world, source) {
         return Err(Fault::NotMountRoot);

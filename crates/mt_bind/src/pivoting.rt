@@ -64,8 +64,8 @@ fn exchange(world: &mut World, new: MountId, old: MountId, place: Place)
 /// else that stands on it, to where another path ends. Nothing propagates. Both paths are looked up before that, and
 /// may be the same: then the old root mount stands on the new one, at its root.
 ///
-/// Refused as `NoNamespace`, `NoEntry` if a component of the path is not there, `NotMountRoot` if it ends below a
-/// mount's root, `RootPlace` if it names the root mount, `NoEntry` and `RootPlace` of the other path, `SharedParent` if
+/// Refused as `NoNamespace`, `Detached` if the namespace is a detached tree, `NoEntry` if a component of the path is not
+/// there, `NotMountRoot` if it ends below a mount's root, `RootPlace` if it names the root mount, `NoEntry` and `RootPlace` of the other path, `SharedParent` if
 /// the mount stands on one in a peer group or the place's mount is in one, `IntoItself` if the place's mount is neither
 /// that mount nor below it, and as `NoMemory`; then nothing has changed.
 pub fn pivot_root(
@@ -81,6 +81,9 @@ pub fn pivot_root(
     ensures kept { IsWellFormed (world_view world.new) }
     ensures since { since_view world.new ≡ since_view world.old }
 {
+    if world.is_tree(space) {
+        return Err(Fault::Detached);
+    }
     let Some(root) = world.forest.root(space) else {
         return Err(Fault::NoNamespace);
     };

@@ -6,7 +6,6 @@ use Rattle.std.proofs.lemmas.Bool.Decides.{nat_tests, leb_tells}
 use Rattle.std.proofs.lemmas.List.{length-map}
 use Rattle.mt_skel.specs.Keyed.{has}
 use Rattle.mt_propagate.specs.World.{WorldView, empty_world, is_space}
-use Rattle.mt_bind.proofs.AcceptedLaws.{drop_space_accepted}
 use Rattle.mt_info.specs.declared.row.Row.{Row}
 use Rattle.mt_info.specs.Table.{row_id, table_of}
 use Rattle.mt_events.specs.Posts.{PostView}
@@ -14,16 +13,15 @@ use Rattle.mt_events.specs.declared.post.Delta.{Delta}
 use Rattle.mt_events.specs.Difference.{difference, is_empty, post_of}
 use Rattle.mt_events.specs.Following.{space_posts}
 use Rattle.mt_book.specs.declared.command.Command.{Command}
-use Rattle.mt_book.specs.declared.command.Command.TheVariants.{DropSpace}
 use Rattle.mt_book.specs.declared.command.Reply.{Reply}
-use Rattle.mt_book.specs.Step.{step, makes_space, world_or, next_world, after_from, after}
+use Rattle.mt_book.specs.Step.{step, makes_space, ends_space, world_or, next_world, after_from, after}
 use Rattle.mt_book.specs.History.{events_from, events, space_number, posts_of, posts_from}
-use Rattle.mt_book.proofs.EffectLaws.{done_ok, next_by}
+use Rattle.mt_book.proofs.EffectLaws.{next_by}
 use Rattle.mt_book.proofs.HasLaws.{out_nowhere}
 use Rattle.mt_book.proofs.DirectoryLaws.{no_post}
 use Rattle.mt_book.proofs.HistoryLaws.{IsGood, next_good, after_good, next_higher, same_table, table_nowhere, given, given_out, posts_of_space, space_events}
 use Rattle.mt_book.proofs.GrowthLaws.{IsReached, step_spaces, next_reached, none_reached}
-use Rattle.mt_book.proofs.SpaceLaws.{step_gone, step_ends, has_row, made_there}
+use Rattle.mt_book.proofs.SpaceLaws.{step_gone, step_ends, ended_there, has_row, made_there}
 
 -- one that is gone does not come again
 next_gone : (n : ℕ) (w : WorldView) (c : Command) → IsGood w → n < w.next_space → is_space w n ≡ false → is_space (next_world w c) n ≡ false
@@ -139,18 +137,17 @@ emptied n number t some =
     ap (λ (rs : List Row). post_of n number (told (map row_id rs))) (all_gone t)
     ∙ ap (λ (b : Bool). cond {A = Option PostView} b None (Some p)) (some_told t some)
 
--- a command that drops a namespace gives one post of it, the next one, which tells that all its mounts are gone
-pub last_post : (n : ℕ) (cs : List Command) (v : WorldView) (r : Reply) → step (after cs) (DropSpace n) ≡ Ok (v, r)
-    → space_posts n (posts_of cs (DropSpace n)) ≡ record { space = n; number = space_number n cs + 1; gone = map row_id (table_of (after cs) n); rows = [] } ∷ []
-unfolding step
-last_post n cs v r e =
+-- a command that ends a namespace gives one post of it, the next one, which tells that all its mounts are gone
+pub last_post : (n : ℕ) (cs : List Command) (c : Command) (v : WorldView) (r : Reply) → step (after cs) c ≡ Ok (v, r) → ends_space n c ≡ true
+    → space_posts n (posts_of cs c) ≡ record { space = n; number = space_number n cs + 1; gone = map row_id (table_of (after cs) n); rows = [] } ∷ []
+last_post n cs c v r e d =
     let w = after cs in
     let g = after_good cs in
     let k = space_number n cs + 1 in
-    let there = (drop_space_accepted w n v (done_ok _ v r e)).there in
-    let next : next_world w (DropSpace n) ≡ v = ap (world_or w) e in
-    let gone = step_ends w v r n g.formed g.skeleton e in
-    let empty : table_of (next_world w (DropSpace n)) n ≡ [] = table_nowhere (next_world w (DropSpace n)) n (next_good w (DropSpace n) g).formed (ap (λ (x : WorldView). is_space x n) next ∙ gone) in
-    posts_of_space cs (DropSpace n) n
+    let there = ended_there w c v r n e d in
+    let next : next_world w c ≡ v = ap (world_or w) e in
+    let gone = step_ends w c v r n g.formed g.skeleton e d in
+    let empty : table_of (next_world w c) n ≡ [] = table_nowhere (next_world w c) n (next_good w c g).formed (ap (λ (x : WorldView). is_space x n) next ∙ gone) in
+    posts_of_space cs c n
     ∙ ap (λ t. option_to_list (post_of n k (difference (table_of w n) t))) empty
     ∙ ap option_to_list (emptied n k (table_of w n) (has_row w n g.formed there))

@@ -1,20 +1,24 @@
 -- A namespace that is there has a mount, and keeps one through each command that does not end it.
-use Rattle.std.proofs.Common.{◌≡◌, ◌⊎◌, inl, inr, ℕ, ◌<◌, ◌≤◌, Bool, true, false, ◌==◌, eqb, Option, Some, None, Ok, refl, sym, ap, ◌∙◌, arith}
+use Rattle.std.proofs.Common.{◌≡◌, ◌⊎◌, inl, inr, ℕ, ◌<◌, ◌≤◌, Bool, true, false, ◌==◌, eqb, eq-eqb, Option, Some, None, Ok, refl, sym, ap, ◌∙◌, arith}
 use Rattle.std.specs.Option.{is_none, is_some}
-use Rattle.std.proofs.lemmas.Bool.{false_from_ne_true}
+use Rattle.std.proofs.lemmas.Bool.{false_from_ne_true, true≢false}
 use Rattle.std.proofs.lemmas.Bool.Decides.{nat_tests}
 use Rattle.mt_mounts.specs.declared.mount.Mount.{Mount}
+use Rattle.mt_mounts.specs.declared.mount.Place.{Place}
 use Rattle.mt_mounts.specs.Forest.{id_of, mount_at, is_root, root_mount}
 use Rattle.mt_propagate.specs.World.{WorldView, is_space}
 use Rattle.mt_propagate.specs.WellFormed.{IsWellFormed}
-use Rattle.mt_propagate.specs.Places.{relocated, new_mounts}
+use Rattle.mt_propagate.specs.Places.{arranged, new_mounts}
 use Rattle.mt_propagate.specs.Copied.{copied}
 use Rattle.mt_propagate.proofs.RowLaws.{row-mapped, row-first, row-kept}
-use Rattle.mt_propagate.proofs.ListedLaws.{relocated-id, relocated-space}
+use Rattle.mt_propagate.proofs.ListedLaws.{arranged-id, arranged-still, arranged-away}
 use Rattle.mt_skel.proofs.ElementLaws.{in_row, row_in, in_found, find_in}
 use Rattle.mt_skel.proofs.MiddleLaws.{and_second, and-true}
-use Rattle.mt_bind.specs.Spaces.{with_space, with_copy, without_space}
+use Rattle.mt_bind.specs.Spaces.{with_space, without_space}
 use Rattle.mt_bind.specs.Pivoting.{pivoted_mount, with_pivot}
+use Rattle.mt_bind.specs.Copying.{with_copies}
+use Rattle.mt_bind.specs.Attaching.{whole_tree}
+use Rattle.mt_bind.proofs.AttachingLaws.{whole_space}
 use Rattle.mt_unmount.specs.Sliding.{CanGo, once_gone}
 use Rattle.mt_unmount.proofs.LeftTreeLaws.{stays-in}
 use Rattle.mt_setattr.specs.Change.{changed_mount, is_chosen, with_change}
@@ -49,18 +53,35 @@ others_have n k w h other x =
     let off : (x.mount.space == k) ≡ false = grind (arith, nat_tests) in
     record { id = x.id; mount = x.mount; there = row-kept id_of (λ (m : Mount). m.space == k) w.forest h.forest.rising x.id x.mount off x.there; space = x.space }
 
+-- so do those of others where a tree is attached
+others_stay : (n tree : ℕ) (w : WorldView) (p : Place) → is_space w tree ≡ true → (tree == n) ≡ false → Has n w → Has n (copied w (whole_tree w tree) p)
+unfolding copied
+others_stay n tree w p is other x =
+    let src = whole_tree w tree in
+    record {
+      id = x.id;
+      mount = arranged w src p x.mount;
+      there = row-first id_of _ (new_mounts w src p) x.id _ (row-mapped id_of (arranged w src p) (arranged-id w src p) w.forest x.id x.mount x.there);
+      space =
+          arranged-away w src p x.mount (λ same. true≢false (sym (eq-eqb tree n (sym (same ∙ whole_space w tree is) ∙ x.space)) ∙ other))
+          ∙ x.space;
+    }
+
 pub step_has : (n : ℕ) (w : WorldView) (c : Command) (v : WorldView) (r : Reply) → IsWellFormed w → step w c ≡ Ok (v, r) → ends_space n c ≡ false → Has n w → Has n v
-unfolding with_space with_copy copied with_pivot with_change
+unfolding with_space with_copies copied with_pivot with_change
 step_has n w c v r g e d h = effect w c v r (Has n) e (record {
   skel = λ t made. still n w _ (λ m. m) (λ m. refl) (λ i m at. at) h;
   space = λ f. still n w _ (λ m. m) (λ m. refl) (λ i m at. row-first id_of w.forest _ i m at) h;
   copy = λ k less there. still n w _ (λ m. m) (λ m. refl) (λ i m at. row-first id_of w.forest _ i m at) h;
   end = λ k is. others_have n k w g (ap (ends_space n) (sym is) ∙ d) h;
-  copies = λ src p. still n w (copied w src p) (relocated w src p) (relocated-space w src p)
-      (λ i m at. row-first id_of _ (new_mounts w src p) i _ (row-mapped id_of (relocated w src p) (relocated-id w src p) w.forest i m at)) h;
+  copies = λ src p unmoved. still n w (copied w src p) (arranged w src p) (arranged-still w src p unmoved)
+      (λ i m at. row-first id_of _ (new_mounts w src p) i _ (row-mapped id_of (arranged w src p) (arranged-id w src p) w.forest i m at)) h;
   pivot = λ i j p. still n w _ (pivoted_mount i j p) (λ m. refl) (row-mapped id_of (pivoted_mount i j p) (λ m. refl) w.forest) h;
   gone = λ goes can. gone_has n w goes g (can g) h;
   change = λ change i. still n w _ (changed_mount change (is_chosen w change i)) (λ m. refl) (row-mapped id_of (changed_mount change (is_chosen w change i)) (λ m. refl) w.forest) h;
+  tree = λ f. still n w _ (λ m. m) (λ m. refl) (λ i m at. row-first id_of w.forest _ i m at) h;
+  opened = λ sources. still n w _ (λ m. m) (λ m. refl) (λ i m at. row-first id_of w.forest _ i m at) h;
+  attached = λ tree k path is there apart p on. others_stay n tree w p there (ap (ends_space n) (sym is) ∙ d) h;
 })
 
 -- a namespace is there where it has a mount

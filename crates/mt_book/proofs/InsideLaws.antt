@@ -1,5 +1,5 @@
 -- What is done in a less privileged copy of a namespace stays in it.
-use Rattle.std.proofs.Common.{◌≡◌, ◌≢◌, ℕ, ◌+◌, ◌<◌, true, false, ◌==◌, eqb-true, List, [], ◌∷◌, ◌++◌, length, Result, Ok, Err, refl, sym, ap, ◌∙◌, subst, arith, append-nil}
+use Rattle.std.proofs.Common.{◌≡◌, ◌≢◌, ℕ, ◌+◌, ◌<◌, true, false, ◌||◌, ◌==◌, eqb-true, List, [], ◌∷◌, ◌++◌, length, Result, Ok, Err, refl, sym, ap, ◌∙◌, subst, arith, append-nil}
 use Rattle.std.specs.Prelude.{Bool, if◌then◌else◌, nat_le}
 use Rattle.std.specs.List.{AllByRecursion}
 use Rattle.std.specs.Option.{option_to_list}
@@ -11,9 +11,11 @@ use Rattle.mt_skel.specs.Skeleton.{IsSkeleton}
 use Rattle.mt_propagate.specs.World.{WorldView}
 use Rattle.mt_propagate.specs.WellFormed.{IsWellFormed}
 use Rattle.mt_propagate.specs.Contained.{IsContained, IsSameOutside}
+use Rattle.mt_bind.specs.Copying.{with_copies}
 use Rattle.mt_bind.specs.Spaces.{with_copy}
 use Rattle.mt_bind.proofs.AcceptedLaws.{copy_space_accepted, drop_space_accepted}
-use Rattle.mt_bind.proofs.InsideLaws.{mount_contained, mount_outside, bind_contained, bind_outside, move_contained, move_outside, made_contained, copied_contained, less_copied, end_contained, end_outside}
+use Rattle.mt_bind.proofs.InsideLaws.{mount_contained, mount_outside, bind_contained, bind_outside, move_contained, move_outside, made_contained, copied_contained, less_copied, end_contained, end_outside, tree_made_contained, opened_contained}
+use Rattle.mt_bind.proofs.AttachingLaws.{attached_contained}
 use Rattle.mt_bind.proofs.PivotingLaws.{pivoted_contained, pivoted_outside}
 use Rattle.mt_unmount.proofs.InsideLaws.{unmounted-contained, unmounted-outside, detached-contained, detached-outside}
 use Rattle.mt_setattr.specs.Words.{nothing_set}
@@ -21,13 +23,13 @@ use Rattle.mt_setattr.proofs.InsideLaws.{attributed-contained, attributed-outsid
 use Rattle.mt_info.specs.Table.{table_of}
 use Rattle.mt_info.proofs.OutsideTables.{same_table}
 use Rattle.mt_book.specs.declared.command.Command.{Command}
-use Rattle.mt_book.specs.declared.command.Command.TheVariants.{MakeFs, MakeDir, NewSpace, CopySpace, DropSpace, Mount, MountWith, Bind, Move, Pivot, Unmount, Detach, SetAttr}
+use Rattle.mt_book.specs.declared.command.Command.TheVariants.{MakeFs, MakeDir, NewSpace, CopySpace, DropSpace, Mount, MountWith, Bind, Move, Pivot, Unmount, Detach, SetAttr, OpenTree, NewTree, MoveTree}
 use Rattle.mt_book.specs.declared.command.Reply.{Reply}
 use Rattle.mt_book.specs.declared.command.Reply.TheVariants.{Number}
 use Rattle.mt_book.specs.Step.{step, makes_directories, world_or, next_world, after_from, after}
 use Rattle.mt_book.specs.History.{events, space_number}
 use Rattle.mt_book.specs.Book.{command_limit, answer, reply_of}
-use Rattle.mt_book.specs.Inside.{is_issued_in, is_copy_of, IsNotCopied, StaysInCopy, AllStayInCopies}
+use Rattle.mt_book.specs.Inside.{is_issued_in, crosses, IsNotCrossed, StaysInCopy, AllStayInCopies}
 use Rattle.mt_book.proofs.EffectLaws.{number_ok, done_ok, directories_made, next_by}
 use Rattle.mt_book.proofs.StepLaws.{step_kept}
 use Rattle.mt_book.proofs.RiseLaws.{step_rises}
@@ -41,7 +43,12 @@ skel_contained n w c v r d e a = let m = directories_made w c v r d e in subst (
 other : (k n : ℕ) → (k == n) ≡ false → n ≢ k
 other k n off same = let is : (k == n) ≡ true = grind (arith, nat_tests) in true≢false (sym is ∙ off)
 
-pub step_contained : (n : ℕ) (w : WorldView) (c : Command) (v : WorldView) (r : Reply) → IsWellFormed w → IsContained n w → n < w.next_space → is_copy_of n c ≡ false → step w c ≡ Ok (v, r) → IsContained n v
+neither : (p q : Bool) → (p || q) ≡ false → (p ≡ false) × (q ≡ false)
+neither true q e = absurd (cc)
+neither false true e = absurd (cc)
+neither false false e = (refl, refl)
+
+pub step_contained : (n : ℕ) (w : WorldView) (c : Command) (v : WorldView) (r : Reply) → IsWellFormed w → IsContained n w → n < w.next_space → crosses n c ≡ false → step w c ≡ Ok (v, r) → IsContained n v
 unfolding step
 step_contained n w (MakeFs name kind source) v r h a low off e = skel_contained n w (MakeFs name kind source) v r refl e a
 step_contained n w (MakeDir fs path) v r h a low off e = skel_contained n w (MakeDir fs path) v r refl e a
@@ -56,6 +63,11 @@ step_contained n w (Pivot k new old) v r h a low off e = pivoted_contained n w k
 step_contained n w (Unmount k path) v r h a low off e = unmounted-contained n w k path v h a (done_ok _ v r e)
 step_contained n w (Detach k path) v r h a low off e = detached-contained n w k path v h a (done_ok _ v r e)
 step_contained n w (SetAttr k path change) v r h a low off e = attributed-contained n w k path change v h a (done_ok _ v r e)
+step_contained n w (OpenTree k path recursive) v r h a low off e = let q = number_ok _ v r e in opened_contained n w k path recursive v q.0 h a low (other k n off) q.1
+step_contained n w (NewTree fs) v r h a low off e = let q = number_ok _ v r e in tree_made_contained n w fs v q.0 h a q.1
+step_contained n w (MoveTree tree k path) v r h a low off e =
+    let apart = neither (tree == n) (k == n) off in
+    attached_contained n w tree k path v h a (other tree n apart.0) (other k n apart.1) (done_ok _ v r e)
 
 -- a command that is issued in a contained namespace changes nothing outside it
 at_issue : (k n : ℕ) (w v : WorldView) → (k == n) ≡ true → IsContained n w → (IsContained k w → IsSameOutside k w v) → IsSameOutside n w v
@@ -79,13 +91,13 @@ pub step_inside : (n : ℕ) (w : WorldView) (c : Command) (v : WorldView) (r : R
     → table_of v k ≡ table_of w k
 step_inside n w c v r h s a is e k off = same_table n w v h (step_kept w c v r h s e).0 a (step_outside n w c v r h a is e) k off
 
--- what is kept while the copy is not copied
+-- what is kept while no mounts are brought over its border
 record Stands (n : ℕ) (w : WorldView) : Type 0 where
   good : IsGood w
   given : n < w.next_space
   contained : IsContained n w
 
-step_stands : (n : ℕ) (w : WorldView) (c : Command) (v : WorldView) (r : Reply) → Stands n w → is_copy_of n c ≡ false → step w c ≡ Ok (v, r) → Stands n v
+step_stands : (n : ℕ) (w : WorldView) (c : Command) (v : WorldView) (r : Reply) → Stands n w → crosses n c ≡ false → step w c ≡ Ok (v, r) → Stands n v
 step_stands n w c v r s off e =
     let rises = (step_rises w c v r e).spaces in
     let low = s.given in
@@ -95,10 +107,10 @@ step_stands n w c v r s off e =
       contained = step_contained n w c v r s.good.formed s.contained s.given off e;
     }
 
-next_stands : (n : ℕ) (w : WorldView) (c : Command) → Stands n w → ((v : WorldView) (r : Reply) → step w c ≡ Ok (v, r) → is_copy_of n c ≡ false) → Stands n (next_world w c)
+next_stands : (n : ℕ) (w : WorldView) (c : Command) → Stands n w → ((v : WorldView) (r : Reply) → step w c ≡ Ok (v, r) → crosses n c ≡ false) → Stands n (next_world w c)
 next_stands n w c s off = next_by (Stands n) w c s (λ v r e. step_stands n w c v r s (off v r e) e)
 
-all_stand : (n : ℕ) (w : WorldView) (done : List Command) → Stands n w → IsNotCopied n w done → Stands n (after_from w done)
+all_stand : (n : ℕ) (w : WorldView) (done : List Command) → Stands n w → IsNotCrossed n w done → Stands n (after_from w done)
 all_stand n w [] s off = s
 all_stand n w (c ∷ later) s off = all_stand n (next_world w c) later (next_stands n w c s off.0) off.1
 
@@ -107,7 +119,7 @@ stands_inside n w c s is k off = next_by (λ v. table_of v k ≡ table_of w k) w
 
 -- a less privileged copy, as it is made
 new_given : (w : WorldView) (k : ℕ) → w.next_space < (with_copy w k true).next_space
-unfolding with_copy
+unfolding with_copies
 new_given w k = omega arith
 
 less_stands : (w : WorldView) (m n : ℕ) (v : WorldView) → IsGood w → step w (CopySpace m true) ≡ Ok (v, Number n) → Stands n v
@@ -123,8 +135,9 @@ less_stands w m n v g e =
       contained = less_copied w m v n g.formed is;
     }
 
--- what is done in a less privileged copy leaves the tables of all other namespaces, as long as no copy of it was accepted
-pub less_inside : (w : WorldView) (m n : ℕ) (v : WorldView) → IsWellFormed w → IsSkeleton w.skel → step w (CopySpace m true) ≡ Ok (v, Number n) → (done : List Command) → IsNotCopied n v done
+-- what is done in a less privileged copy leaves the tables of all other namespaces, as long as nothing was accepted that brings mounts over
+-- its border
+pub less_inside : (w : WorldView) (m n : ℕ) (v : WorldView) → IsWellFormed w → IsSkeleton w.skel → step w (CopySpace m true) ≡ Ok (v, Number n) → (done : List Command) → IsNotCrossed n v done
     → (c : Command) → is_issued_in n c ≡ true → (k : ℕ) → k ≢ n → table_of (next_world (after_from v done) c) k ≡ table_of (after_from v done) k
 less_inside w m n v h s e done off c is k other = stands_inside n (after_from v done) c (all_stand n v done (less_stands w m n v (record { formed = h; skeleton = s }) e) off) is k other
 
@@ -137,7 +150,7 @@ number_stays k cs c same =
     ∙ ap (λ o. length (events k cs ++ (option_to_list o ++ []))) none ∙ ap length (append-nil (events k cs))
 
 -- the same from the empty world on
-pub book_inside : (before : List Command) (m n : ℕ) (v : WorldView) → step (after before) (CopySpace m true) ≡ Ok (v, Number n) → (done : List Command) → IsNotCopied n v done
+pub book_inside : (before : List Command) (m n : ℕ) (v : WorldView) → step (after before) (CopySpace m true) ≡ Ok (v, Number n) → (done : List Command) → IsNotCrossed n v done
     → (c : Command) → is_issued_in n c ≡ true → (k : ℕ) → k ≢ n
     → (table_of (after ((before ++ CopySpace m true ∷ done) ++ c ∷ [])) k ≡ table_of (after (before ++ CopySpace m true ∷ done)) k)
     × (space_number k ((before ++ CopySpace m true ∷ done) ++ c ∷ []) ≡ space_number k (before ++ CopySpace m true ∷ done))
@@ -165,10 +178,10 @@ made_is cs c n e = by (nat_le command_limit (length cs)) (step (after cs) c) ref
     by false (Ok p) is e = let reply : p.1 ≡ Number n = cc in (p.0, is ∙ ap (λ (r : Reply). Ok (p.0, r)) reply)
     by false (Err f) is e = absurd (cc)
 
--- where no command is a copy, none that is accepted is one
-none_copied : (n : ℕ) (w : WorldView) (cs : List Command) → AllByRecursion (λ c. is_copy_of n c ≡ false) cs → IsNotCopied n w cs
-none_copied n w [] none = tt
-none_copied n w (c ∷ cs) none = (λ v r e. none.0, none_copied n (next_world w c) cs none.1)
+-- where no command brings mounts over it, none that is accepted does
+none_crosses : (n : ℕ) (w : WorldView) (cs : List Command) → AllByRecursion (λ c. crosses n c ≡ false) cs → IsNotCrossed n w cs
+none_crosses n w [] none = tt
+none_crosses n w (c ∷ cs) none = (λ v r e. none.0, none_crosses n (next_world w c) cs none.1)
 
 pub stays_inside : (cs : List Command) (c : Command) → StaysInCopy cs c (cs ++ c ∷ [])
 stays_inside cs c n h is k other =
@@ -176,7 +189,7 @@ stays_inside cs c n h is k other =
     let all = h.before ++ CopySpace h.copied true ∷ h.later in
     let e : all ≡ cs = sym h.commands in
     let P : List Command → Type 0 = λ l. (table_of (after (l ++ c ∷ [])) k ≡ table_of (after l) k) × (space_number k (l ++ c ∷ []) ≡ space_number k l) in
-    subst P e (book_inside h.before h.copied n made.0 made.1 h.later (none_copied n made.0 h.later h.not_copied) c is k other)
+    subst P e (book_inside h.before h.copied n made.0 made.1 h.later (none_crosses n made.0 h.later h.not_crossed) c is k other)
 
 pub all_inside : (cs : List Command) → AllStayInCopies cs
 all_inside cs before c later is = stays_inside before c

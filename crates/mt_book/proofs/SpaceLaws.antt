@@ -1,34 +1,41 @@
--- A namespace that is there stays until it is dropped, and one that was dropped does not come again: so a namespace has its posts
--- between these two.
-use Rattle.std.proofs.Common.{◌≡◌, ◌⊎◌, inl, inr, ℕ, ◌<◌, ◌≤◌, Bool, true, false, cond, ◌==◌, eq-eqb, List, [], ◌∷◌, ◌++◌, map, length, Some, None, Ok, refl, sym, ap, ◌∙◌, subst, arith, true≢false}
+-- A namespace that is there stays until it is dropped or attached, and one that is gone does not come again: so a namespace has its
+-- posts between these two.
+use Rattle.std.proofs.Common.{◌≡◌, ◌⊎◌, inl, inr, ℕ, ◌<◌, ◌≤◌, Bool, true, false, cond, ◌==◌, eqb-true, eq-eqb, List, [], ◌∷◌, ◌++◌, map, length, Some, None, Ok, refl, sym, ap, ◌∙◌, subst, arith, true≢false}
 use Rattle.std.specs.List.{filter}
-use Rattle.std.proofs.lemmas.Bool.{false_from_ne_true}
+use Rattle.std.proofs.lemmas.Bool.{cases_eq, false_from_ne_true}
 use Rattle.std.proofs.lemmas.Bool.Decides.{nat_tests}
 use Rattle.mt_skel.specs.Keyed.{without}
 use Rattle.mt_skel.specs.Skeleton.{IsSkeleton}
 use Rattle.mt_skel.proofs.ElementLaws.{In, row_in, in_filtered, in_map, in_mapped, in_flat}
 use Rattle.mt_mounts.specs.declared.mount.Mount.{Mount}
+use Rattle.mt_mounts.specs.declared.mount.Place.{Place}
 use Rattle.mt_mounts.specs.Forest.{id_of, mount_at}
-use Rattle.mt_propagate.specs.World.{WorldView, is_space}
+use Rattle.mt_propagate.specs.World.{WorldView, is_space, space_of, with_tree}
 use Rattle.mt_propagate.specs.WellFormed.{IsWellFormed}
-use Rattle.mt_propagate.specs.Copies.{destinations}
 use Rattle.mt_propagate.specs.Receivers.{targets}
-use Rattle.mt_propagate.specs.Places.{relocated, new_mounts, copied_mount}
+use Rattle.mt_propagate.specs.Places.{arranged, new_mounts, copied_mount}
+use Rattle.mt_propagate.specs.Copies.{Source, destinations}
 use Rattle.mt_propagate.specs.Copied.{copied}
 use Rattle.mt_propagate.proofs.RowLaws.{mapped-row, row-second, appended-row, kept-row}
-use Rattle.mt_propagate.proofs.WalkLaws.{number_free}
-use Rattle.mt_propagate.proofs.ListedLaws.{relocated-id, relocated-space}
+use Rattle.mt_propagate.proofs.CopyRowLaws.{space_is}
+use Rattle.mt_propagate.proofs.WalkLaws.{StandsIn, walked, number_free}
+use Rattle.mt_propagate.proofs.ListedLaws.{arranged-id, arranged-here, arranged-still, arranged-away, arranged-either}
+use Rattle.mt_propagate.proofs.DetachedTreeLaws.{space_root}
 use Rattle.mt_bind.specs.Spaces.{with_space, with_copy, originals, without_space}
-use Rattle.mt_bind.specs.Copying.{copy_number, copy_of}
+use Rattle.mt_bind.specs.Copying.{copy_number, copy_of, with_copies}
 use Rattle.mt_bind.specs.Pivoting.{pivoted_mount, with_pivot}
-use Rattle.mt_bind.proofs.AcceptedLaws.{new_space_accepted, copy_space_accepted, drop_space_accepted}
+use Rattle.mt_bind.specs.Attaching.{whole_tree}
+use Rattle.mt_bind.proofs.AcceptedLaws.{path_end, new_space_accepted, copy_space_accepted, drop_space_accepted, tree_made_accepted, attached_accepted}
+use Rattle.mt_bind.proofs.AttachingLaws.{whole_moves, whole_space}
+use Rattle.mt_bind.proofs.OpeningLaws.{opened_root}
 use Rattle.mt_bind.proofs.SpaceLaws.{new_root}
-use Rattle.mt_bind.proofs.NamespaceCopyLaws.{copy-in}
+use Rattle.mt_bind.proofs.SourceCopyLaws.{copy-in}
+use Rattle.mt_bind.proofs.NamespaceCopyLaws.{original, originals-are}
 use Rattle.mt_setattr.specs.Change.{changed_mount, is_chosen, with_change}
 use Rattle.mt_info.specs.declared.row.Row.{Row}
 use Rattle.mt_info.specs.Table.{row_of, table_of}
 use Rattle.mt_book.specs.declared.command.Command.{Command}
-use Rattle.mt_book.specs.declared.command.Command.TheVariants.{NewSpace, CopySpace, DropSpace}
+use Rattle.mt_book.specs.declared.command.Command.TheVariants.{NewSpace, CopySpace, DropSpace, OpenTree, NewTree, MoveTree}
 use Rattle.mt_book.specs.declared.command.Reply.{Reply}
 use Rattle.mt_book.specs.Step.{step, makes_space, ends_space}
 use Rattle.mt_book.proofs.EffectLaws.{number_ok, done_ok, effect}
@@ -69,8 +76,27 @@ from_more n w old more was new i m e none s = elim (appended-row id_of old more 
   | inr at ↦ let low = new m (row_in id_of i more m at) none in inr (omega (arith, low, s))
 ]
 
+-- each copy of a mount has a place
+new_placed : (w : WorldView) (src : Source) (p : Place) (m : Mount) → In m (new_mounts w src p) → m.place ≡ None → ⊥
+new_placed w src p m there none =
+    let at = in_flat (λ t. map (copied_mount w src p t) src.mounts) m (cond src.moved (targets w p) (destinations w src p)) there in
+    let x = in_map (copied_mount w src p at.0) m src.mounts at.2 in
+    let bad : (copied_mount w src p at.0 x.0).place ≡ None = ap (λ (y : Mount). y.place) x.2 ∙ none in
+    absurd (cc)
+
+copies_from : (n : ℕ) (w : WorldView) (src : Source) (p : Place) → WasThere n w (map (arranged w src p) w.forest) → ComesFrom n w (map (arranged w src p) w.forest ++ new_mounts w src p)
+copies_from n w src p was = from_more n w _ (new_mounts w src p) was (λ m there none. absurd (new_placed w src p m there none))
+
+-- what comes to another namespace comes to that of the place, which was there
+was_arranged : (n k : ℕ) (w : WorldView) (src : Source) (p : Place) → StandsIn w k p → WasThere n w (map (arranged w src p) w.forest)
+was_arranged n k w src p on i m e s =
+    let x = mapped-row id_of (arranged w src p) (arranged-id w src p) w.forest i m e in
+    arranged-either w src p (λ j. j ≡ n → Has n w) x.0 (λ t. was_all n w i x.0 x.1 t)
+    (λ t. record { id = p.mount; mount = on.0; there = on.1; space = sym (space_is w p.mount on.0 on.1) ∙ t })
+    (ap (λ (y : Mount). y.space) (sym x.2) ∙ s)
+
 step_from : (n : ℕ) (w : WorldView) (c : Command) (v : WorldView) (r : Reply) → IsWellFormed w → step w c ≡ Ok (v, r) → ComesFrom n w v.forest
-unfolding with_space with_copy without_space copied with_pivot with_change
+unfolding with_space with_copies without_space copied with_pivot with_change
 step_from n w c v r g e = effect w c v r (λ x. ComesFrom n w x.forest) e (record {
   skel = λ t made. from_before n w _ (was_all n w);
   space = λ f. from_more n w w.forest _ (was_all n w) (λ m there none. elim there [
@@ -81,15 +107,18 @@ step_from n w c v r g e = effect w c v r (λ x. ComesFrom n w x.forest) e (recor
       let x = in_map (copy_of w (map id_of (originals w k))) m (originals w k) there in
       omega (arith, ap (λ (y : Mount). y.space) x.2));
   end = λ k is. from_before n w _ (was_left n w _ g);
-  -- each copy of a mount has a place
-  copies = λ src p. from_more n w _ (new_mounts w src p) (was_mapped n w (relocated w src p) w.forest (relocated-id w src p) (relocated-space w src p) (was_all n w)) (λ m there none.
-      let at = in_flat (λ t. map (copied_mount w src p t) src.mounts) m (cond src.moved (targets w p) (destinations w src p)) there in
-      let x = in_map (copied_mount w src p at.0) m src.mounts at.2 in
-      let bad : (copied_mount w src p at.0 x.0).place ≡ None = ap (λ (y : Mount). y.place) x.2 ∙ none in
-      absurd (cc));
+  copies = λ src p still. copies_from n w src p (was_mapped n w (arranged w src p) w.forest (arranged-id w src p) (arranged-still w src p still) (was_all n w));
   pivot = λ i j p. from_before n w _ (was_mapped n w (pivoted_mount i j p) w.forest (λ m. refl) (λ m. refl) (was_all n w));
   gone = λ goes can. from_before n w _ (was_mapped n w _ _ (λ m. refl) (λ m. refl) (was_left n w _ g));
   change = λ change i. from_before n w _ (was_mapped n w (changed_mount change (is_chosen w change i)) w.forest (λ m. refl) (λ m. refl) (was_all n w));
+  tree = λ f. from_more n w w.forest _ (was_all n w) (λ m there none. elim there [
+    | inl here ↦ omega (arith, ap (λ (y : Mount). y.space) here)
+    | inr none ↦ absurd none
+  ]);
+  opened = λ sources. from_more n w w.forest _ (was_all n w) (λ m there none.
+      let x = in_map (copy_of w (map id_of sources)) m sources there in
+      omega (arith, ap (λ (y : Mount). y.space) x.2));
+  attached = λ tree k path is there apart p on. copies_from n w (whole_tree w tree) p (was_arranged n k w (whole_tree w tree) p (on g));
 })
 
 -- the table of a namespace that is there has a row
@@ -111,8 +140,11 @@ root_has w f h =
     record { id = w.next_mount; mount = new_root w f; there = row-second id_of w.forest (new_root w f ∷ []) w.next_mount (new_root w f) (number_free w h) here; space = refl }
 
 copy_has : (w : WorldView) (k : ℕ) (less : Bool) → IsWellFormed w → Has k w → Has w.next_space (with_copy w k less)
-unfolding with_copy
-copy_has w k less h x = record { id = copy_number w (map id_of (originals w k)) x.id; mount = _; there = copy-in w h k x.id x.mount x.there x.space; space = refl }
+unfolding with_copies
+copy_has w k less h x = record { id = copy_number w (map id_of (originals w k)) x.id; mount = _; there = copy-in w h (originals w k) (originals-are w h k) x.id x.mount (original w h k x.id x.mount x.there x.space); space = refl }
+
+tree_has : (w : WorldView) (f : ℕ) → IsWellFormed w → Has w.next_space (with_tree (with_space w f) w.next_space)
+tree_has w f h = let x = root_has w f h in record { id = x.id; mount = x.mount; there = x.there; space = x.space }
 
 step_makes : (w : WorldView) (c : Command) (v : WorldView) (r : Reply) → IsWellFormed w → step w c ≡ Ok (v, r) → makes_space c ≡ true → Has w.next_space v
 unfolding step
@@ -121,6 +153,11 @@ step_makes w (CopySpace k less) v r g e m =
     let q = number_ok _ v r e in
     let a = copy_space_accepted w k less v q.0 q.1 in
     subst (Has w.next_space) a.world (copy_has w k less g (space_has k w g a.there))
+step_makes w (OpenTree n path recursive) v r g e m =
+    let q = number_ok _ v r e in
+    let root = opened_root w n path recursive v q.0 g q.1 in
+    record { id = root.0; mount = root.1; there = root.2; space = root.3 }
+step_makes w (NewTree fs) v r g e m = let q = number_ok _ v r e in subst (Has w.next_space) (tree_made_accepted w fs v q.0 q.1).world (tree_has w _ g)
 step_makes w c v r g e m = absurd (cc)
 
 -- so the namespace that a command makes has the next number, and is there
@@ -128,14 +165,50 @@ pub made_there : (w : WorldView) (c : Command) (v : WorldView) (r : Reply) → I
 made_there w c v r g s e m = has_space w.next_space v (step_kept w c v r g s e).0 (step_makes w c v r g e m)
 
 -- a namespace that is dropped is gone
-pub step_ends : (w : WorldView) (v : WorldView) (r : Reply) (n : ℕ) → IsWellFormed w → IsSkeleton w.skel → step w (DropSpace n) ≡ Ok (v, r) → is_space v n ≡ false
+dropped_ends : (w : WorldView) (v : WorldView) (r : Reply) (n : ℕ) → IsWellFormed w → IsSkeleton w.skel → step w (DropSpace n) ≡ Ok (v, r) → is_space v n ≡ false
 unfolding step without_space
-step_ends w v r n g s e = false_from_ne_true (is_space v n) (λ is.
+dropped_ends w v r n g s e = false_from_ne_true (is_space v n) (λ is.
     let x = space_has n v (step_kept w (DropSpace n) v r g s e).0 is in
     let at : mount_at (without_space w n).forest x.id ≡ Some x.mount = ap (λ (y : WorldView). mount_at y.forest x.id) (drop_space_accepted w n v (done_ok _ v r e)).world ∙ x.there in
     let off = (kept-row id_of (λ (m : Mount). m.space == n) w.forest g.forest.rising x.id x.mount at).1 in
     let space = x.space in
     absurd (grind (arith, nat_tests)))
+
+-- and one that is attached
+attached_ends : (w : WorldView) (v : WorldView) (r : Reply) (tree k : ℕ) (path : List (List ℕ)) → IsWellFormed w → IsSkeleton w.skel → step w (MoveTree tree k path) ≡ Ok (v, r) → is_space v tree ≡ false
+unfolding step copied
+attached_ends w v r tree k path g s e = false_from_ne_true (is_space v tree) (λ is.
+    let kept = (step_kept w (MoveTree tree k path) v r g s e).0 in
+    let a = attached_accepted w tree k path v (done_ok _ v r e) in
+    let p = path_end w k path in
+    let src = whole_tree w tree in
+    let root = space_root v.forest kept.forest.rising tree is in
+    let at : mount_at (copied w src p).forest root.0.id ≡ Some root.0 = ap (λ (y : WorldView). mount_at y.forest root.0.id) a.world ∙ root.1 in
+    elim (appended-row id_of (map (arranged w src p) w.forest) (new_mounts w src p) root.0.id root.0 at) [
+      | inl old ↦
+          let y = mapped-row id_of (arranged w src p) (arranged-id w src p) w.forest root.0.id root.0 old in
+          let on = (walked w k g path p a.ended).0 in
+          let home : space_of w p.mount ≡ k = space_is w p.mount on.0 on.1 ∙ on.2 in
+          let here = ap (λ (m : Mount). m.space) (sym y.2) ∙ root.3 in
+          elim (cases_eq y.0.space src.top.space) [
+            | inl same ↦ true≢false (sym (eq-eqb k tree (sym home ∙ sym (arranged-here w src p (whole_moves w tree) y.0 same) ∙ here)) ∙ a.apart)
+            | inr off ↦ off (sym (arranged-away w src p y.0 off) ∙ here ∙ sym (whole_space w tree a.there))
+          ]
+      | inr new ↦ new_placed w src p root.0 (row_in id_of root.0.id (new_mounts w src p) root.0 new) root.2
+    ])
+
+-- so is each one that a command ends
+pub step_ends : (w : WorldView) (c : Command) (v : WorldView) (r : Reply) (n : ℕ) → IsWellFormed w → IsSkeleton w.skel → step w c ≡ Ok (v, r) → ends_space n c ≡ true → is_space v n ≡ false
+step_ends w (DropSpace k) v r n g s e d = subst (λ j. is_space v j ≡ false) (eqb-true k n d) (dropped_ends w v r k g s e)
+step_ends w (MoveTree tree k path) v r n g s e d = subst (λ j. is_space v j ≡ false) (eqb-true tree n d) (attached_ends w v r tree k path g s e)
+step_ends w c v r n g s e d = absurd (cc)
+
+-- which was there
+pub ended_there : (w : WorldView) (c : Command) (v : WorldView) (r : Reply) (n : ℕ) → step w c ≡ Ok (v, r) → ends_space n c ≡ true → is_space w n ≡ true
+unfolding step
+ended_there w (DropSpace k) v r n e d = subst (λ j. is_space w j ≡ true) (eqb-true k n d) (drop_space_accepted w k v (done_ok _ v r e)).there
+ended_there w (MoveTree tree k path) v r n e d = subst (λ j. is_space w j ≡ true) (eqb-true tree n d) (attached_accepted w tree k path v (done_ok _ v r e)).there
+ended_there w c v r n e d = absurd (cc)
 
 -- one that was there and is gone does not come again
 pub step_gone : (w : WorldView) (c : Command) (v : WorldView) (r : Reply) (n : ℕ) → IsWellFormed w → IsSkeleton w.skel → step w c ≡ Ok (v, r) → n < w.next_space → is_space w n ≡ false → is_space v n ≡ false

@@ -17,7 +17,7 @@ use Rattle.mt_info.proofs.TableLaws.{table_rises}
 use Rattle.mt_events.specs.Difference.{HoldsChanged}
 use Rattle.mt_events.proofs.EmptyLaws.{all-weaker}
 use Rattle.mt_book.specs.declared.command.Command.{Command}
-use Rattle.mt_book.specs.declared.command.Command.TheVariants.{DropSpace}
+use Rattle.mt_book.specs.declared.command.Command.TheVariants.{DropSpace, MoveTree}
 use Rattle.mt_book.specs.declared.command.Reply.{Reply}
 use Rattle.mt_book.specs.Step.{step, makes_space, drops_space, ends_space, world_or, next_world, after}
 use Rattle.mt_book.specs.Book.{space_in, spaces_of, space_numbers, counted, with_newborn, still_there}
@@ -39,6 +39,7 @@ all_there w rs = list_all (λ r. is_space w (space_in r)) rs
 
 none_ends : (c : Command) (n : ℕ) → drops_space c ≡ false → ends_space n c ≡ false
 none_ends (DropSpace k) n d = absurd (cc)
+none_ends (MoveTree tree k path) n d = absurd (cc)
 none_ends c n d = refl
 
 -- with the one that a command makes

@@ -194,8 +194,9 @@ impl Book {
     /// Refused as `JournalFull` after 1,048,576 accepted commands, otherwise with the first of the command's own
     /// refusals that holds, and as `NoMemory`; then nothing has changed.
     ///
-    /// If it is issued in a namespace that was made by `copyns` with `less` and that no later command has copied, it
-    /// leaves the table and the number of every other namespace as they were (`inside`).
+    /// If it is issued in a namespace that was made by `copyns` with `less` and over whose border no later command has
+    /// brought mounts, by a copy or by a tree, it leaves the table and the number of every other namespace as they were
+    /// (`inside`).
     pub fn apply(&mut self, command: &Command) -> Result<(Reply, SharedPosts), Fault>
         ensures done { IfOk result (λ done. answer self.old.journal command.now ≡ Ok done.0) }
         ensures posts { IfOk result (λ done. done.1 ≡ posts_of self.old.journal command.now) }
@@ -270,8 +271,9 @@ impl Book {
     /// Does commands one after another, and answers each as `apply` does, including those that it refuses. The call
     /// itself is refused only where there is no room for the answers.
     ///
-    /// Each command of the journal that was issued in a namespace made by `copyns` with `less`, which no command had
-    /// copied since, has left the table and the number of every other namespace as they were (`inside`).
+    /// Each command of the journal that was issued in a namespace made by `copyns` with `less`, over whose border no
+    /// command had brought mounts since, by a copy or by a tree, has left the table and the number of every other
+    /// namespace as they were (`inside`).
     pub fn run(
         &mut self,
         commands: &[Command],

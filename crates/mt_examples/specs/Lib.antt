@@ -7,6 +7,7 @@ pub mod Prelude
 pub mod EscapedNames
 pub mod RefusalsOfMove
 pub mod DetachTakesTheTree
+pub mod DetachedTree
 pub mod OccupiedPlace
 pub mod Attributes
 pub mod OrderOfRefusals

@@ -11,7 +11,7 @@ use std::alloc::Global;
 use std::test::Fail;
 
 /// Lines, and what they ask for in namespace 1, in which a filesystem has its source for a name. A copied namespace is 3.
-const FORMS: [(&[u8], &[u8]); 52] = [
+const FORMS: [(&[u8], &[u8]); 53] = [
     (b"mount --bind /a /b", b"bind 1 /a /b\n"),
     (b"mount -B /a /b", b"bind 1 /a /b\n"),
     (b"mount -o bind /a /b", b"bind 1 /a /b\n"),
@@ -108,6 +108,7 @@ const FORMS: [(&[u8], &[u8]); 52] = [
     ),
     (b"detach 1 /home", b"detach 1 /home\n"),
     (b"copyns 1 less", b"copyns 1 less\n"),
+    (b"movetree 4 1 /mnt", b"movetree 4 1 /mnt\n"),
     (b"mount 1 usb /media/usb", b"mount 1 usb /media/usb\n"),
     (b"umount 1 /media/usb", b"umount 1 /media/usb\n"),
     (b"mkdir usb /a", b"mkdir usb /a\n"),

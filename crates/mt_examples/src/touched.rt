@@ -33,7 +33,7 @@ fn touches(alloc: Global, lines: &[u8], expected: &[MountId]) -> Result<bool, Fa
 
 #[test]
 fn a_command_touches_what_it_changes(rt: HostRuntime) -> Result<(), Fail> {
-    let cases: [(&[u8], &[MountId]); 10] = [
+    let cases: [(&[u8], &[MountId]); 12] = [
         (b"mkfs a tmpfs none\nnewns a", &[1]),
         (
             b"mkfs a tmpfs none\nnewns a\nmkdir a /m\nmount 1 a /m\nmount 1 a /m",
@@ -69,6 +69,15 @@ fn a_command_touches_what_it_changes(rt: HostRuntime) -> Result<(), Fail> {
         (
             b"mkfs h tmpfs none\nmkfs a ext4 /dev/x\nmkdir h /w\nmkdir h /v\nmkdir h /x\nnewns h\nmount 1 a /w\nsetattr 1 /w prop=shared\nbind 1 /w /v\nsetattr 1 /v prop=slave\nbind 1 /w /x",
             &[4],
+        ),
+        (
+            b"mkfs a tmpfs none\nnewns a\nsetattr 1 / prop=shared\nopentree 1 /",
+            &[2],
+        ),
+        // A tree brings a group into namespace 1, where a mount below it stays and tells no other one any more.
+        (
+            b"mkfs h tmpfs none\nmkfs a ext4 /dev/x\nmkdir h /w\nmkdir h /v\nmkdir h /f\nnewns h\nmount 1 a /w\nsetattr 1 /w prop=shared\nopentree 1 /w\nsetattr 2 / prop=slave\nsetattr 2 / prop=shared\nopentree 2 /\nsetattr 3 / prop=slave\nmovetree 3 1 /f\nmovetree 2 1 /v",
+            &[3, 4],
         ),
     ];
     for (lines, expected) in cases {

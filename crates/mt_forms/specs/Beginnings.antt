@@ -14,6 +14,7 @@ beginnings =
     ∷ (codes "nsenter", Runs tool.Nsenter) ∷ (codes "pivot_root", Runs tool.PivotRoot) ∷ (codes "mkdir", Mkdir)
     ∷ (codes "mkfs", Line) ∷ (codes "newns", Line) ∷ (codes "copyns", Line) ∷ (codes "dropns", Line) ∷ (codes "bind", Line) ∷ (codes "rbind", Line)
     ∷ (codes "move", Line) ∷ (codes "pivot", Line) ∷ (codes "detach", Line) ∷ (codes "setattr", Line)
+    ∷ (codes "opentree", Line) ∷ (codes "newtree", Line) ∷ (codes "movetree", Line)
     ∷ (codes "show", NoChange) ∷ (codes "find", NoChange) ∷ (codes "watch", NoChange) ∷ (codes "take", NoChange) ∷ (codes "follow", NoChange)
     ∷ (codes "close", NoChange) ∷ (codes "quit", NoChange) ∷ (codes "stop", NoChange) ∷ []
 

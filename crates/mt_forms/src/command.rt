@@ -50,7 +50,7 @@ pub enum Beginning {
 pub(crate) struct BeginningRow(pub(crate) &'static [u8], Beginning);
 
 /// All first words. Those of mount(8) and umount(8) begin lines of a session too, which have another form.
-pub(crate) const BEGINNINGS: [BeginningRow; 24] = [
+pub(crate) const BEGINNINGS: [BeginningRow; 27] = [
     BeginningRow(b"mount", Beginning::Runs(Tool::Mount)),
     BeginningRow(b"umount", Beginning::Runs(Tool::Umount)),
     BeginningRow(b"unshare", Beginning::Runs(Tool::Unshare)),
@@ -67,6 +67,9 @@ pub(crate) const BEGINNINGS: [BeginningRow; 24] = [
     BeginningRow(b"pivot", Beginning::Line),
     BeginningRow(b"detach", Beginning::Line),
     BeginningRow(b"setattr", Beginning::Line),
+    BeginningRow(b"opentree", Beginning::Line),
+    BeginningRow(b"newtree", Beginning::Line),
+    BeginningRow(b"movetree", Beginning::Line),
     BeginningRow(b"show", Beginning::NoChange),
     BeginningRow(b"find", Beginning::NoChange),
     BeginningRow(b"watch", Beginning::NoChange),

@@ -2,7 +2,7 @@
 -- A word with no source is this project's rule.
 use Rattle.std.specs.Prelude.{◌≡◌, ℕ, if◌then◌else◌, List, [], ◌∷◌, map, codes}
 use Rattle.mt_skel.specs.declared.fault.Fault.{Fault}
-use Rattle.mt_skel.specs.declared.fault.Fault.TheVariants.{BadAttr, Busy, EntryExists, FilesystemExists, IntoItself, Lagged, NoEntry, NoFilesystem, NoNamespace, NoWatcher, NotMountRoot, RootPlace, SharedParent, Stopped, TooMany, TooManyWatchers, Unbindable, UnbindableInside, WatcherOpen}
+use Rattle.mt_skel.specs.declared.fault.Fault.TheVariants.{BadAttr, Busy, Detached, EntryExists, FilesystemExists, IntoItself, Lagged, NoEntry, NoFilesystem, NoNamespace, NoWatcher, NotDetached, NotMountRoot, RootPlace, SharedParent, Stopped, TooMany, TooManyWatchers, Unbindable, UnbindableInside, WatcherOpen}
 use Rattle.mt_protocol.specs.Verbs.{verb_form, is_command}
 use Rattle.mt_protocol.specs.declared.form.Form.{Form}
 use Rattle.mt_protocol.specs.declared.form.Form.TheVariants.{Done, Number, Place, Table, Opening, Posts, Followed, Never}
@@ -27,6 +27,9 @@ example_of verb.Pivot = codes "pivot 1 /media /media/old"
 example_of verb.Umount = codes "umount 1 /media"
 example_of verb.Detach = codes "detach 1 /media"
 example_of verb.Setattr = codes "setattr 1 /media rec set=noatime clr=atime prop=slave"
+example_of verb.Opentree = codes "opentree 1 /srv rec"
+example_of verb.Newtree = codes "newtree usb"
+example_of verb.Movetree = codes "movetree 2 1 /mnt"
 example_of verb.Show = codes "show 1"
 example_of verb.Find = codes "find 1 /media/old"
 example_of verb.Watch = codes "watch all"
@@ -41,16 +44,19 @@ abbrev pub refusals_of : Verb → List Fault
 refusals_of verb.Mkfs = FilesystemExists ∷ TooMany ∷ []
 refusals_of verb.Mkdir = NoFilesystem ∷ NoEntry ∷ EntryExists ∷ TooMany ∷ []
 refusals_of verb.Newns = NoFilesystem ∷ TooMany ∷ []
-refusals_of verb.Copyns = NoNamespace ∷ TooMany ∷ []
+refusals_of verb.Copyns = NoNamespace ∷ Detached ∷ TooMany ∷ []
 refusals_of verb.Dropns = NoNamespace ∷ []
 refusals_of verb.Mount = NoFilesystem ∷ NoNamespace ∷ NoEntry ∷ RootPlace ∷ BadAttr ∷ TooMany ∷ []
 refusals_of verb.Bind = NoNamespace ∷ NoEntry ∷ RootPlace ∷ Unbindable ∷ TooMany ∷ []
 refusals_of verb.Rbind = NoNamespace ∷ NoEntry ∷ RootPlace ∷ Unbindable ∷ TooMany ∷ []
-refusals_of verb.Move = NoNamespace ∷ NoEntry ∷ NotMountRoot ∷ RootPlace ∷ SharedParent ∷ IntoItself ∷ UnbindableInside ∷ TooMany ∷ []
-refusals_of verb.Pivot = NoNamespace ∷ NoEntry ∷ NotMountRoot ∷ RootPlace ∷ SharedParent ∷ IntoItself ∷ []
-refusals_of verb.Umount = NoNamespace ∷ NoEntry ∷ NotMountRoot ∷ RootPlace ∷ Busy ∷ []
-refusals_of verb.Detach = NoNamespace ∷ NoEntry ∷ NotMountRoot ∷ RootPlace ∷ []
-refusals_of verb.Setattr = NoNamespace ∷ NoEntry ∷ NotMountRoot ∷ BadAttr ∷ []
+refusals_of verb.Move = NoNamespace ∷ Detached ∷ NoEntry ∷ NotMountRoot ∷ RootPlace ∷ SharedParent ∷ IntoItself ∷ UnbindableInside ∷ TooMany ∷ []
+refusals_of verb.Pivot = NoNamespace ∷ Detached ∷ NoEntry ∷ NotMountRoot ∷ RootPlace ∷ SharedParent ∷ IntoItself ∷ []
+refusals_of verb.Umount = NoNamespace ∷ Detached ∷ NoEntry ∷ NotMountRoot ∷ RootPlace ∷ Busy ∷ []
+refusals_of verb.Detach = NoNamespace ∷ Detached ∷ NoEntry ∷ NotMountRoot ∷ RootPlace ∷ []
+refusals_of verb.Setattr = NoNamespace ∷ NoEntry ∷ NotMountRoot ∷ BadAttr ∷ Detached ∷ []
+refusals_of verb.Opentree = NoNamespace ∷ NoEntry ∷ Unbindable ∷ TooMany ∷ []
+refusals_of verb.Newtree = NoFilesystem ∷ TooMany ∷ []
+refusals_of verb.Movetree = NoNamespace ∷ NotDetached ∷ NoEntry ∷ RootPlace ∷ IntoItself ∷ UnbindableInside ∷ TooMany ∷ []
 refusals_of verb.Show = NoNamespace ∷ []
 refusals_of verb.Find = NoNamespace ∷ NoEntry ∷ []
 refusals_of verb.Watch = WatcherOpen ∷ NoNamespace ∷ TooManyWatchers ∷ Stopped ∷ []

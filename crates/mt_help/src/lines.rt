@@ -48,7 +48,10 @@ pub fn note_of(verb: Verb) -> &'static str
         | Verb::Pivot
         | Verb::Umount
         | Verb::Detach
-        | Verb::Setattr => {
+        | Verb::Setattr
+        | Verb::Opentree
+        | Verb::Newtree
+        | Verb::Movetree => {
             "A line of a wrong form is refused as BadLine, TooLong or BadPath, and any command may be as JournalFull, Stopped or NoMemory."
         }
     }

@@ -22,7 +22,7 @@ pub fn refusals_of(verb: Verb) -> &'static [Fault]
             Fault::TooMany,
         ],
         Verb::Newns => &[Fault::NoFilesystem, Fault::TooMany],
-        Verb::Copyns => &[Fault::NoNamespace, Fault::TooMany],
+        Verb::Copyns => &[Fault::NoNamespace, Fault::Detached, Fault::TooMany],
         Verb::Dropns | Verb::Show => &[Fault::NoNamespace],
         Verb::Mount => &[
             Fault::NoFilesystem,
@@ -41,6 +41,7 @@ pub fn refusals_of(verb: Verb) -> &'static [Fault]
         ],
         Verb::Move => &[
             Fault::NoNamespace,
+            Fault::Detached,
             Fault::NoEntry,
             Fault::NotMountRoot,
             Fault::RootPlace,
@@ -51,6 +52,7 @@ pub fn refusals_of(verb: Verb) -> &'static [Fault]
         ],
         Verb::Pivot => &[
             Fault::NoNamespace,
+            Fault::Detached,
             Fault::NoEntry,
             Fault::NotMountRoot,
             Fault::RootPlace,
@@ -59,6 +61,7 @@ pub fn refusals_of(verb: Verb) -> &'static [Fault]
         ],
         Verb::Umount => &[
             Fault::NoNamespace,
+            Fault::Detached,
             Fault::NoEntry,
             Fault::NotMountRoot,
             Fault::RootPlace,
@@ -66,6 +69,7 @@ pub fn refusals_of(verb: Verb) -> &'static [Fault]
         ],
         Verb::Detach => &[
             Fault::NoNamespace,
+            Fault::Detached,
             Fault::NoEntry,
             Fault::NotMountRoot,
             Fault::RootPlace,
@@ -75,6 +79,23 @@ pub fn refusals_of(verb: Verb) -> &'static [Fault]
             Fault::NoEntry,
             Fault::NotMountRoot,
             Fault::BadAttr,
+            Fault::Detached,
+        ],
+        Verb::Opentree => &[
+            Fault::NoNamespace,
+            Fault::NoEntry,
+            Fault::Unbindable,
+            Fault::TooMany,
+        ],
+        Verb::Newtree => &[Fault::NoFilesystem, Fault::TooMany],
+        Verb::Movetree => &[
+            Fault::NoNamespace,
+            Fault::NotDetached,
+            Fault::NoEntry,
+            Fault::RootPlace,
+            Fault::IntoItself,
+            Fault::UnbindableInside,
+            Fault::TooMany,
         ],
         Verb::Find => &[Fault::NoNamespace, Fault::NoEntry],
         Verb::Watch => &[

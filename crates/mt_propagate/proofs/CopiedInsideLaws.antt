@@ -1,9 +1,9 @@
 -- Where copies of a source tree come to stand, a contained namespace stays contained, and what happens in it stays there.
 use Rattle.std.proofs.Common.{◌≡◌, ◌≢◌, ◌⊎◌, ℕ, ◌<◌, ◌≤◌, true, false, cond, ◌==◌, ◌&&◌, eqb, eqb-true, eq-eqb, List, [], ◌++◌, map, Option, Some, None, refl, sym, ap, ◌∙◌, subst, inl, inr, append-nil}
-use Rattle.std.specs.Prelude.{Bool, unwrap_or}
+use Rattle.std.specs.Prelude.{Bool, unwrap_or, is_none}
 use Rattle.std.specs.List.{filter, find}
 use Rattle.std.specs.Option.{option_map}
-use Rattle.std.proofs.lemmas.Bool.{ne_eqb}
+use Rattle.std.proofs.lemmas.Bool.{cases_eq, ne_eqb}
 use Rattle.std.proofs.lemmas.List.Elements.{filter-append}
 use Rattle.mt_skel.specs.Keyed.{rises}
 use Rattle.mt_skel.proofs.KeyedLaws.{row_at-key}
@@ -20,27 +20,31 @@ use Rattle.mt_peers.proofs.ReachLaws.{reaches-self}
 use Rattle.mt_propagate.specs.World.{WorldView, state_of, group_of, space_of, private}
 use Rattle.mt_propagate.specs.WellFormed.{IsWellFormed}
 use Rattle.mt_propagate.specs.Receivers.{targets}
-use Rattle.mt_propagate.specs.Copies.{Source, MountCopy, destinations, all_copies, new_copies, copy_id}
+use Rattle.mt_propagate.specs.Copies.{Source, MountCopy, is_whole, destinations, all_copies, new_copies, copy_id}
 use Rattle.mt_propagate.specs.Groups.{GroupKey, key_of, home, key_group, is_new_key, master_key, copy_state}
-use Rattle.mt_propagate.specs.Places.{copied_mount, new_mounts, relocated}
+use Rattle.mt_propagate.specs.Places.{copied_mount, new_mounts, arranged}
 use Rattle.mt_propagate.specs.Copied.{copied, regrouped, is_moved}
 use Rattle.mt_propagate.specs.Sound.{IsSource, IsDestination}
-use Rattle.mt_propagate.specs.Contained.{IsContained, IsSameOutside, IsLocal}
+use Rattle.mt_propagate.specs.Contained.{IsContained, IsSameOutside, CrossesNoBorder}
 use Rattle.mt_propagate.proofs.ContainLaws.{receiver_of, target_received, target_contained}
 use Rattle.mt_propagate.proofs.ContainedLaws.{master-is, contained}
-use Rattle.mt_propagate.proofs.ListedLaws.{relocated-same, regrouped-mount, relocated-space}
+use Rattle.mt_propagate.proofs.ListedLaws.{relocated-same, arranged-same, arranged-here, arranged-still, arranged-away, regrouped-mount}
 use Rattle.mt_mounts.proofs.SlotLaws.{none_found}
 use Rattle.mt_propagate.proofs.WalkLaws.{stands_at}
 use Rattle.mt_propagate.proofs.JoinLaws.{both_kinds, state_row}
 use Rattle.mt_propagate.proofs.RowLaws.{in_pairs, row-mapped, row-first, found-each, part-mapped, none-picked}
 use Rattle.mt_propagate.proofs.ShownLaws.{mount-state, state-group}
 use Rattle.mt_propagate.proofs.KeyLaws.{group_known, master_known, old_low, key_at, copy_in, state-unshared, state-shared, at_home, nearest, above_from, master_by_cases, key_in, new_number, old_key}
-use Rattle.mt_propagate.proofs.CopyRowLaws.{state_at_mount, space_is, in_mounts, new_target, num_here, each_copy, moving, kept, made}
+use Rattle.mt_propagate.proofs.CopyRowLaws.{state_at_mount, space_is, whole_moves, in_mounts, new_target, num_here, each_copy, moving, kept, made}
 use Rattle.mt_propagate.proofs.MovedLaws.{peer_rows, source_kept}
 
-module _ (w : WorldView) (h : IsWellFormed w) (src : Source) (dest : Place) (s : IsSource w src dest) (d : IsDestination w dest) (near : IsLocal w src dest) where
+module _ (w : WorldView) (h : IsWellFormed w) (src : Source) (dest : Place) (s : IsSource w src dest) (d : IsDestination w dest) (n : ℕ) (near : CrossesNoBorder n w src dest) where
+  -- of two namespaces on one side of the border, one is n where the other is
+  over : (a b : ℕ) → (a == n) ≡ (b == n) → a ≡ n → b ≡ n
+  over a b side q = eqb-true b n (sym side ∙ eq-eqb a n q)
+
   abbrev mounts : List Mount
-  mounts = map (relocated w src dest) w.forest ++ new_mounts w src dest
+  mounts = map (arranged w src dest) w.forest ++ new_mounts w src dest
 
   abbrev new_peer : MountCopy → Peer
   new_peer c = record { mount = copy_id w src dest c.target c.source; state = copy_state w src dest c }
@@ -56,43 +60,58 @@ module _ (w : WorldView) (h : IsWellFormed w) (src : Source) (dest : Place) (s :
   unfolding copied
   peers_rise = (source_kept w h src dest s d).peering.rising
 
-  old-space : (i : ℕ) (q : Mount) → mount_at w.forest i ≡ Some q → space i ≡ space_of w i
-  old-space i q e =
-      ap (λ o. unwrap_or (option_map (λ (m : Mount). m.space) o) 0) (kept w h src dest s d i q e)
-      ∙ relocated-space w src dest q ∙ sym (space_is w i q e)
+  -- no mount comes over the border
+  arranged-side : (i : ℕ) (q : Mount) → mount_at w.forest i ≡ Some q → ((arranged w src dest q).space == n) ≡ (q.space == n)
+  arranged-side i q e = go (is_whole src) refl
+    where
+      go : (b : Bool) → is_whole src ≡ b → ((arranged w src dest q).space == n) ≡ (q.space == n)
+      go false is = ap (λ k. k == n) (arranged-still w src dest is q)
+      go true is = elim (cases_eq q.space src.top.space) [
+        | inl same ↦
+            ap (λ k. k == n) (arranged-here w src dest is q same)
+            ∙ sym (near i q q ((whole_moves w h src dest s d is).all i q e same) e)
+        | inr off ↦ ap (λ k. k == n) (arranged-away w src dest q off)
+      ]
 
-  -- a source mount that is there is in the namespace of the place
-  near-mount : (m q : Mount) (i : ℕ) → In m src.mounts → m.id ≡ i → mount_at w.forest i ≡ Some q → q.space ≡ space_of w dest.mount
+  old-space : (i : ℕ) (q : Mount) → mount_at w.forest i ≡ Some q → (space i == n) ≡ (space_of w i == n)
+  old-space i q e =
+      ap (λ o. unwrap_or (option_map (λ (m : Mount). m.space) o) 0 == n) (kept w h src dest s d i q e)
+      ∙ arranged-side i q e ∙ ap (λ k. k == n) (sym (space_is w i q e))
+
+  -- a source mount that is there is on the side of the place
+  near-mount : (m q : Mount) (i : ℕ) → In m src.mounts → m.id ≡ i → mount_at w.forest i ≡ Some q → (q.space == n) ≡ (space_of w dest.mount == n)
   near-mount m q i e same f = near i m q (ap (mount_at src.mounts) (sym same) ∙ in_row id_of src.mounts m s.tree.rising e) f
 
-  near-space : (m q : Mount) (i : ℕ) → In m src.mounts → m.id ≡ i → mount_at w.forest i ≡ Some q → space_of w i ≡ space_of w dest.mount
-  near-space m q i e same f = space_is w i q f ∙ near-mount m q i e same f
+  near-space : (m q : Mount) (i : ℕ) → In m src.mounts → m.id ≡ i → mount_at w.forest i ≡ Some q → (space_of w i == n) ≡ (space_of w dest.mount == n)
+  near-space m q i e same f = ap (λ k. k == n) (space_is w i q f) ∙ near-mount m q i e same f
 
-  near-group : (m : Mount) (i g : ℕ) → In m src.mounts → m.id ≡ i → group_of w i ≡ Some g → space_of w i ≡ space_of w dest.mount
+  near-group : (m : Mount) (i g : ℕ) → In m src.mounts → m.id ≡ i → group_of w i ≡ Some g → (space_of w i == n) ≡ (space_of w dest.mount == n)
   near-group m i g e same is = let q = state_at_mount w h i (state_of w i) (group_known w i g is) in near-space m q.0 i e same q.1
 
-  near-master : (m : Mount) (i g : ℕ) → In m src.mounts → m.id ≡ i → (state_of w i).master ≡ Some g → space_of w i ≡ space_of w dest.mount
+  near-master : (m : Mount) (i g : ℕ) → In m src.mounts → m.id ≡ i → (state_of w i).master ≡ Some g → (space_of w i == n) ≡ (space_of w dest.mount == n)
   near-master m i g e same is = let q = state_at_mount w h i (state_of w i) (master_known w i g is) in near-space m q.0 i e same q.1
 
   -- each state is one that was there, or that of a copy
   abbrev Row : ℕ → State → Type 0
-  Row i t = ((state_at w.peering.peers i ≡ Some t) × (space i ≡ space_of w i)) ⊎ ((c : MountCopy) × In c (all_copies w src dest) × (t ≡ copy_state w src dest c) × (space i ≡ space_of w c.target))
+  Row i t =
+      ((state_at w.peering.peers i ≡ Some t) × ((space i == n) ≡ (space_of w i == n)))
+      ⊎ ((c : MountCopy) × In c (all_copies w src dest) × (t ≡ copy_state w src dest c) × ((space i == n) ≡ (space_of w c.target == n)))
 
-  -- a copy is in the namespace of its target
-  copy-space : (c : MountCopy) → In c (all_copies w src dest) → space (copy_id w src dest c.target c.source) ≡ space_of w c.target
-  copy-space = each_copy w h src dest s d (λ c. space (copy_id w src dest c.target c.source) ≡ space_of w c.target)
+  -- a copy is on the side of its target
+  copy-space : (c : MountCopy) → In c (all_copies w src dest) → (space (copy_id w src dest c.target c.source) == n) ≡ (space_of w c.target == n)
+  copy-space = each_copy w h src dest s d (λ c. (space (copy_id w src dest c.target c.source) == n) ≡ (space_of w c.target == n))
       (λ is m e.
       let q = (s.moves is).known m.id m (in_mounts w h src dest s d m e) in
-      ap space (num_here w h src dest s d m.id is) ∙ old-space m.id m q ∙ near-space m m m.id e refl q)
-      (λ t m e f. ap (λ o. unwrap_or (option_map (λ (m : Mount). m.space) o) 0) (made w h src dest s d t m e (in_mounts w h src dest s d m f)))
+      ap (λ k. space k == n) (num_here w h src dest s d m.id is) ∙ old-space m.id m q ∙ near-space m m m.id e refl q)
+      (λ t m e f. ap (λ o. unwrap_or (option_map (λ (m : Mount). m.space) o) 0 == n) (made w h src dest s d t m e (in_mounts w h src dest s d m f)))
 
   rows : (i : ℕ) (t : State) → state_at peers i ≡ Some t → Row i t
   rows i t e = elim (peer_rows w h src dest s d i t e) [
     | inl old ↦ let q = state_at_mount w h i t old in inl (old, old-space i q.0 q.1)
-    | inr new ↦ inr (new.0, new.1, new.2, ap space new.3 ∙ copy-space new.0 new.1)
+    | inr new ↦ inr (new.0, new.1, new.2, ap (λ k. space k == n) new.3 ∙ copy-space new.0 new.1)
   ]
 
-  module _ (n : ℕ) (c : IsContained n w) where
+  module _ (c : IsContained n w) where
     -- a place in the namespace has its targets there
     hit-inside : (t : ℕ) → In t (targets w dest) → space_of w dest.mount ≡ n → space_of w t ≡ n
     hit-inside t e here = target_contained n w c h.peering.rising dest t e here
@@ -111,15 +130,15 @@ module _ (w : WorldView) (h : IsWellFormed w) (src : Source) (dest : Place) (s :
     abbrev Grouped : ℕ → ℕ → Type 0
     Grouped i g =
         ((k : ℕ) × (group_of w k ≡ Some g) × (space i ≡ n → space_of w k ≡ n) × (space_of w k ≡ n → space i ≡ n))
-        ⊎ ((u : ℕ) × (k : GroupKey) × (key_at w h.peering src dest g ≡ Some k) × (group_of w u ≡ Some k.group) × (w.peering.next ≤ g) × (space i ≡ space_of w u))
+        ⊎ ((u : ℕ) × (k : GroupKey) × (key_at w h.peering src dest g ≡ Some k) × (group_of w u ≡ Some k.group) × (w.peering.next ≤ g) × ((space i == n) ≡ (space_of w u == n)))
 
     grouped : (i : ℕ) (t : State) (g : ℕ) → state_at peers i ≡ Some t → t.group ≡ Some g → Grouped i g
     grouped i t g e is = elim (rows i t e) [
-      | inl old ↦ inl (i, state-group w i g t old.0 is, λ q. sym old.1 ∙ q, λ q. old.1 ∙ q)
+      | inl old ↦ inl (i, state-group w i g t old.0 is, over (space i) (space_of w i) old.1, over (space_of w i) (space i) (sym old.1))
       | inr new ↦ by new.0 new.1 new.2 new.3 (home w src dest) refl
     ]
       where
-        at : (x : MountCopy) → In x (all_copies w src dest) → space i ≡ space_of w x.target → (a : ℕ) → group_of w x.target ≡ Some a → key_group w src dest (record { group = a; source = x.source }) ≡ g
+        at : (x : MountCopy) → In x (all_copies w src dest) → (space i == n) ≡ (space_of w x.target == n) → (a : ℕ) → group_of w x.target ≡ Some a → key_group w src dest (record { group = a; source = x.source }) ≡ g
             → (b : Bool) → is_new_key w (home w src dest) (record { group = a; source = x.source }) ≡ b → Grouped i g
         at x m sp a there same true new =
             let k : GroupKey = record { group = a; source = x.source } in
@@ -131,18 +150,23 @@ module _ (w : WorldView) (h : IsWellFormed w) (src : Source) (dest : Place) (s :
             let own : group_of w dest.mount ≡ Some a = named (group_of w dest.mount) a r.0 in
             let gs : group_of w x.source ≡ Some g = r.1 ∙ ap (λ v. Some v) same in
             let by_place = near-group o.1 x.source g o.2 o.3 gs in
-            inl (x.source, gs, λ q. by_place ∙ c.groups x.target dest.mount a there own (sym sp ∙ q), λ q. sp ∙ c.groups dest.mount x.target a own there (sym by_place ∙ q))
+            inl (
+              x.source,
+              gs,
+              λ q. over (space_of w dest.mount) (space_of w x.source) (sym by_place) (c.groups x.target dest.mount a there own (over (space i) (space_of w x.target) sp q)),
+              λ q. over (space_of w x.target) (space i) (sym sp) (c.groups dest.mount x.target a own there (over (space_of w x.source) (space_of w dest.mount) by_place q)),
+            )
 
-        shared : (x : MountCopy) → In x (all_copies w src dest) → space i ≡ space_of w x.target → (o : Option ℕ) → group_of w x.target ≡ o → option_map (key_group w src dest) (option_map (λ a. record { group = a; source = x.source }) o) ≡ Some g → Grouped i g
+        shared : (x : MountCopy) → In x (all_copies w src dest) → (space i == n) ≡ (space_of w x.target == n) → (o : Option ℕ) → group_of w x.target ≡ o → option_map (key_group w src dest) (option_map (λ a. record { group = a; source = x.source }) o) ≡ Some g → Grouped i g
         shared x m sp None there f = absurd (cc)
         shared x m sp (Some a) there f = at x m sp a there (let v : key_group w src dest (record { group = a; source = x.source }) ≡ g = cc in v) (is_new_key w (home w src dest) (record { group = a; source = x.source })) refl
 
-        by : (x : MountCopy) → In x (all_copies w src dest) → t ≡ copy_state w src dest x → space i ≡ space_of w x.target → (o : Option ℕ) → home w src dest ≡ o → Grouped i g
+        by : (x : MountCopy) → In x (all_copies w src dest) → t ≡ copy_state w src dest x → (space i == n) ≡ (space_of w x.target == n) → (o : Option ℕ) → home w src dest ≡ o → Grouped i g
         by x m same sp None there =
             let o = copy_in w h.peering src dest x m in
             let gs : group_of w x.source ≡ Some g = ap (λ (s : State). s.group) (sym (same ∙ state-unshared w h.peering src dest x there)) ∙ is in
-            let eq : space i ≡ space_of w x.source = sp ∙ target-alone x.target there o.0 ∙ sym (near-group o.1 x.source g o.2 o.3 gs) in
-            inl (x.source, gs, λ q. sym eq ∙ q, λ q. eq ∙ q)
+            let side : (space i == n) ≡ (space_of w x.source == n) = sp ∙ ap (λ k. k == n) (target-alone x.target there o.0) ∙ sym (near-group o.1 x.source g o.2 o.3 gs) in
+            inl (x.source, gs, over (space i) (space_of w x.source) side, over (space_of w x.source) (space i) (sym side))
         by x m same sp (Some q) there = shared x m sp (group_of w x.target) refl (ap (λ (s : State). s.group) (sym (same ∙ state-shared w h.peering src dest x q there)) ∙ is)
 
     -- a state with a master: like one that was there, or a slave of a new group
@@ -153,12 +177,12 @@ module _ (w : WorldView) (h : IsWellFormed w) (src : Source) (dest : Place) (s :
 
     mastered : (i : ℕ) (t : State) (g : ℕ) → state_at peers i ≡ Some t → t.master ≡ Some g → Mastered i g
     mastered i t g e is = elim (rows i t e) [
-      | inl old ↦ inl (i, inl (master-is w i g t old.0 is), λ q. old.1 ∙ q)
+      | inl old ↦ inl (i, inl (master-is w i g t old.0 is), over (space_of w i) (space i) (sym old.1))
       | inr new ↦ by new.0 new.1 new.2 new.3 (home w src dest) refl
     ]
       where
         -- a copy below a copy of the same source
-        at : (x : MountCopy) → In x (all_copies w src dest) → space i ≡ space_of w x.target → (a m : ℕ) → at_home w src dest x.target ≡ false → nearest w src dest x.target ≡ Some a
+        at : (x : MountCopy) → In x (all_copies w src dest) → (space i == n) ≡ (space_of w x.target == n) → (a m : ℕ) → at_home w src dest x.target ≡ false → nearest w src dest x.target ≡ Some a
             → (state_of w x.target).master ≡ Some m → In a (groups_up w.peering.peers m) → key_group w src dest (record { group = a; source = x.source }) ≡ g
             → (b : Bool) → is_new_key w (home w src dest) (record { group = a; source = x.source }) ≡ b → Mastered i g
         at x e sp a m off close up chain same true new =
@@ -166,22 +190,22 @@ module _ (w : WorldView) (h : IsWellFormed w) (src : Source) (dest : Place) (s :
             let mk : master_key w (home w src dest) (targets w dest) x ≡ Some k = (λ i. key_of (cond (off i) None (close i)) x.source) in
             let r = new_number w h.peering src dest k (key_in w h.peering src dest k x e (inr mk) new) new in
             let far : reaches w.peering.peers m a ≡ true = any_in (λ k. eqb k a) a (groups_up w.peering.peers m) chain (eq-eqb a a refl) in
-            inr (k, ap (key_at w h.peering src dest) (sym same) ∙ r.2, subst (λ v. w.peering.next ≤ v) same r.0, λ u there q. sp ∙ c.chains x.target u m a up there q far)
+            inr (k, ap (key_at w h.peering src dest) (sym same) ∙ r.2, subst (λ v. w.peering.next ≤ v) same r.0, λ u there q. over (space_of w x.target) (space i) (sym sp) (c.chains x.target u m a up there q far))
         at x e sp a m off close up chain same false old =
             let r = old_key w h.peering src dest (record { group = a; source = x.source }) old in
             let o = copy_in w h.peering src dest x e in
             let gs : group_of w x.source ≡ Some g = r.1 ∙ ap (λ v. Some v) same in
-            inl (x.source, inr gs, λ q. sp ∙ target-inside x.target o.0 (sym (near-group o.1 x.source g o.2 o.3 gs) ∙ q))
+            inl (x.source, inr gs, λ q. over (space_of w x.target) (space i) (sym sp) (target-inside x.target o.0 (over (space_of w x.source) (space_of w dest.mount) (near-group o.1 x.source g o.2 o.3 gs) q)))
 
-        by : (x : MountCopy) → In x (all_copies w src dest) → t ≡ copy_state w src dest x → space i ≡ space_of w x.target → (o : Option ℕ) → home w src dest ≡ o → Mastered i g
+        by : (x : MountCopy) → In x (all_copies w src dest) → t ≡ copy_state w src dest x → (space i == n) ≡ (space_of w x.target == n) → (o : Option ℕ) → home w src dest ≡ o → Mastered i g
         by x m same sp None there =
             let o = copy_in w h.peering src dest x m in
             let ms : (state_of w x.source).master ≡ Some g = ap (λ (s : State). s.master) (sym (same ∙ state-unshared w h.peering src dest x there)) ∙ is in
-            inl (x.source, inl ms, λ q. sp ∙ target-alone x.target there o.0 ∙ sym (near-master o.1 x.source g o.2 o.3 ms) ∙ q)
+            inl (x.source, inl ms, λ q. over (space_of w x.target) (space i) (sym sp) (target-alone x.target there o.0 ∙ over (space_of w x.source) (space_of w dest.mount) (near-master o.1 x.source g o.2 o.3 ms) q))
         by x m same sp (Some q) there =
             let o = copy_in w h.peering src dest x m in
             elim (master_by_cases w h.peering src dest (at_home w src dest x.target) (nearest w src dest x.target) x.source g (ap (λ (s : State). s.master) (sym (same ∙ state-shared w h.peering src dest x q there)) ∙ is)) [
-              | inl ms ↦ inl (x.source, inl ms, λ q. sp ∙ target-inside x.target o.0 (sym (near-master o.1 x.source g o.2 o.3 ms) ∙ q))
+              | inl ms ↦ inl (x.source, inl ms, λ q. over (space_of w x.target) (space i) (sym sp) (target-inside x.target o.0 (over (space_of w x.source) (space_of w dest.mount) (near-master o.1 x.source g o.2 o.3 ms) q)))
               | inr other ↦
                   let a = above_from w h.peering src dest (state_of w x.target).master other.0 other.2 in
                   at x m sp other.0 a.0 other.1 other.2 a.1 a.2 (sym other.3) (is_new_key w (home w src dest) (record { group = other.0; source = x.source })) refl
@@ -207,19 +231,25 @@ module _ (w : WorldView) (h : IsWellFormed w) (src : Source) (dest : Place) (s :
           (λ a b. a.3 (c.groups b.0 a.0 g b.1 a.1 (b.2 q)))
           (λ a b.
           let same : b.1.group ≡ a.1.group = ap (λ (k : GroupKey). k.group) (some-is b.1 a.1 (sym b.2 ∙ a.2)) in
-          a.5 ∙ c.groups b.0 a.0 b.1.group b.3 (a.3 ∙ ap (λ v. Some v) (sym same)) (sym b.5 ∙ q));
+          over (space_of w a.0) (space i) (sym a.5) (c.groups b.0 a.0 b.1.group b.3 (a.3 ∙ ap (λ v. Some v) (sym same)) (over (space j) (space_of w b.0) b.5 q)));
       masters = λ i j s t g ei ej mi gj q.
           both_kinds w.peering.next g (mastered i s g ei mi) (grouped j t g ej gj) (λ a. old-either a.0 g a.1) (λ b. old-group b.0 g b.1) (λ a. a.2) (λ b. b.4)
           (λ a b. a.2 (drawn a.0 b.0 g a.1 b.1 (b.2 q)))
           (λ a b.
           let same : b.1.group ≡ a.0.group = ap (λ (k : GroupKey). k.group) (some-is b.1 a.0 (sym b.2 ∙ a.1)) in
-          a.3 b.0 (b.3 ∙ ap (λ v. Some v) same) (sym b.5 ∙ q));
+          a.3 b.0 (b.3 ∙ ap (λ v. Some v) same) (over (space j) (space_of w b.0) b.5 q));
     })
 
     -- what happens at a place of the namespace
     module _ (here : space_of w dest.mount ≡ n) where
       top-inside : (m : Mount) → mount_at w.forest m.id ≡ Some m → src.moved ≡ true → m.id ≡ src.top.id → m.space ≡ n
-      top-inside m e moved same = near m.id src.top m (ap (mount_at src.mounts) same ∙ s.tree.top_there) e ∙ here
+      top-inside m e moved same = over (space_of w dest.mount) m.space (sym (near m.id src.top m (ap (mount_at src.mounts) same ∙ s.tree.top_there) e)) here
+
+      -- and so is a whole tree
+      whole-inside : is_whole src ≡ true → src.top.space ≡ n
+      whole-inside whole =
+          let moves = and_first src.moved (is_none src.top.place) whole in
+          top-inside src.top ((s.moves moves).known src.top.id src.top s.tree.top_there) moves refl
 
       way-inside : (m : Mount) (t : ℕ) → mount_at w.forest m.id ≡ Some m → find (λ t. is_at (record { mount = t; dir = dest.dir }) m) (targets w dest) ≡ Some t → m.space ≡ n
       way-inside m t e is =
@@ -227,28 +257,44 @@ module _ (w : WorldView) (h : IsWellFormed w) (src : Source) (dest : Place) (s :
           let p = h.forest.placed m.id m (record { mount = t; dir = dest.dir }) e (stands_at (record { mount = t; dir = dest.dir }) m f.1) in
           sym p.2 ∙ sym (space_is w t p.0 p.1) ∙ hit-inside t f.0 here
 
-      stays : (m : Mount) → mount_at w.forest m.id ≡ Some m → m.space ≢ n → relocated w src dest m ≡ m
+      stays : (m : Mount) → mount_at w.forest m.id ≡ Some m → m.space ≢ n → arranged w src dest m ≡ m
       stays m e off =
-          relocated-same w src dest m (no_top (src.moved && (m.id == src.top.id)) refl)
-          (none_found _ (λ t is. off (way-inside m t e is)))
+          arranged-same w src dest m
+          (relocated-same w src dest m (no_top (src.moved && (m.id == src.top.id)) refl) (none_found _ (λ t is. off (way-inside m t e is))))
+          (no_home (is_whole src && (m.space == src.top.space)) refl)
         where
+          no_home : (b : Bool) → (is_whole src && (m.space == src.top.space)) ≡ b → (is_whole src && (m.space == src.top.space)) ≡ false
+          no_home false is = is
+          no_home true is = absurd (off (eqb-true m.space src.top.space (and_second (is_whole src) (m.space == src.top.space) is) ∙ whole-inside (and_first (is_whole src) (m.space == src.top.space) is)))
+
           no_top : (b : Bool) → (src.moved && (m.id == src.top.id)) ≡ b → (src.moved && (m.id == src.top.id)) ≡ false
           no_top false is = is
           no_top true is = absurd (off (top-inside m e (and_first src.moved (m.id == src.top.id) is) (eqb-true m.id src.top.id (and_second src.moved (m.id == src.top.id) is))))
 
+      -- each mount stays in its namespace
+      same-space : (m : Mount) → (arranged w src dest m).space ≡ m.space
+      same-space m = go (is_whole src) refl
+        where
+          go : (b : Bool) → is_whole src ≡ b → (arranged w src dest m).space ≡ m.space
+          go false is = arranged-still w src dest is m
+          go true is = elim (cases_eq m.space src.top.space) [
+            | inl same ↦ arranged-here w src dest is m same ∙ here ∙ sym (whole-inside is) ∙ sym same
+            | inr off ↦ arranged-away w src dest m off
+          ]
+
       same-mounts : (k : ℕ) → k ≢ n → filter (in_space k) mounts ≡ filter (in_space k) w.forest
       same-mounts k off =
-          filter-append (in_space k) (map (relocated w src dest) w.forest) (new_mounts w src dest)
+          filter-append (in_space k) (map (arranged w src dest) w.forest) (new_mounts w src dest)
           ∙ (λ i. old i ++ new i) ∙ append-nil (filter (in_space k) w.forest)
         where
           apart : (m : Mount) → in_space k m ≡ true → m.space ≢ n
           apart m is same = off (sym (eqb-true m.space k is) ∙ same)
 
-          old : filter (in_space k) (map (relocated w src dest) w.forest) ≡ filter (in_space k) w.forest
+          old : filter (in_space k) (map (arranged w src dest) w.forest) ≡ filter (in_space k) w.forest
           old =
-              part-mapped (in_space k) (relocated w src dest) w.forest
-              (each_still (λ m. mount_at w.forest m.id ≡ Some m) (λ m. (in_space k (relocated w src dest m) ≡ in_space k m) × (in_space k m ≡ true → relocated w src dest m ≡ m))
-              (λ m e. (ap (λ v. v == k) (relocated-space w src dest m), λ is. stays m e (apart m is))) w.forest (found-each id_of w.forest h.forest.rising))
+              part-mapped (in_space k) (arranged w src dest) w.forest
+              (each_still (λ m. mount_at w.forest m.id ≡ Some m) (λ m. (in_space k (arranged w src dest m) ≡ in_space k m) × (in_space k m ≡ true → arranged w src dest m ≡ m))
+              (λ m e. (ap (λ v. v == k) (same-space m), λ is. stays m e (apart m is))) w.forest (found-each id_of w.forest h.forest.rising))
 
           new : filter (in_space k) (new_mounts w src dest) ≡ []
           new = none-picked (in_space k) (new_mounts w src dest) (λ a e.
@@ -267,7 +313,7 @@ module _ (w : WorldView) (h : IsWellFormed w) (src : Source) (dest : Place) (s :
         where
           unmoved : (x : Peer) → x.mount ≡ i → (b : Bool) → is_moved w src dest x.mount ≡ b → cond b (record { mount = x.mount; state = copy_state w src dest (record { target = dest.mount; source = x.mount }) }) x ≡ x
           unmoved x key false is = refl
-          unmoved x key true is = absurd (let m = moving w h src dest s d x.mount is in off (near-mount m.1 q i m.2 (m.3 ∙ key) e ∙ here))
+          unmoved x key true is = absurd (let m = moving w h src dest s d x.mount is in off (over (space_of w dest.mount) q.space (sym (near-mount m.1 q i m.2 (m.3 ∙ key) e)) here))
 
       pub copied-outside : IsSameOutside n w (copied w src dest)
       unfolding copied

@@ -1,5 +1,5 @@
 //! The namespaces that are detached trees.
-ghost use Rattle.std.specs.Prelude.{◌≡◌, ◌==◌, [], length, IfOk, OnOk, IsOkUnless};
+ghost use Rattle.std.specs.Prelude.{◌≡◌, ◌==◌, [], ◌∷◌, ◌++◌, length, IfOk, OnOk, OnErr, IsOkUnless};
 ghost use Rattle.mt_skel.specs.Keyed.{among, without};
 
 use mt_mounts::mount::SpaceId;
@@ -69,6 +69,16 @@ impl Trees {
         ensures { result ≡ among self.now space }
     {
         is_among(&self.spaces, space)
+    }
+
+    /// Adds one, which is above all that are there.
+    pub(crate) fn add(&mut self, space: SpaceId) -> Result<(), Fault>
+        ensures added { OnOk result (self.new ≡ self.old ++ space ∷ []) }
+        ensures unchanged { OnErr result (self.new ≡ self.old) }
+        ensures memory { IsOkUnless result Fault.NoMemory }
+    {
+        self.spaces.push(space)?;
+        Ok(())
     }
 
     /// Takes one out. Takes no memory.

@@ -5,7 +5,7 @@ use Rattle.std.specs.List.{find}
 use Rattle.std.specs.Str.{bytes_eq}
 use Rattle.mt_skel.specs.Fault.{name_of}
 use Rattle.mt_skel.specs.declared.fault.Fault.{Fault}
-use Rattle.mt_skel.specs.declared.fault.Fault.TheVariants.{TooLong, NoEntry, EntryExists, NotMountRoot, RootPlace, Unbindable, SharedParent, IntoItself, UnbindableInside, Busy, BadAttr, NoMemory}
+use Rattle.mt_skel.specs.declared.fault.Fault.TheVariants.{TooLong, NoEntry, EntryExists, NotMountRoot, RootPlace, Unbindable, SharedParent, IntoItself, UnbindableInside, Busy, BadAttr, NoMemory, Detached, NotDetached}
 use Rattle.mt_protocol.specs.declared.errno.Errno.{Errno}
 use Rattle.mt_protocol.specs.declared.errno.Errno.TheVariants.{Ebusy, Eexist, Einval, Eloop, Enametoolong, Enoent, Enomem}
 use Rattle.mt_protocol.specs.declared.refusal.TheConstants.{REFUSALS}
@@ -28,4 +28,6 @@ errnos_of UnbindableInside = Einval ∷ []
 errnos_of Busy = Ebusy ∷ []
 errnos_of BadAttr = Einval ∷ []
 errnos_of NoMemory = Enomem ∷ []
+errnos_of Detached = Einval ∷ []
+errnos_of NotDetached = Einval ∷ []
 errnos_of refusal = []

@@ -6,11 +6,11 @@ use Rattle.std.specs.Option.{option_map_or}
 use Rattle.std.specs.Str.{bytes_eq}
 use Rattle.mt_lines.specs.Words.{words}
 use Rattle.mt_protocol.specs.declared.argument.Argument.{Argument}
-use Rattle.mt_protocol.specs.declared.argument.Argument.TheVariants.{Space, Scope, Count, Label, Path, Less, Attributes, Setting}
+use Rattle.mt_protocol.specs.declared.argument.Argument.TheVariants.{Space, Scope, Count, Label, Path, Less, Recursive, Attributes, Setting}
 use Rattle.mt_protocol.specs.declared.form.Form.{Form}
 use Rattle.mt_protocol.specs.declared.form.Form.TheVariants.{Done, Number, Place, Table, Opening, Posts, Followed, Never}
 use Rattle.mt_protocol.specs.declared.verb.Verb.{Verb}
-use Rattle.mt_protocol.specs.declared.verb.Verb.TheVariants.{Mkfs, Mkdir, Newns, Copyns, Dropns, Mount, Bind, Rbind, Move, Pivot, Umount, Detach, Setattr, Show, Find, Watch, Take, Follow, Close, Quit, Stop}
+use Rattle.mt_protocol.specs.declared.verb.Verb.TheVariants.{Mkfs, Mkdir, Newns, Copyns, Dropns, Mount, Bind, Rbind, Move, Pivot, Umount, Detach, Setattr, Opentree, Newtree, Movetree, Show, Find, Watch, Take, Follow, Close, Quit, Stop}
 use Rattle.mt_protocol.specs.Rows.{VerbRow}
 
 -- the most posts of one `take`, and of one `follow`
@@ -42,6 +42,9 @@ verb_row Pivot = command (codes "pivot") (Space ∷ Path ∷ Path ∷ []) Done
 verb_row Umount = command (codes "umount") (Space ∷ Path ∷ []) Done
 verb_row Detach = command (codes "detach") (Space ∷ Path ∷ []) Done
 verb_row Setattr = command (codes "setattr") (Space ∷ Path ∷ Setting ∷ Setting ∷ Setting ∷ Setting ∷ []) Done
+verb_row Opentree = command (codes "opentree") (Space ∷ Path ∷ Recursive ∷ []) Number
+verb_row Newtree = command (codes "newtree") (Label ∷ []) Number
+verb_row Movetree = command (codes "movetree") (Space ∷ Space ∷ Path ∷ []) Done
 verb_row Show = other (codes "show") (Space ∷ []) Table
 verb_row Find = other (codes "find") (Space ∷ Path ∷ []) Place
 verb_row Watch = other (codes "watch") (Scope ∷ []) Opening
@@ -70,13 +73,14 @@ is_command verb = (verb_row verb).command
 -- an argument that may be left out
 abbrev pub is_optional : Argument → Bool
 is_optional Less = true
+is_optional Recursive = true
 is_optional Attributes = true
 is_optional Setting = true
 is_optional argument = false
 
 -- every verb
 abbrev pub verbs : List Verb
-verbs = Mkfs ∷ Mkdir ∷ Newns ∷ Copyns ∷ Dropns ∷ Mount ∷ Bind ∷ Rbind ∷ Move ∷ Pivot ∷ Umount ∷ Detach ∷ Setattr ∷ Show ∷ Find ∷ Watch ∷ Take ∷ Follow ∷ Close ∷ Quit ∷ Stop ∷ []
+verbs = Mkfs ∷ Mkdir ∷ Newns ∷ Copyns ∷ Dropns ∷ Mount ∷ Bind ∷ Rbind ∷ Move ∷ Pivot ∷ Umount ∷ Detach ∷ Setattr ∷ Opentree ∷ Newtree ∷ Movetree ∷ Show ∷ Find ∷ Watch ∷ Take ∷ Follow ∷ Close ∷ Quit ∷ Stop ∷ []
 
 -- the verb of a word, if it is that of one
 unfoldable pub verb_of : List ℕ → Option Verb

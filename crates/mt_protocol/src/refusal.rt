@@ -13,7 +13,7 @@ use mt_skel::fault::Fault;
 use std::marker::Model;
 
 /// Every refusal of a server, in the order of the pages.
-pub const REFUSALS: [Fault; 24] = [
+pub const REFUSALS: [Fault; 26] = [
     Fault::BadLine,
     Fault::TooLong,
     Fault::BadPath,
@@ -38,6 +38,8 @@ pub const REFUSALS: [Fault; 24] = [
     Fault::Lagged,
     Fault::Stopped,
     Fault::NoMemory,
+    Fault::Detached,
+    Fault::NotDetached,
 ];
 
 /// A case in which Linux has an error in the place of a refusal: the error, and the calls that have it.
@@ -302,6 +304,24 @@ pub fn refusal_row(refusal: Fault) -> RefusalRow
             }]),
             "how much memory there is",
             "the same line again",
+        ),
+        Fault::Detached => row(
+            "The namespace is a detached tree, in which this is not done.",
+            Errors(&[Case {
+                errno: Einval,
+                calls: "mount(2), umount2(2), pivot_root(2), or mount_setattr(2) below the root mount of a tree",
+            }]),
+            "the line that made it: opentree or newtree",
+            "movetree TREE NS PATH, then the line in NS",
+        ),
+        Fault::NotDetached => row(
+            "The namespace that is to be attached is no detached tree.",
+            Errors(&[Case {
+                errno: Einval,
+                calls: "move_mount(2)",
+            }]),
+            "the number that opentree or newtree answered",
+            "opentree NS / rec, then movetree of the tree",
         ),
     }
 }

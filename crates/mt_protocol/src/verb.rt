@@ -5,7 +5,9 @@ ghost use Rattle.std.specs.Str.{bytes_eq};
 ghost use Rattle.mt_protocol.specs.Verbs.{verb_row, verb_word, verb_arguments, verb_form, is_command, verb_of};
 
 use crate::argument::Argument;
-use crate::argument::Argument::{Attributes, Count, Label, Less, Path, Scope, Setting, Space};
+use crate::argument::Argument::{
+    Attributes, Count, Label, Less, Path, Recursive, Scope, Setting, Space,
+};
 use crate::form::Form;
 use crate::form::Form::{Done, Followed, Number, Opening, Place, Posts, Table};
 use std::marker::Model;
@@ -39,6 +41,12 @@ pub enum Verb {
     Detach,
     /// `setattr` changes attributes and propagation.
     Setattr,
+    /// `opentree` copies a directory's mounts into a detached tree.
+    Opentree,
+    /// `newtree` makes a detached tree of a filesystem.
+    Newtree,
+    /// `movetree` attaches a detached tree at a path.
+    Movetree,
     /// `show` lists the mounts of a namespace.
     Show,
     /// `find` says where a path ends.
@@ -58,7 +66,7 @@ pub enum Verb {
 }
 
 /// Every verb, in the order of the help.
-pub const VERBS: [Verb; 21] = [
+pub const VERBS: [Verb; 24] = [
     Verb::Mkfs,
     Verb::Mkdir,
     Verb::Newns,
@@ -72,6 +80,9 @@ pub const VERBS: [Verb; 21] = [
     Verb::Umount,
     Verb::Detach,
     Verb::Setattr,
+    Verb::Opentree,
+    Verb::Newtree,
+    Verb::Movetree,
     Verb::Show,
     Verb::Find,
     Verb::Watch,
@@ -222,6 +233,18 @@ impl Verb {
             .says(
                 "setattr NS PATH [rec] [set=W,..] [clr=W,..] [prop=KIND]",
                 "changes attributes and propagation (shared, private, slave, unbindable)",
+            ),
+            Verb::Opentree => command(b"opentree", &[Space, Path, Recursive], Number).says(
+                "opentree NS PATH [rec]",
+                "copies what is mounted at a path into a detached tree, or all below it too",
+            ),
+            Verb::Newtree => command(b"newtree", &[Label], Number).says(
+                "newtree FS",
+                "makes a detached tree with a filesystem as its root mount",
+            ),
+            Verb::Movetree => command(b"movetree", &[Space, Space, Path], Done).says(
+                "movetree TREE NS PATH",
+                "attaches a detached tree at a path",
             ),
             Verb::Show => other(b"show", &[Space], Table).says(
                 "show NS",

@@ -15,9 +15,9 @@ use Rattle.mt_propagate.specs.World.{WorldView}
 use Rattle.mt_propagate.specs.WellFormed.{IsWellFormed}
 use Rattle.mt_propagate.specs.Receivers.{is_attached, targets}
 use Rattle.mt_propagate.specs.Copies.{Source, destinations, new_copies, copy_eq}
-use Rattle.mt_propagate.specs.Places.{relocated, copied_mount, new_mounts}
+use Rattle.mt_propagate.specs.Places.{arranged, copied_mount, new_mounts}
 use Rattle.mt_propagate.specs.Copied.{copied}
-use Rattle.mt_propagate.proofs.ListedLaws.{relocated-id}
+use Rattle.mt_propagate.proofs.ListedLaws.{arranged-id}
 use Rattle.mt_bind.specs.Sources.{fresh}
 use Rattle.mt_bind.specs.Mounting.{mounted}
 use Rattle.mt_bind.proofs.AcceptedLaws.{path_end, fs_of, mount_accepted}
@@ -48,11 +48,11 @@ module _ (w : WorldView) (h : IsWellFormed w) (fs : ℕ) (p : Place) where
   abbrev is_new : Mount → Bool
   is_new m = not (has id_of m.id w.forest)
 
-  -- what was there is not new, be it relocated
-  old_there : (m : Mount) → In m (map (relocated w src p) w.forest) → is_new m ≡ false
+  -- what was there is not new, whatever becomes of it
+  old_there : (m : Mount) → In m (map (arranged w src p) w.forest) → is_new m ≡ false
   old_there m at =
-      let r = in_map (relocated w src p) m w.forest at in
-      let id : m.id ≡ id_of r.0 = ap id_of (sym r.2) ∙ relocated-id w src p r.0 in
+      let r = in_map (arranged w src p) m w.forest at in
+      let id : m.id ≡ id_of r.0 = ap id_of (sym r.2) ∙ arranged-id w src p r.0 in
       ap (λ o. not (is_some o)) (ap (mount_at w.forest) id ∙ in_row id_of w.forest r.0 h.forest.rising r.1)
 
   -- no mount has a number as high as the next
@@ -80,7 +80,7 @@ module _ (w : WorldView) (h : IsWellFormed w) (fs : ℕ) (p : Place) where
   pub new_at : new_places w (copied w src p) ≡ map (λ t. Some (record { mount = t; dir = p.dir })) (p.mount ∷ targets w p)
   unfolding copied
   new_at =
-      ap (map (λ (m : Mount). m.place)) (second_passes is_new (map (relocated w src p) w.forest) (new_mounts w src p) old_there ∙ all_pass is_new (new_mounts w src p) new_there)
+      ap (map (λ (m : Mount). m.place)) (second_passes is_new (map (arranged w src p) w.forest) (new_mounts w src p) old_there ∙ all_pass is_new (new_mounts w src p) new_there)
       ∙ places
 
 same_end : (r : Result Place Fault) (p q : Place) → r ≡ Ok p → r ≡ Ok q → p ≡ q

@@ -101,6 +101,17 @@ fn less_reason(word: &[u8]) -> Option<Reason<'_>>
     }
 }
 
+/// What is wrong with a word that stands for `rec`.
+fn recursive_reason(word: &[u8]) -> Option<Reason<'_>>
+    ensures { Judges arguments.Recursive word.now result }
+{
+    if word == b"rec".as_slice() {
+        None
+    } else {
+        Some(Reason::Recursive { word })
+    }
+}
+
 /// What is wrong with a word as an argument.
 #[tactic(auto, using(crate::proofs::ReadLaws::label_fine, crate::proofs::ReadLaws::path_fine))]
 fn word_reason(argument: Argument, word: &[u8]) -> Option<Reason<'_>>
@@ -113,6 +124,7 @@ fn word_reason(argument: Argument, word: &[u8]) -> Option<Reason<'_>>
         Argument::Count(most) => count_reason(word, most),
         Argument::Label | Argument::Path => text_reason(word),
         Argument::Less => less_reason(word),
+        Argument::Recursive => recursive_reason(word),
         Argument::Attributes => attributes_reason(word),
         Argument::Setting => option_reason(word),
     }

@@ -52,6 +52,10 @@ pub enum Reason<'a> {
     Less {
         word: &'a [u8],
     },
+    /// Another word stands where `rec` may stand.
+    Recursive {
+        word: &'a [u8],
+    },
     /// Another word stands where `set=` may stand.
     NoAttributes {
         word: &'a [u8],
@@ -139,6 +143,9 @@ impl<'a> Reason<'a> {
                 Shown(*word)
             ),
             Reason::Less { word } => { write!(f, "{}: only less may stand there", Shown(*word)) }
+            Reason::Recursive { word } => {
+                write!(f, "{}: only rec may stand there", Shown(*word))
+            }
             Reason::NoAttributes { word } => {
                 write!(f, "{}: only set= with words may stand there", Shown(*word))
             }

@@ -6,7 +6,7 @@ use Rattle.mt_book.specs.declared.command.Command.TheVariants as command
 use Rattle.mt_refused.specs.declared.asked.Which.{Which}
 use Rattle.mt_refused.specs.declared.asked.Which.TheVariants.{First, Second}
 
--- its namespace, if it has one
+-- its namespace, in which its paths are looked up, if it has one
 abbrev pub asked_space : Command → Option ℕ
 asked_space (command.CopySpace n less) = Some n
 asked_space (command.DropSpace n) = Some n
@@ -18,7 +18,14 @@ asked_space (command.Pivot n new old) = Some n
 asked_space (command.Unmount n path) = Some n
 asked_space (command.Detach n path) = Some n
 asked_space (command.SetAttr n path change) = Some n
+asked_space (command.OpenTree n path recursive) = Some n
+asked_space (command.MoveTree tree n path) = Some n
 asked_space c = None
+
+-- the namespace that it attaches, if it does that
+abbrev pub asked_tree : Command → Option ℕ
+asked_tree (command.MoveTree tree n path) = Some tree
+asked_tree c = None
 
 -- its only path in a namespace, or the first of two
 abbrev pub first_path : Command → Option (List (List ℕ))
@@ -30,22 +37,26 @@ first_path (command.Pivot n new old) = Some new
 first_path (command.Unmount n path) = Some path
 first_path (command.Detach n path) = Some path
 first_path (command.SetAttr n path change) = Some path
+first_path (command.OpenTree n path recursive) = Some path
 first_path c = None
 
--- the second of two
+-- the second of two, or that of a tree that is attached
 abbrev pub second_path : Command → Option (List (List ℕ))
 second_path (command.Bind n src dst recursive) = Some dst
 second_path (command.Move n src dst) = Some dst
 second_path (command.Pivot n new old) = Some old
+second_path (command.MoveTree tree n path) = Some path
 second_path c = None
 
 abbrev pub asked_path : Command → Which → Option (List (List ℕ))
 asked_path c First = first_path c
 asked_path c Second = second_path c
 
-abbrev pub is_bind : Command → Bool
-is_bind (command.Bind n src dst recursive) = true
-is_bind c = false
+-- it copies what is at its first path, which may be any directory
+abbrev pub copies_mounts : Command → Bool
+copies_mounts (command.Bind n src dst recursive) = true
+copies_mounts (command.OpenTree n path recursive) = true
+copies_mounts c = false
 
 abbrev pub is_pivot : Command → Bool
 is_pivot (command.Pivot n new old) = true

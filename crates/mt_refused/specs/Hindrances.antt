@@ -18,28 +18,32 @@ use Rattle.mt_refused.specs.declared.asked.Which.TheVariants.{First, Second}
 use Rattle.mt_refused.specs.declared.ending.Ending.{Ending}
 use Rattle.mt_refused.specs.declared.hindrance.Hindrance.{Hindrance}
 use Rattle.mt_refused.specs.declared.hindrance.Hindrance.TheVariants as hindrance
-use Rattle.mt_refused.specs.Asked.{asked_space, is_bind, is_pivot}
-use Rattle.mt_refused.specs.Endings.{place_ended, end_at}
+use Rattle.mt_refused.specs.Asked.{asked_space, asked_tree, copies_mounts, is_pivot}
+use Rattle.mt_refused.specs.Endings.{place_ended, end_at, moved_top}
 
 -- a hindrance, where it has mounts
 abbrev pub if_any : List ℕ → Hindrance → Option Hindrance
 if_any ids why = cond (nat_eq (length ids) 0) None (Some why)
 
+-- `NoNamespace`: a namespace has no root mount (setns(2), ESRCH)
+abbrev pub lacks_root : List SeenRow → ℕ → Option Hindrance
+lacks_root rows n = cond (is_none (root_row rows n)) (Some (hindrance.NoNamespace n)) None
+
 module _ (rows : List SeenRow) (c : Command) where
-  -- `NoNamespace`: the namespace has no root mount (setns(2), ESRCH)
+  -- it is that of a tree that would be attached, or of the paths
   abbrev pub no_namespace : Option Hindrance
-  no_namespace = option_and_then (λ n. cond (is_none (root_row rows n)) (Some (hindrance.NoNamespace n)) None) (asked_space c)
+  no_namespace = option_or (option_and_then (lacks_root rows) (asked_tree c)) (option_and_then (lacks_root rows) (asked_space c))
 
   -- `NotMountRoot`: the first path ends in a directory of a mount that is not the one at its root (umount2(2), EINVAL)
   abbrev pub off_root_met : Option Hindrance
   off_root_met = option_and_then (λ (e : Ending). option_map (λ on. hindrance.OffRoot on) (refusals.off_root rows e.mount e.directory)) (place_ended rows c First)
 
-  -- `RootPlace`: a path ends at the root of a namespace's root mount, the source of a bind excepted (pivot_root(2), EBUSY)
+  -- `RootPlace`: a path ends at the root of a namespace's root mount, what is copied excepted (pivot_root(2), EBUSY)
   abbrev pub root_place_met_at : Which → Option Hindrance
   root_place_met_at which = option_and_then (λ (e : Ending). option_map (λ root. hindrance.RootPlace which root) (refusals.at_root_place rows e.mount e.directory)) (place_ended rows c which)
 
   abbrev pub first_root_place : Option Hindrance
-  first_root_place = cond (is_bind c) None (root_place_met_at First)
+  first_root_place = cond (copies_mounts c) None (root_place_met_at First)
 
   abbrev pub root_place_met : Option Hindrance
   root_place_met = option_or first_root_place (root_place_met_at Second)
@@ -62,13 +66,13 @@ module _ (rows : List SeenRow) (c : Command) where
   -- `UnbindableInside`: a tree with unbindable mounts would stand on a shared one (`sharedsubtree`, move semantics)
   abbrev pub unbindable_inside_met : Option Hindrance
   unbindable_inside_met =
-      option_and_then (λ tree. option_and_then (λ onto. if_any (refusals.unbindable_inside rows tree onto) (hindrance.UnbindableInside tree onto)) (end_at rows c Second)) (end_at rows c First)
+      option_and_then (λ tree. option_and_then (λ onto. if_any (refusals.unbindable_inside rows tree onto) (hindrance.UnbindableInside tree onto)) (end_at rows c Second)) (moved_top rows c)
 
   -- `Busy`: mounts stand on the mount (umount(2), EBUSY)
   abbrev pub busy : Option Hindrance
   busy = option_and_then (λ on. if_any (seen_children rows on) (hindrance.Busy on)) (end_at rows c First)
 
--- `IntoItself` of a move: it would stand on itself, or on a mount below it (mount(2), MS_MOVE)
+-- `IntoItself` of a move: it would stand on itself, or on a mount below it (mount(2), MS_MOVE; move_mount(2))
 abbrev pub into_itself_met : List SeenRow → ℕ → ℕ → Option Hindrance
 into_itself_met rows tree onto = if_any (refusals.into_itself rows tree onto) (hindrance.IntoItself tree onto)
 
@@ -78,7 +82,7 @@ left_outside_met rows new onto = if_any (refusals.left_outside rows new onto) (h
 
 abbrev pub tree_onto : List SeenRow → Command → Option Hindrance
 tree_onto rows c =
-    option_and_then (λ tree. option_and_then (λ onto. cond (is_pivot c) (left_outside_met rows tree onto) (into_itself_met rows tree onto)) (end_at rows c Second)) (end_at rows c First)
+    option_and_then (λ tree. option_and_then (λ onto. cond (is_pivot c) (left_outside_met rows tree onto) (into_itself_met rows tree onto)) (end_at rows c Second)) (moved_top rows c)
 
 -- `BadAttr`: the access times of a new mount, or those of a change, contradict one another (mount_setattr(2), EINVAL)
 abbrev pub clash : Command → Option Hindrance

@@ -1,6 +1,6 @@
 //! The namespace and the paths of a command.
 ghost use Rattle.std.specs.Prelude.{◌≡◌, None, Some, MatchOption};
-ghost use Rattle.mt_refused.specs.Asked.{asked_space, first_path, second_path, asked_path, is_bind, is_pivot, is_detach, takes_mounts, is_set, either, path_name};
+ghost use Rattle.mt_refused.specs.Asked.{asked_space, asked_tree, first_path, second_path, asked_path, copies_mounts, is_pivot, is_detach, takes_mounts, is_set, either, path_name};
 
 use mt_book::command::Command;
 use mt_mounts::mount::SpaceId;
@@ -11,11 +11,11 @@ use mt_skel::names::Names;
 pub enum Which {
     /// Its only path, or the first of two: what is bound or moved, or the new root.
     First,
-    /// The second of two: where to, or where the old root goes.
+    /// The second of two: where to, or where the old root goes; of a tree that is attached, where to.
     Second,
 }
 
-/// The namespace of a command, if it has one.
+/// The namespace of a command, in which its paths are looked up, if it has one.
 pub fn asked_space(command: &Command) -> Option<SpaceId>
     ensures { result ≡ asked_space command.now }
 {
@@ -30,6 +30,18 @@ pub fn asked_space(command: &Command) -> Option<SpaceId>
         Command::Unmount { space, .. } => Some(*space),
         Command::Detach { space, .. } => Some(*space),
         Command::SetAttr { space, .. } => Some(*space),
+        Command::OpenTree { space, .. } => Some(*space),
+        Command::MoveTree { space, .. } => Some(*space),
+        _ => None,
+    }
+}
+
+/// The namespace that a command attaches, if it does that.
+pub fn asked_tree(command: &Command) -> Option<SpaceId>
+    ensures { result ≡ asked_tree command.now }
+{
+    match command {
+        Command::MoveTree { tree, .. } => Some(*tree),
         _ => None,
     }
 }
@@ -47,11 +59,12 @@ fn first_path(command: &Command) -> Option<&Names>
         Command::Unmount { path, .. } => Some(path),
         Command::Detach { path, .. } => Some(path),
         Command::SetAttr { path, .. } => Some(path),
+        Command::OpenTree { path, .. } => Some(path),
         _ => None,
     }
 }
 
-/// The second path of a command, if it has two.
+/// The second path of a command, if it has two, or that of a tree that is attached.
 fn second_path(command: &Command) -> Option<&Names>
     ensures { MatchOption result (second_path command.now ≡ None) (λ path. second_path command.now ≡ Some path.now) }
 {
@@ -59,6 +72,7 @@ fn second_path(command: &Command) -> Option<&Names>
         Command::Bind { dst, .. } => Some(dst),
         Command::Move { dst, .. } => Some(dst),
         Command::Pivot { old, .. } => Some(old),
+        Command::MoveTree { path, .. } => Some(path),
         _ => None,
     }
 }
@@ -73,12 +87,13 @@ pub fn asked_path(command: &Command, which: Which) -> Option<&Names>
     }
 }
 
-/// Whether a command is a bind: its source may be any directory.
-pub(crate) fn is_bind(command: &Command) -> bool
-    ensures { result ≡ is_bind command.now }
+/// Whether a command copies what is at its first path, which may be any directory: a bind, or what opens a tree.
+pub(crate) fn copies_mounts(command: &Command) -> bool
+    ensures { result ≡ copies_mounts command.now }
 {
     match command {
         Command::Bind { .. } => true,
+        Command::OpenTree { .. } => true,
         _ => false,
     }
 }

@@ -1,14 +1,14 @@
 //! Where the paths of a command end, by the rows alone.
 ghost use Rattle.std.specs.Prelude.{◌≡◌, IfOk, IsOkUnless, option_copied};
-ghost use Rattle.mt_refused.specs.Endings.{end_of_path, place_ended, end_at};
+ghost use Rattle.mt_refused.specs.Endings.{end_of_path, place_ended, end_at, tree_root, moved_top};
 
-use crate::asked::{Which, asked_path, asked_space, is_detach};
+use crate::asked::{Which, asked_path, asked_space, asked_tree, is_detach};
 use mt_book::command::Command;
 use mt_mounts::mount::{MountId, SpaceId};
 use mt_reach::path::Path;
 use mt_reach::row::{SeenDirectory, SeenRow};
 use mt_reach::rows::SeenRows;
-use mt_reach::walking::{directory_at, end_of, stack_end_of};
+use mt_reach::walking::{directory_at, end_of, root_row, stack_end_of};
 use mt_skel::fault::Fault;
 use std::alloc::Global;
 
@@ -78,4 +78,32 @@ pub(crate) fn end_at(
         Some(place_ended) => Ok(Some(place_ended.mount)),
         None => Ok(None),
     }
+}
+
+/// The root mount of the tree that a command attaches, if it does that. Takes no memory.
+fn tree_root(rows: &SeenRows, command: &Command) -> Option<MountId>
+    ensures { result ≡ tree_root rows.now command.now }
+{
+    let tree = asked_tree(command)?;
+    match root_row(rows, tree) {
+        Some(row) => Some(row.id),
+        None => None,
+    }
+}
+
+/// The top of what a command moves: the root mount of a tree that is attached, or the mount where the first path ends. Refused
+/// as `NoMemory` alone.
+pub(crate) fn moved_top(
+    alloc: Global,
+    rows: &SeenRows,
+    command: &Command,
+) -> Result<Option<MountId>, Fault>
+    ensures top { IfOk result (λ top. top ≡ moved_top rows.now command.now) }
+    ensures memory { IsOkUnless result Fault.NoMemory }
+{
+    let root = tree_root(rows, command);
+    if root.is_some() {
+        return Ok(root);
+    }
+    end_at(alloc, rows, command, Which::First)
 }

@@ -1,10 +1,11 @@
 //! Why a command is refused, by the rows of the tables alone.
 ghost use Rattle.std.specs.Prelude.{◌≡◌, IfOk, IsOkUnless};
-ghost use Rattle.mt_refused.specs.Hindrances.{if_any, no_namespace, off_root_met, root_place_met_at, first_root_place, root_place_met, unbindable, parent_of_first, place_of_second, shared, into_itself_met, left_outside_met, tree_onto, unbindable_inside_met, busy, clash, hindrance_of};
+ghost use Rattle.std.specs.Option.{option_and_then};
+ghost use Rattle.mt_refused.specs.Hindrances.{if_any, lacks_root, no_namespace, off_root_met, root_place_met_at, first_root_place, root_place_met, unbindable, parent_of_first, place_of_second, shared, into_itself_met, left_outside_met, tree_onto, unbindable_inside_met, busy, clash, hindrance_of};
 ghost use Rattle.mt_setattr.specs.Change.{clashes};
 
-use crate::asked::{Which, asked_space, is_bind, is_pivot};
-use crate::ending::{end_at, place_ended};
+use crate::asked::{Which, asked_space, asked_tree, copies_mounts, is_pivot};
+use crate::ending::{end_at, moved_top, place_ended};
 use mt_book::command::Command;
 use mt_mounts::mount::{MountId, SpaceId};
 use mt_reach::refusals;
@@ -54,15 +55,26 @@ fn if_any(ids: &[MountId], hindrance: Hindrance) -> Option<Hindrance>
     }
 }
 
-/// Why the namespace of a command is not there. Takes no memory.
-fn no_namespace(rows: &SeenRows, command: &Command) -> Option<Hindrance>
-    ensures { result ≡ no_namespace rows.now command.now }
+/// Why a namespace is not there, if it is asked for. Takes no memory.
+fn lacks_root(rows: &SeenRows, space: Option<SpaceId>) -> Option<Hindrance>
+    ensures { result ≡ option_and_then (lacks_root rows.now) space }
 {
-    let space = asked_space(command)?;
+    let space = space?;
     match root_row(rows, space) {
         Some(_row) => None,
         None => Some(Hindrance::NoNamespace(space)),
     }
+}
+
+/// Why the tree that a command attaches, or the namespace of its paths, is not there. Takes no memory.
+fn no_namespace(rows: &SeenRows, command: &Command) -> Option<Hindrance>
+    ensures { result ≡ no_namespace rows.now command.now }
+{
+    let tree = lacks_root(rows, asked_tree(command));
+    if tree.is_some() {
+        return tree;
+    }
+    lacks_root(rows, asked_space(command))
 }
 
 /// Why the first path names no mount. Refused as `NoMemory` alone.
@@ -102,7 +114,7 @@ fn root_place_met_at(
     }
 }
 
-/// Why the first path, but for the source of a bind, ends at a root place. Refused as `NoMemory` alone.
+/// Why the first path, but for what is copied, ends at a root place. Refused as `NoMemory` alone.
 fn first_root_place(
     alloc: Global,
     rows: &SeenRows,
@@ -111,13 +123,13 @@ fn first_root_place(
     ensures why { IfOk result (λ why. why ≡ first_root_place rows.now command.now) }
     ensures memory { IsOkUnless result Fault.NoMemory }
 {
-    if is_bind(command) {
+    if copies_mounts(command) {
         return Ok(None);
     }
     root_place_met_at(alloc, rows, command, Which::First)
 }
 
-/// Why a path ends at a root place: the first one, but for the source of a bind, or the second. Refused as `NoMemory` alone.
+/// Why a path ends at a root place: the first one, but for what is copied, or the second. Refused as `NoMemory` alone.
 fn root_place_met(
     alloc: Global,
     rows: &SeenRows,
@@ -224,12 +236,12 @@ fn left_outside_met(
     Ok(if_any(ids.as_slice(), Hindrance::LeftOutside { new, onto }))
 }
 
-/// Why the mount of the first path cannot go to where the second ends. Refused as `NoMemory` alone.
+/// Why the top of what is moved cannot go to where the second path ends. Refused as `NoMemory` alone.
 fn tree_onto(alloc: Global, rows: &SeenRows, command: &Command) -> Result<Option<Hindrance>, Fault>
     ensures why { IfOk result (λ why. why ≡ tree_onto rows.now command.now) }
     ensures memory { IsOkUnless result Fault.NoMemory }
 {
-    let Some(tree) = end_at(alloc, rows, command, Which::First)? else {
+    let Some(tree) = moved_top(alloc, rows, command)? else {
         return Ok(None);
     };
     let Some(onto) = end_at(alloc, rows, command, Which::Second)? else {
@@ -251,7 +263,7 @@ fn unbindable_inside_met(
     ensures why { IfOk result (λ why. why ≡ unbindable_inside_met rows.now command.now) }
     ensures memory { IsOkUnless result Fault.NoMemory }
 {
-    let Some(tree) = end_at(alloc, rows, command, Which::First)? else {
+    let Some(tree) = moved_top(alloc, rows, command)? else {
         return Ok(None);
     };
     let Some(onto) = end_at(alloc, rows, command, Which::Second)? else {

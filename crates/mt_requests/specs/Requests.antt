@@ -12,7 +12,7 @@ use Rattle.mt_skel.specs.Outcome.{refuse_if, first_fault}
 use Rattle.mt_lines.specs.Words.{pieces, words, number_in_text}
 use Rattle.mt_protocol.specs.Verbs.{verb_of, verb_arguments, first_of, is_optional, most_taken, most_followed}
 use Rattle.mt_protocol.specs.declared.argument.Argument.{Argument}
-use Rattle.mt_protocol.specs.declared.argument.Argument.TheVariants.{Space, Scope as Scoped, Count, Label, Path, Less, Attributes, Setting}
+use Rattle.mt_protocol.specs.declared.argument.Argument.TheVariants.{Space, Scope as Scoped, Count, Label, Path, Less, Recursive, Attributes, Setting}
 use Rattle.mt_protocol.specs.declared.verb.Verb.{Verb}
 use Rattle.mt_protocol.specs.declared.verb.Verb.TheVariants as verb
 use Rattle.mt_events.specs.declared.opening.Scope.{Scope}
@@ -100,6 +100,7 @@ word_fault (Count most) word = bad_unless (is_some (count_of most word))
 word_fault Label word = label_fault word
 word_fault Path word = path_fault word
 word_fault Less word = bad_unless (bytes_eq word (codes "less"))
+word_fault Recursive word = bad_unless (bytes_eq word (codes "rec"))
 word_fault Attributes word = bad_unless (is_some (attributes_of word))
 word_fault Setting word = None
 
@@ -162,6 +163,9 @@ request_with verb.Pivot w = request.Run (command.Pivot (number_said (first_of w)
 request_with verb.Umount w = request.Run (command.Unmount (number_said (first_of w)) (path_names (second_of w)))
 request_with verb.Detach w = request.Run (command.Detach (number_said (first_of w)) (path_names (second_of w)))
 request_with verb.Setattr w = request.Run (command.SetAttr (number_said (first_of w)) (path_names (second_of w)) (change_said (options_behind w)))
+request_with verb.Opentree w = request.Run (command.OpenTree (number_said (first_of w)) (path_names (second_of w)) (bytes_eq (third_of w) (codes "rec")))
+request_with verb.Newtree w = request.Run (command.NewTree (label_bytes (first_of w)))
+request_with verb.Movetree w = request.Run (command.MoveTree (number_said (first_of w)) (number_said (second_of w)) (path_names (third_of w)))
 request_with verb.Show w = request.Ask (query.Show (number_said (first_of w)))
 request_with verb.Find w = request.Ask (query.Find (number_said (first_of w)) (path_names (second_of w)))
 request_with verb.Watch w = request.Watch (scope_said (first_of w))
@@ -219,6 +223,9 @@ command_verb (command.Pivot n new old) = verb.Pivot
 command_verb (command.Unmount n path) = verb.Umount
 command_verb (command.Detach n path) = verb.Detach
 command_verb (command.SetAttr n path change) = verb.Setattr
+command_verb (command.OpenTree n path recursive) = verb.Opentree
+command_verb (command.NewTree fs) = verb.Newtree
+command_verb (command.MoveTree tree n path) = verb.Movetree
 
 abbrev pub query_verb : Query → Verb
 query_verb (query.Show n) = verb.Show

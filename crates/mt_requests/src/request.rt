@@ -138,6 +138,19 @@ fn request_with(alloc: Global, verb: Verb, words: Words<'_>) -> Result<Request, 
             path: path_of(alloc, second)?,
             change: change_said(&options),
         })),
+        Verb::Opentree => Ok(Request::Run(Command::OpenTree {
+            space,
+            path: path_of(alloc, second)?,
+            recursive: third == b"rec".as_slice(),
+        })),
+        Verb::Newtree => Ok(Request::Run(Command::NewTree {
+            fs: label_of(alloc, first)?,
+        })),
+        Verb::Movetree => Ok(Request::Run(Command::MoveTree {
+            tree: space,
+            space: number_said(second),
+            path: path_of(alloc, third)?,
+        })),
         Verb::Show => Ok(Request::Ask(Query::Show(space))),
         Verb::Find => Ok(Request::Ask(Query::Find {
             space,

@@ -14,7 +14,7 @@ use Rattle.mt_info.specs.Table.{table_of}
 use Rattle.mt_events.specs.Posts.{PostView}
 use Rattle.mt_events.specs.Texts.{count_text, table_text, opening_text, posts_text, followed_text}
 use Rattle.mt_book.specs.declared.command.Command.{Command}
-use Rattle.mt_book.specs.declared.command.Command.TheVariants.{MakeFs, MakeDir, NewSpace, CopySpace, DropSpace, Mount, MountWith, Bind, Move, Pivot, Unmount, Detach, SetAttr}
+use Rattle.mt_book.specs.declared.command.Command.TheVariants.{MakeFs, MakeDir, NewSpace, CopySpace, DropSpace, Mount, MountWith, Bind, Move, Pivot, Unmount, Detach, SetAttr, OpenTree, NewTree, MoveTree}
 use Rattle.mt_book.specs.declared.command.Reply.TheVariants.{Done, Number}
 use Rattle.mt_book.specs.Step.{with_skel, with_made_number, with_done, step, after}
 use Rattle.mt_book.specs.Book.{found_at}
@@ -79,6 +79,9 @@ command_answer w (Pivot n new old) = done _
 command_answer w (Unmount n path) = done _
 command_answer w (Detach n path) = done _
 command_answer w (SetAttr n path change) = done _
+command_answer w (OpenTree n path recursive) = made_number _
+command_answer w (NewTree fs) = made_number _
+command_answer w (MoveTree tree n path) = done _
 
 -- tables and places
 table_answer : (journal : List Command) (n : ℕ) → IsAnswerOf form.Table (shown_text journal n)

@@ -3,7 +3,7 @@
 use Rattle.std.specs.Prelude.{ℕ, Bool, cond, not, ◌&&◌, ◌||◌, ◌==◌, List, [], ◌∷◌, map, Option, Result}
 use Rattle.std.specs.Option.{option_map_or}
 use Rattle.mt_skel.specs.declared.fault.Fault.{Fault}
-use Rattle.mt_skel.specs.declared.fault.Fault.TheVariants.{NotMountRoot, BadAttr}
+use Rattle.mt_skel.specs.declared.fault.Fault.TheVariants.{NotMountRoot, BadAttr, Detached}
 use Rattle.mt_skel.specs.Outcome.{refuse_if, refusal_of, outcome}
 use Rattle.mt_mounts.specs.declared.mount.Mount.{Mount}
 use Rattle.mt_mounts.specs.declared.mount.Place.{Place}
@@ -13,10 +13,10 @@ use Rattle.mt_mounts.specs.declared.mount.Atime.TheVariants.{Relatime, Noatime, 
 use Rattle.mt_mounts.specs.Forest.{is_below}
 use Rattle.mt_mounts.specs.Walk.{walk}
 use Rattle.mt_peers.specs.Making.{made}
-use Rattle.mt_propagate.specs.World.{WorldView}
-use Rattle.mt_propagate.specs.Named.{place_or_nowhere, is_mount_root}
+use Rattle.mt_propagate.specs.World.{WorldView, is_tree}
+use Rattle.mt_propagate.specs.Named.{place_or_nowhere, is_mount_root, is_root_mount}
 use Rattle.mt_setattr.specs.declared.change.Change.{Change}
-use Rattle.mt_setattr.specs.Words.{sets_two_times}
+use Rattle.mt_setattr.specs.Words.{sets_two_times, sets_some, clears_some}
 
 -- two access times are set, or one for which clr makes no room (mount_setattr(2), MOUNT_ATTR__ATIME and EINVAL; that this holds for
 -- relatime too is this project's rule)
@@ -57,12 +57,17 @@ with_change w c i = record w {
   peering = option_map_or (λ k. made k (is_chosen w c i) w.peering) c.prop w.peering;
 }
 
+-- attributes are changed in a detached tree below its root mount; another propagation alone may be given there (mount_setattr(2), EINVAL)
+abbrev pub changes_inside : WorldView → ℕ → Place → Change → Bool
+changes_inside w n p c = is_tree w n && (sets_some c.set || clears_some c.clr) && not (is_root_mount w p)
+
 -- the refusals of a change, where its path was found to lead there (mount_setattr(2); their order: this project's rule)
-abbrev pub attributed_refusals : WorldView → Change → Result Place Fault → List (Option Fault)
-attributed_refusals w c at =
+abbrev pub attributed_refusals : WorldView → ℕ → Change → Result Place Fault → List (Option Fault)
+attributed_refusals w n c at =
     refusal_of at
     ∷ refuse_if (not (is_mount_root w (place_or_nowhere at))) NotMountRoot
-    ∷ refuse_if (clashes c) BadAttr ∷ []
+    ∷ refuse_if (clashes c) BadAttr
+    ∷ refuse_if (changes_inside w n (place_or_nowhere at) c) Detached ∷ []
 
 -- what it makes of the world
 abbrev pub attributed_effect : WorldView → Change → Result Place Fault → WorldView
@@ -72,4 +77,4 @@ attributed_effect w c at = with_change w c (place_or_nowhere at).mount
 abbrev pub attributed : WorldView → ℕ → List (List ℕ) → Change → Result WorldView Fault
 attributed w n path c =
     let at = walk w.skel w.forest n path in
-    outcome (attributed_refusals w c at) (attributed_effect w c at)
+    outcome (attributed_refusals w n c at) (attributed_effect w c at)

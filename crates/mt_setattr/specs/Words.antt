@@ -3,11 +3,19 @@
 use Rattle.std.specs.Prelude.{Bool, false, cond, ◌&&◌, ◌||◌}
 use Rattle.mt_mounts.specs.declared.mount.Attrs.{Attrs}
 use Rattle.mt_mounts.specs.declared.mount.Atime.TheVariants.{Relatime, Noatime, Strictatime}
+use Rattle.mt_setattr.specs.declared.change.ClrWords.{ClrWords}
 use Rattle.mt_setattr.specs.declared.change.SetWords.{SetWords}
 
 -- nothing is set
 abbrev pub nothing_set : SetWords
 nothing_set = record { ro = false; nosuid = false; nodev = false; noexec = false; nosymfollow = false; nodiratime = false; relatime = false; noatime = false; strictatime = false }
+
+-- something is set, or taken away (mount_setattr(2), attr_set and attr_clr)
+abbrev pub sets_some : SetWords → Bool
+sets_some s = s.ro || s.nosuid || s.nodev || s.noexec || s.nosymfollow || s.nodiratime || s.relatime || s.noatime || s.strictatime
+
+abbrev pub clears_some : ClrWords → Bool
+clears_some c = c.ro || c.nosuid || c.nodev || c.noexec || c.nosymfollow || c.nodiratime || c.atime
 
 -- two access times are set (mount_setattr(2), MOUNT_ATTR__ATIME and EINVAL; that relatime is one of them is this project's rule)
 abbrev pub sets_two_times : SetWords → Bool

@@ -1,6 +1,6 @@
 //! What is to be changed, or what a new mount is to have.
 ghost use Rattle.std.specs.Prelude.{◌≡◌};
-ghost use Rattle.mt_setattr.specs.Words.{nothing_set, sets_two_times, new_with};
+ghost use Rattle.mt_setattr.specs.Words.{nothing_set, sets_some, clears_some, sets_two_times, new_with};
 
 use mt_mounts::mount::{Atime, Attrs};
 use mt_peers::state::Kind;
@@ -46,6 +46,21 @@ impl SetWords {
             noatime: false,
             strictatime: false,
         }
+    }
+
+    /// Whether something is set.
+    pub fn sets_some(&self) -> bool
+        ensures { result ≡ sets_some self.now }
+    {
+        self.ro
+            || self.nosuid
+            || self.nodev
+            || self.noexec
+            || self.nosymfollow
+            || self.nodiratime
+            || self.relatime
+            || self.noatime
+            || self.strictatime
     }
 
     /// Whether two access times are set.
@@ -103,6 +118,21 @@ pub struct ClrWords {
     pub nodiratime: bool,
     /// The access time goes, and is `relatime` unless another one is set.
     pub atime: bool,
+}
+
+impl ClrWords {
+    /// Whether something is taken away.
+    pub fn clears_some(&self) -> bool
+        ensures { result ≡ clears_some self.now }
+    {
+        self.ro
+            || self.nosuid
+            || self.nodev
+            || self.noexec
+            || self.nosymfollow
+            || self.nodiratime
+            || self.atime
+    }
 }
 
 /// A change of one mount, or of a mount and all mounts below it.

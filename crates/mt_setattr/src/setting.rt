@@ -7,12 +7,12 @@ ghost use Rattle.mt_peers.specs.Making.{made};
 ghost use Rattle.mt_propagate.specs.World.{world_view};
 ghost use Rattle.mt_propagate.specs.WellFormed.{IsWellFormed};
 ghost use Rattle.mt_propagate.specs.Touched.{since_view};
-ghost use Rattle.mt_setattr.specs.Change.{clashes, changed_atime, changed_attrs, changed_mount, with_change, attributed};
+ghost use Rattle.mt_setattr.specs.Change.{clashes, changed_atime, changed_attrs, changed_mount, with_change, changes_inside, attributed};
 
 use crate::change::Change;
 use mt_mounts::forest::Forest;
-use mt_mounts::mount::{Atime, Attrs, MountId, SpaceId};
-use mt_propagate::named::is_mount_root;
+use mt_mounts::mount::{Atime, Attrs, MountId, Place, SpaceId};
+use mt_propagate::named::{is_mount_root, is_root_mount};
 use mt_propagate::world::World;
 use mt_skel::fault::Fault;
 use mt_skel::name::Name;
@@ -129,13 +129,22 @@ fn change_from(world: &mut World, top: MountId, change: &Change) -> Result<(), F
     Ok(())
 }
 
+/// Whether attributes are to be changed in a detached tree, below its root mount.
+fn changes_inside(world: &World, space: SpaceId, place: Place, change: &Change) -> bool
+    ensures { result ≡ changes_inside (world_view world.now) space place change.now }
+{
+    world.is_tree(space)
+        && (change.set.sets_some() || change.clr.clears_some())
+        && !is_root_mount(world, place)
+}
+
 /// Changes the mount that a path names in a namespace, and if the change is recursive all mounts
 /// below it, all at once. It may be a root mount. An empty change changes nothing.
 ///
 /// Refused as `NoNamespace` if the namespace is not there, `NoEntry` if a directory of the path is
 /// not, `NotMountRoot` if the path does not end at the root of a mount, `BadAttr` if two access
-/// times are set, or one while the access time is not taken away, and as `NoMemory`; then nothing
-/// has changed.
+/// times are set, or one while the access time is not taken away, `Detached` if attributes would
+/// be changed below the root mount of a detached tree, and as `NoMemory`; then nothing has changed.
 #[tactic(auto, unfolding(crate::specs::Change::attributed))]
 pub fn set_attr(
     world: &mut World,
@@ -156,6 +165,9 @@ pub fn set_attr(
     }
     if clashes(change) {
         return Err(Fault::BadAttr);
+    }
+    if changes_inside(world, space, place, change) {
+        return Err(Fault::Detached);
     }
     change_from(world, place.mount, change)
 }

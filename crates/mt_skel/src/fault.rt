@@ -57,6 +57,10 @@ pub enum Fault {
     Stopped,
     /// A growth was refused for want of memory.
     NoMemory,
+    /// The namespace is a detached tree, in which this is not done.
+    Detached,
+    /// The namespace that is to be attached is no detached tree.
+    NotDetached,
 }
 
 impl From<AllocError> for Fault {
@@ -106,6 +110,8 @@ impl Fault {
             Fault::Lagged => b"Lagged",
             Fault::Stopped => b"Stopped",
             Fault::NoMemory => b"NoMemory",
+            Fault::Detached => b"Detached",
+            Fault::NotDetached => b"NotDetached",
         }
     }
 }

@@ -1,15 +1,15 @@
 -- What is known of an unmount and of a detach that were accepted: the effect, and that no refusal holds.
-use Rattle.std.proofs.Common.{◌≡◌, ℕ, true, false, List, None, Ok}
+use Rattle.std.proofs.Common.{◌≡◌, ℕ, true, false, List, ◌∷◌, None, Ok}
 use Rattle.std.specs.Prelude.{not}
 use Rattle.std.specs.List.{list_any}
 use Rattle.std.proofs.lemmas.Bool.{not-false}
-use Rattle.mt_skel.specs.declared.fault.Fault.TheVariants.{NotMountRoot, RootPlace, Busy}
-use Rattle.mt_skel.specs.Outcome.{refusal_of}
+use Rattle.mt_skel.specs.declared.fault.Fault.TheVariants.{NotMountRoot, RootPlace, Busy, Detached}
+use Rattle.mt_skel.specs.Outcome.{refuse_if, refusal_of}
 use Rattle.mt_skel.proofs.OutcomeLaws.{not_refused, accepted}
 use Rattle.mt_mounts.specs.declared.mount.Place.{Place}
 use Rattle.mt_mounts.specs.Forest.{stands_on}
 use Rattle.mt_mounts.specs.Walk.{walk}
-use Rattle.mt_propagate.specs.World.{WorldView}
+use Rattle.mt_propagate.specs.World.{WorldView, is_tree}
 use Rattle.mt_propagate.specs.Named.{place_or_nowhere, is_mount_root, is_root_mount}
 use Rattle.mt_unmount.specs.Unmounting.{without_mount, unmounted_refusals, unmounted_effect, unmounted}
 use Rattle.mt_unmount.specs.Detaching.{without_tree, named_place, detached_refusals, detached_effect, detached}
@@ -20,6 +20,7 @@ path_end w n path = place_or_nowhere (walk w.skel w.forest n path)
 
 -- an unmount
 pub record IsAcceptedUnmount (w : WorldView) (n : ℕ) (path : List (List ℕ)) (v : WorldView) : Type 0 where
+  pub attached : is_tree w n ≡ false
   pub ended : refusal_of (walk w.skel w.forest n path) ≡ None
   pub named : is_mount_root w (path_end w n path) ≡ true
   pub placed : is_root_mount w (path_end w n path) ≡ false
@@ -30,17 +31,19 @@ pub unmount_accepted : (w : WorldView) (n : ℕ) (path : List (List ℕ)) (v : W
 unmount_accepted w n path v e =
     let at = walk w.skel w.forest n path in
     let p = path_end w n path in
-    let a = accepted (unmounted_refusals w at) (unmounted_effect w at) v e in
+    let a = accepted (refuse_if (is_tree w n) Detached ∷ unmounted_refusals w at) (unmounted_effect w at) v e in
     record {
-      ended = a.1.0;
-      named = not-false (is_mount_root w p) (not_refused (not (is_mount_root w p)) NotMountRoot a.1.1.0);
-      placed = not_refused (is_root_mount w p) RootPlace a.1.1.1.0;
-      bare = not_refused (list_any (stands_on p.mount) w.forest) Busy a.1.1.1.1.0;
+      attached = not_refused (is_tree w n) Detached a.1.0;
+      ended = a.1.1.0;
+      named = not-false (is_mount_root w p) (not_refused (not (is_mount_root w p)) NotMountRoot a.1.1.1.0);
+      placed = not_refused (is_root_mount w p) RootPlace a.1.1.1.1.0;
+      bare = not_refused (list_any (stands_on p.mount) w.forest) Busy a.1.1.1.1.1.0;
       world = a.0;
     }
 
 -- a detach
 pub record IsAcceptedDetach (w : WorldView) (n : ℕ) (path : List (List ℕ)) (v : WorldView) : Type 0 where
+  pub attached : is_tree w n ≡ false
   pub ended : refusal_of (walk w.skel w.forest n path) ≡ None
   pub named : is_mount_root w (named_place w n path) ≡ true
   pub placed : is_root_mount w (named_place w n path) ≡ false
@@ -50,10 +53,11 @@ pub detach_accepted : (w : WorldView) (n : ℕ) (path : List (List ℕ)) (v : Wo
 detach_accepted w n path v e =
     let at = walk w.skel w.forest n path in
     let p = named_place w n path in
-    let a = accepted (detached_refusals w at) (detached_effect w at) v e in
+    let a = accepted (refuse_if (is_tree w n) Detached ∷ detached_refusals w at) (detached_effect w at) v e in
     record {
-      ended = a.1.0;
-      named = not-false (is_mount_root w p) (not_refused (not (is_mount_root w p)) NotMountRoot a.1.1.0);
-      placed = not_refused (is_root_mount w p) RootPlace a.1.1.1.0;
+      attached = not_refused (is_tree w n) Detached a.1.0;
+      ended = a.1.1.0;
+      named = not-false (is_mount_root w p) (not_refused (not (is_mount_root w p)) NotMountRoot a.1.1.1.0);
+      placed = not_refused (is_root_mount w p) RootPlace a.1.1.1.1.0;
       world = a.0;
     }

@@ -3,7 +3,7 @@
 use Rattle.std.proofs.Common.{◌≡◌, ℕ, Bool, true, false, not, List, [], ◌∷◌, length, Result, Ok, refl, sym, ap, ◌∙◌}
 use Rattle.std.proofs.NetLemmas.Options.{map_some}
 use Rattle.mt_skel.specs.declared.fault.Fault.{Fault}
-use Rattle.mt_skel.specs.declared.fault.Fault.TheVariants.{NotMountRoot, RootPlace}
+use Rattle.mt_skel.specs.declared.fault.Fault.TheVariants.{NotMountRoot, RootPlace, Detached}
 use Rattle.mt_skel.specs.Keyed.{among}
 use Rattle.mt_skel.specs.Outcome.{refuse_if, outcome}
 use Rattle.mt_skel.proofs.ChainLaws.{follow-holds}
@@ -13,7 +13,7 @@ use Rattle.mt_mounts.specs.Forest.{on, root_place, top}
 use Rattle.mt_mounts.specs.Walk.{walk}
 use Rattle.mt_mounts.proofs.CycleLaws.{stack_ends}
 use Rattle.mt_mounts.proofs.Walks.{stacked}
-use Rattle.mt_propagate.specs.World.{WorldView, space_of}
+use Rattle.mt_propagate.specs.World.{WorldView, space_of, is_tree}
 use Rattle.mt_propagate.specs.Named.{is_mount_root, is_root_mount}
 use Rattle.mt_propagate.specs.WellFormed.{IsWellFormed}
 use Rattle.mt_propagate.proofs.ContainedLaws.{ended-inside}
@@ -34,10 +34,10 @@ module _ (w : WorldView) (n : ℕ) (path : List (List ℕ)) (end p : Place) (nam
   abbrev rest : Place → Result WorldView Fault
   rest q = outcome (refuse_if (not (is_mount_root w q)) NotMountRoot ∷ refuse_if (is_root_mount w q) RootPlace ∷ []) (without_tree w q.mount)
 
-  pub detached-done : walk w.skel w.forest n path ≡ Ok end → is_mount_root w p ≡ true → is_root_mount w p ≡ false → (ids : List ℕ) → AreGone (is_detached w p.mount) ids → detached w n path ≡ Ok (once_gone w (among ids))
+  pub detached-done : is_tree w n ≡ false → walk w.skel w.forest n path ≡ Ok end → is_mount_root w p ≡ true → is_root_mount w p ≡ false → (ids : List ℕ) → AreGone (is_detached w p.mount) ids → detached w n path ≡ Ok (once_gone w (among ids))
   unfolding without_tree
-  detached-done ended root off ids gone =
-      ap answer ended ∙ ap rest (sym named) ∙ passed (not (is_mount_root w p)) NotMountRoot _ _ (ap not root) ∙ passed (is_root_mount w p) RootPlace [] _ off
+  detached-done attached ended root off ids gone =
+      passed (is_tree w n) Detached _ _ attached ∙ ap answer ended ∙ ap rest (sym named) ∙ passed (not (is_mount_root w p)) NotMountRoot _ _ (ap not root) ∙ passed (is_root_mount w p) RootPlace [] _ off
       ∙ ap (λ (goes : ℕ → Bool). Ok (once_gone w goes)) (sym (listed-is (is_detached w p.mount) ids gone))
 
 -- the topmost mount at a place is of the namespace of the mount that the place is on

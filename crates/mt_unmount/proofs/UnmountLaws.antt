@@ -5,7 +5,7 @@ use Rattle.std.specs.Prelude.{nat_lt}
 use Rattle.std.specs.List.{filter, list_any}
 use Rattle.std.proofs.lemmas.Bool.Decides.{nat_tests}
 use Rattle.mt_skel.specs.declared.fault.Fault.{Fault}
-use Rattle.mt_skel.specs.declared.fault.Fault.TheVariants.{NotMountRoot, RootPlace, Busy}
+use Rattle.mt_skel.specs.declared.fault.Fault.TheVariants.{NotMountRoot, RootPlace, Busy, Detached}
 use Rattle.mt_skel.specs.Keyed.{among}
 use Rattle.mt_skel.specs.Outcome.{outcome}
 use Rattle.mt_skel.proofs.OutcomeLaws.{passed}
@@ -13,7 +13,7 @@ use Rattle.mt_mounts.specs.Forest.{id_of, stands_on}
 use Rattle.mt_mounts.specs.declared.mount.Mount.{Mount}
 use Rattle.mt_mounts.specs.declared.mount.Place.{Place}
 use Rattle.mt_mounts.specs.Walk.{walk}
-use Rattle.mt_propagate.specs.World.{WorldView}
+use Rattle.mt_propagate.specs.World.{WorldView, is_tree}
 use Rattle.mt_propagate.specs.Named.{is_mount_root, is_root_mount}
 use Rattle.mt_propagate.specs.WellFormed.{IsWellFormed}
 use Rattle.mt_propagate.proofs.ContainedLaws.{ended-inside}
@@ -35,11 +35,11 @@ module _ (w : WorldView) (n : ℕ) (path : List (List ℕ)) (p : Place) where
   abbrev answer : Result Place Fault → Result WorldView Fault
   answer r = outcome (unmounted_refusals w r) (unmounted_effect w r)
 
-  pub unmounted-done : walk w.skel w.forest n path ≡ Ok p → is_mount_root w p ≡ true → is_root_mount w p ≡ false → list_any (stands_on p.mount) w.forest ≡ false
+  pub unmounted-done : is_tree w n ≡ false → walk w.skel w.forest n path ≡ Ok p → is_mount_root w p ≡ true → is_root_mount w p ≡ false → list_any (stands_on p.mount) w.forest ≡ false
       → (ids : List ℕ) → AreGone (is_removed w p.mount) ids → unmounted w n path ≡ Ok (once_gone w (among ids))
   unfolding without_mount
-  unmounted-done ended named off bare ids gone =
-      ap answer ended ∙ passed (not (is_mount_root w p)) NotMountRoot _ _ (ap not named) ∙ passed (is_root_mount w p) RootPlace _ _ off
+  unmounted-done attached ended named off bare ids gone =
+      passed (is_tree w n) Detached _ _ attached ∙ ap answer ended ∙ passed (not (is_mount_root w p)) NotMountRoot _ _ (ap not named) ∙ passed (is_root_mount w p) RootPlace _ _ off
       ∙ passed (list_any (stands_on p.mount) w.forest) Busy [] _ bare
       ∙ ap (λ (goes : ℕ → Bool). Ok (once_gone w goes)) (sym (listed-is (is_removed w p.mount) ids gone))
 

@@ -4,13 +4,13 @@ use Rattle.std.specs.Prelude.{ℕ, Bool, not, ◌&&◌, ◌++◌, List, [], ◌�
 use Rattle.std.specs.List.{filter_map, flat_map, list_all}
 use Rattle.std.specs.Option.{option_map, option_map_or}
 use Rattle.mt_skel.specs.declared.fault.Fault.{Fault}
-use Rattle.mt_skel.specs.declared.fault.Fault.TheVariants.{NotMountRoot, RootPlace}
+use Rattle.mt_skel.specs.declared.fault.Fault.TheVariants.{NotMountRoot, RootPlace, Detached}
 use Rattle.mt_skel.specs.Keyed.{among}
 use Rattle.mt_skel.specs.Outcome.{refuse_if, refusal_of, outcome}
 use Rattle.mt_mounts.specs.declared.mount.Place.{Place}
 use Rattle.mt_mounts.specs.Forest.{id_of, on, subtree, top}
 use Rattle.mt_mounts.specs.Walk.{walk}
-use Rattle.mt_propagate.specs.World.{WorldView}
+use Rattle.mt_propagate.specs.World.{WorldView, is_tree}
 use Rattle.mt_propagate.specs.Named.{place_or_nowhere, is_mount_root, is_root_mount}
 use Rattle.mt_propagate.specs.Receivers.{hits}
 use Rattle.mt_unmount.specs.Sliding.{place_of, inside, once_gone}
@@ -62,8 +62,9 @@ detached_refusals w at =
 abbrev pub detached_effect : WorldView → Result Place Fault → WorldView
 detached_effect w at = without_tree w (topmost w at).mount
 
--- the mount that a path names is detached (umount2(2), MNT_DETACH)
+-- the mount that a path names is detached (umount2(2), MNT_DETACH), but not in a detached tree (umount2(2), EINVAL). A detached tree is
+-- a namespace that is there
 abbrev pub detached : WorldView → ℕ → List (List ℕ) → Result WorldView Fault
 detached w n path =
     let at = walk w.skel w.forest n path in
-    outcome (detached_refusals w at) (detached_effect w at)
+    outcome (refuse_if (is_tree w n) Detached ∷ detached_refusals w at) (detached_effect w at)

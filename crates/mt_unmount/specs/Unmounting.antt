@@ -4,13 +4,13 @@ use Rattle.std.specs.Prelude.{ℕ, Bool, false, not, ◌==◌, List, [], ◌∷�
 use Rattle.std.specs.List.{filter, filter_map, list_any, list_all}
 use Rattle.std.specs.Option.{option_map_or}
 use Rattle.mt_skel.specs.declared.fault.Fault.{Fault}
-use Rattle.mt_skel.specs.declared.fault.Fault.TheVariants.{NotMountRoot, RootPlace, Busy}
+use Rattle.mt_skel.specs.declared.fault.Fault.TheVariants.{NotMountRoot, RootPlace, Busy, Detached}
 use Rattle.mt_skel.specs.Outcome.{refuse_if, refusal_of, outcome}
 use Rattle.mt_mounts.specs.declared.mount.Mount.{Mount}
 use Rattle.mt_mounts.specs.declared.mount.Place.{Place}
 use Rattle.mt_mounts.specs.Forest.{on, id_of, stands_on}
 use Rattle.mt_mounts.specs.Walk.{walk}
-use Rattle.mt_propagate.specs.World.{WorldView}
+use Rattle.mt_propagate.specs.World.{WorldView, is_tree}
 use Rattle.mt_propagate.specs.Named.{place_or_nowhere, is_mount_root, is_root_mount}
 use Rattle.mt_propagate.specs.Receivers.{hits}
 use Rattle.mt_unmount.specs.Sliding.{place_of, once_gone}
@@ -52,8 +52,9 @@ unmounted_refusals w at =
 abbrev pub unmounted_effect : WorldView → Result Place Fault → WorldView
 unmounted_effect w at = without_mount w (place_or_nowhere at).mount
 
--- the mount that a path names is unmounted (`sharedsubtree`, unmount semantics)
+-- the mount that a path names is unmounted (`sharedsubtree`, unmount semantics), but not in a detached tree (umount(2), EINVAL). A
+-- detached tree is a namespace that is there
 abbrev pub unmounted : WorldView → ℕ → List (List ℕ) → Result WorldView Fault
 unmounted w n path =
     let at = walk w.skel w.forest n path in
-    outcome (unmounted_refusals w at) (unmounted_effect w at)
+    outcome (refuse_if (is_tree w n) Detached ∷ unmounted_refusals w at) (unmounted_effect w at)

@@ -92,8 +92,9 @@ fn gone(world: &World, id: MountId) -> Result<Gone, Fault>
 /// mount that is neither in the tree nor received. What stands on the root of a mount that goes slides to the place
 /// that becomes free.
 ///
-/// Refused as `NoNamespace`, `NoEntry` if a component is not there, `NotMountRoot` if the path ends below the root of a
-/// mount, `RootPlace` if it names the root mount, and as `NoMemory`; then nothing has changed.
+/// Refused as `NoNamespace`, `Detached` if the namespace is a detached tree, `NoEntry` if a component is not there,
+/// `NotMountRoot` if the path ends below the root of a mount, `RootPlace` if it names the root mount, and as `NoMemory`;
+/// then nothing has changed.
 pub fn detach(world: &mut World, space: SpaceId, path: &[Name]) -> Result<(), Fault>
     requires well_formed { IsWellFormed (world_view world.old) }
     ensures done { OnOk result (detached (world_view world.old) space path.now ≡ Ok (world_view world.new)) }
@@ -102,6 +103,9 @@ pub fn detach(world: &mut World, space: SpaceId, path: &[Name]) -> Result<(), Fa
     ensures kept { IsWellFormed (world_view world.new) }
     ensures since { since_view world.new ≡ since_view world.old }
 {
+    if world.is_tree(space) {
+        return Err(Fault::Detached);
+    }
     let end = world.forest.walk(&world.skel, space, path)?;
     let place = world.forest.top(end);
     if !is_mount_root(world, place) {

@@ -93,9 +93,9 @@ fn gone(world: &World, id: MountId) -> Result<Gone, Fault>
 /// place the mount at the same directory, unless another stands on that below its root. What stands
 /// on the root of a mount that goes slides to the place that becomes free.
 ///
-/// Refused as `NoNamespace`, `NoEntry` if a component is not there, `NotMountRoot` if the path ends
-/// below the root of a mount, `RootPlace` if it names the root mount, `Busy` if a mount stands on
-/// the named one, and as `NoMemory`; then nothing has changed.
+/// Refused as `NoNamespace`, `Detached` if the namespace is a detached tree, `NoEntry` if a component is not there,
+/// `NotMountRoot` if the path ends below the root of a mount, `RootPlace` if it names the root mount, `Busy` if a mount
+/// stands on the named one, and as `NoMemory`; then nothing has changed.
 pub fn unmount(world: &mut World, space: SpaceId, path: &[Name]) -> Result<(), Fault>
     requires well_formed { IsWellFormed (world_view world.old) }
     ensures done { OnOk result (unmounted (world_view world.old) space path.now ≡ Ok (world_view world.new)) }
@@ -104,6 +104,9 @@ pub fn unmount(world: &mut World, space: SpaceId, path: &[Name]) -> Result<(), F
     ensures kept { IsWellFormed (world_view world.new) }
     ensures since { since_view world.new ≡ since_view world.old }
 {
+    if world.is_tree(space) {
+        return Err(Fault::Detached);
+    }
     let place = world.forest.walk(&world.skel, space, path)?;
     if !is_mount_root(world, place) {
         return Err(Fault::NotMountRoot);

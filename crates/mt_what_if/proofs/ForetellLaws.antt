@@ -5,6 +5,7 @@ use Rattle.mt_skel.specs.declared.fault.Fault.{Fault}
 use Rattle.mt_propagate.specs.World.{WorldView}
 use Rattle.mt_what_if.specs.Foretelling.{changes_if_each, IsForetold, AreForetold}
 use Rattle.mt_what_if.specs.LinesTold.{tried_text}
+use Rattle.mt_what_if.specs.Reasons.{reason_told}
 use Rattle.mt_what_if.specs.Taken.{taken_told}
 use Rattle.mt_what_if.specs.Trials.{TrialView, world_after, for_next}
 use Rattle.mt_what_if.specs.Tried.{IsLineTried}
@@ -39,18 +40,20 @@ changes_by_trials q t u w0 w v e f g =
 
 -- what is told of a line with these changes is what is told of it
 pub line_foretold :
-    (q : Question) (n : ℕ) (line : AskedLine) (t u : TrialView) (w0 w v : WorldView) (outcome : Outcome) (before after taken changes made none : List ℕ)
-    → after ≡ before ++ tried_text q.manner.telling n line.words.now taken outcome changes → taken ≡ taken_told u.given → changes ≡ made
+    (q : Question) (n : ℕ) (line : AskedLine) (t u : TrialView) (w0 w v : WorldView) (outcome : Outcome) (before after taken changes why made none : List ℕ)
+    → after ≡ before ++ tried_text q.manner.telling n line.words.now taken outcome changes why → taken ≡ taken_told u.given
+    → why ≡ reason_told q.names.now u outcome → changes ≡ made
     → made ≡ none ++ changes_if_each q w0 w v → none ≡ [] → w0 ≡ t.start → w ≡ world_after t → v ≡ world_after u
     → IsLineTried q.tables.now line (for_next t) (record { trial = u; outcome = outcome })
     → (told : List ℕ) × (after ≡ before ++ told) × IsForetold q n line t u outcome told
-line_foretold q n line t u w0 w v outcome before after taken changes made none e given same more empty f g h tried = (
-  tried_text q.manner.telling n line.words.now taken outcome changes,
+line_foretold q n line t u w0 w v outcome before after taken changes why made none e given because same more empty f g h tried = (
+  tried_text q.manner.telling n line.words.now taken outcome changes why,
   e,
   record {
     tried = tried;
-    told = ap (λ (x : List ℕ). tried_text q.manner.telling n line.words.now x outcome changes) given
-        ∙ ap (λ (x : List ℕ). tried_text q.manner.telling n line.words.now (taken_told u.given) outcome x)
+    told = ap (λ (x : List ℕ). tried_text q.manner.telling n line.words.now x outcome changes why) given
+        ∙ ap (λ (x : List ℕ). tried_text q.manner.telling n line.words.now (taken_told u.given) outcome changes x) because
+        ∙ ap (λ (x : List ℕ). tried_text q.manner.telling n line.words.now (taken_told u.given) outcome x (reason_told q.names.now u outcome))
         (same ∙ more ∙ ap (λ (x : List ℕ). x ++ changes_if_each q w0 w v) empty ∙ changes_by_trials q t u w0 w v f g h);
   },
 )

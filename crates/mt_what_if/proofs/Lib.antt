@@ -1,5 +1,6 @@
 pub mod MadeLaws
 pub mod SceneLaws
+pub mod SeenLaws
 pub mod TrialLaws
 pub mod TriedLaws
 pub mod AbridgedLaws

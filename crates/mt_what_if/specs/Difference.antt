@@ -16,7 +16,7 @@ rows_if_there w n = if is_space w n then table_of w n else []
 
 -- what changes in a namespace, and in each of several
 abbrev pub between_text : Numbers → WorldView → WorldView → TitledSpace → List ℕ
-between_text nb w v s = space_changes nb s.name (rows_if_there w s.number) (rows_if_there v s.number)
+between_text nb w v s = space_changes nb v.peering.peers s (rows_if_there w s.number) (rows_if_there v s.number)
 
 unfoldable pub difference_text : Numbers → WorldView → WorldView → List TitledSpace → List ℕ
 difference_text nb w v spaces = flat_map (between_text nb w v) spaces

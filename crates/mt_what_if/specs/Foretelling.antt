@@ -12,6 +12,7 @@ use Rattle.mt_what_if.specs.Json.{elsewhere_object}
 use Rattle.mt_what_if.specs.LinesTold.{tried_text}
 use Rattle.mt_what_if.specs.Naming.{numbers_of, spaces_told}
 use Rattle.mt_what_if.specs.KnownSpaces.{TitledSpace, is_unnamed}
+use Rattle.mt_what_if.specs.Reasons.{reason_told}
 use Rattle.mt_what_if.specs.Taken.{taken_told}
 use Rattle.mt_what_if.specs.Told.{events_text}
 use Rattle.mt_what_if.specs.Trials.{TrialView, world_after, for_next}
@@ -63,10 +64,11 @@ ending_text q w v = (if q.manner.each then [] else total_text q w v) ++ leak_tex
 abbrev pub changes_if_each : Question → WorldView → WorldView → WorldView → List ℕ
 changes_if_each q start w v = if q.manner.each then question_changes q (numbers_of start) w v else []
 
--- what comes of a line, and what is told of it: what it was given is taken to be there
+-- what comes of a line, and what is told of it: what it was given is taken to be there, and why it is refused
 pub record IsForetold (q : Question) (number : ℕ) (line : AskedLine) (t u : TrialView) (outcome : Outcome) (text : List ℕ) : Type 0 where
   pub tried : IsLineTried q.tables.now line (for_next t) (record { trial = u; outcome = outcome })
   pub told : text ≡ tried_text q.manner.telling number line.words.now (taken_told u.given) outcome (changes_if_each q t.start (world_after t) (world_after u))
+      (reason_told q.names.now u outcome)
 
 -- lines are tried in turn, up to one that is refused, and this is told of them
 abbrev pub AreForetold : Question → ℕ → List AskedLine → TrialView → TrialView → Outcome → List ℕ → Type 0

@@ -18,6 +18,16 @@ asked_object number line = codes "{\"line\":" ++ decimal number ++ codes ",\"ask
 unfoldable pub taken_object : List ℕ → List ℕ
 taken_object taken = codes "{\"taken\":" ++ json_text taken ++ codes "}\n"
 
+-- the name of a refusal, and why the line is refused
+unfoldable pub refusal_member : List ℕ → List ℕ
+refusal_member name = codes "{\"refusal\":" ++ json_text name
+
+unfoldable pub reason_member : List ℕ → List ℕ
+reason_member reason = codes ",\"reason\":" ++ json_text reason
+
+unfoldable pub reason_object : List ℕ → List ℕ → List ℕ
+reason_object name reason = refusal_member name ++ reason_member reason ++ codes "}\n"
+
 -- names with commas between them
 abbrev pub further_texts : List TitledSpace → List ℕ
 further_texts spaces = flat_map (λ (s : TitledSpace). codes "," ++ json_text s.name) spaces

@@ -3,6 +3,7 @@ pub mod Words
 pub mod Lines
 pub mod Along
 pub mod Abridged
+pub mod Unsure
 pub mod Spaces
 pub mod KnownSpaces
 pub mod Difference
@@ -22,5 +23,6 @@ pub mod Provided
 pub mod Taken
 pub mod Tried
 pub mod LinesTold
+pub mod Reasons
 pub mod Foretelling
 pub mod Steps

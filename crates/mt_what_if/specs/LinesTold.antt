@@ -9,7 +9,7 @@ use Rattle.mt_render.specs.Stamps.{refusal_line}
 use Rattle.mt_render.specs.Wording.{shown_line}
 use Rattle.mt_render.specs.declared.telling.Telling.{Telling}
 use Rattle.mt_render.specs.declared.telling.Telling.TheVariants.{Words, Json}
-use Rattle.mt_what_if.specs.Json.{asked_object, taken_object}
+use Rattle.mt_what_if.specs.Json.{asked_object, taken_object, reason_object}
 use Rattle.mt_what_if.specs.declared.trying.Outcome.{Outcome}
 use Rattle.mt_what_if.specs.declared.trying.Outcome.TheVariants.{Done, Refused}
 
@@ -37,14 +37,36 @@ unfoldable pub line_front : Telling → ℕ → List ℕ → List ℕ → List �
 line_front Words number words taken = shown_line (decimal number ++ codes " " ++ asked_words words) ++ flat_map taken_line (pieces 10 taken)
 line_front Json number words taken = asked_object number (asked_words words) ++ flat_map taken_piece (pieces 10 taken)
 
--- why a line is refused
-abbrev pub refusal_told : Telling → Fault → List ℕ
-refusal_told Words fault = codes "  no " ++ name_of fault ++ codes "\n"
-refusal_told Json fault = refusal_line (name_of fault)
+-- why a line is refused: the lines that say so, of which the first begins with the name of the refusal, or where there are none that name
+unfoldable pub first_reason_line : List ℕ → List ℕ
+first_reason_line line = shown_line (codes "  no " ++ line)
 
-abbrev pub outcome_text : Telling → Outcome → List ℕ
-outcome_text telling Done = []
-outcome_text telling (Refused fault) = refusal_told telling fault
+unfoldable pub later_reason_line : List ℕ → List ℕ
+later_reason_line line = shown_line (codes "  " ++ line)
+
+abbrev pub later_reason : List ℕ → List ℕ
+later_reason [] = []
+later_reason (b ∷ line) = later_reason_line (b ∷ line)
+
+abbrev pub reason_lines : List (List ℕ) → List ℕ
+reason_lines [] = []
+reason_lines (first ∷ lines) = first_reason_line first ++ flat_map later_reason lines
+
+abbrev pub refused_in_words : Fault → List ℕ → List ℕ
+refused_in_words fault [] = codes "  no " ++ name_of fault ++ codes "\n"
+refused_in_words fault (b ∷ reason) = reason_lines (pieces 10 (b ∷ reason))
+
+abbrev pub refused_as_object : Fault → List ℕ → List ℕ
+refused_as_object fault [] = refusal_line (name_of fault)
+refused_as_object fault (b ∷ reason) = reason_object (name_of fault) (b ∷ reason)
+
+abbrev pub refusal_told : Telling → Fault → List ℕ → List ℕ
+refusal_told Words fault reason = refused_in_words fault reason
+refusal_told Json fault reason = refused_as_object fault reason
+
+abbrev pub outcome_text : Telling → Outcome → List ℕ → List ℕ
+outcome_text telling Done reason = []
+outcome_text telling (Refused fault) reason = refusal_told telling fault reason
 
 -- in words nothing is told of a line of which there is nothing to tell
 abbrev pub is_told_in_words : List ℕ → List ℕ → Outcome → Bool
@@ -56,6 +78,6 @@ is_told Words taken changes outcome = is_told_in_words taken changes outcome
 is_told Json taken changes outcome = true
 
 -- a line, what is taken to be there for it, its changes, and why it is refused
-unfoldable pub tried_text : Telling → ℕ → List ℕ → List ℕ → Outcome → List ℕ → List ℕ
-tried_text telling number words taken outcome changes =
-    if is_told telling taken changes outcome then line_front telling number words taken ++ changes ++ outcome_text telling outcome else []
+unfoldable pub tried_text : Telling → ℕ → List ℕ → List ℕ → Outcome → List ℕ → List ℕ → List ℕ
+tried_text telling number words taken outcome changes reason =
+    if is_told telling taken changes outcome then line_front telling number words taken ++ changes ++ outcome_text telling outcome reason else []

@@ -65,6 +65,7 @@ directories_given t n path = give_all t (directories_lacking t.names (world_afte
 abbrev pub filesystem_mounted : Command → Option (List ℕ)
 filesystem_mounted (command.Mount n fs path) = Some fs
 filesystem_mounted (command.MountWith n fs path set) = Some fs
+filesystem_mounted (command.NewTree fs) = Some fs
 filesystem_mounted c = None
 
 abbrev pub unknown_type : List ℕ

@@ -4,13 +4,16 @@ use Rattle.std.specs.Prelude.{ℕ, Bool, false, not, ◌&&◌, if◌then◌else�
 use Rattle.std.specs.List.{flat_map}
 use Rattle.std.specs.Option.{option_map_or}
 use Rattle.mt_skel.specs.Keyed.{row_at, has}
+use Rattle.mt_peers.specs.Peers.{Peer}
 use Rattle.mt_info.specs.declared.row.Row.{Row}
 use Rattle.mt_info.specs.SameRow.{row_eq}
 use Rattle.mt_info.specs.Table.{row_id}
 use Rattle.mt_render.specs.Wording.{shown_line}
 use Rattle.mt_what_if.specs.Abridged.{ToldChange, abridged_from}
 use Rattle.mt_what_if.specs.Along.{goes_along, is_along, along_text}
+use Rattle.mt_what_if.specs.KnownSpaces.{TitledSpace, is_unnamed}
 use Rattle.mt_what_if.specs.Lines.{line_of_left, line_of_new, line_of_changed}
+use Rattle.mt_what_if.specs.Unsure.{unsure_lines}
 use Rattle.mt_what_if.specs.Words.{changes}
 use Rattle.mt_what_if.specs.declared.numbers.Numbers.{Numbers}
 
@@ -54,5 +57,9 @@ abbrev pub with_heading : List ℕ → List ℕ → List ℕ
 with_heading name [] = []
 with_heading name (b ∷ lines) = space_heading name ++ b ∷ lines
 
-abbrev pub space_changes : Numbers → List ℕ → List Row → List Row → List ℕ
-space_changes nb name before after = with_heading name (space_lines nb before after)
+-- and last what these tables do not tell; a line may be of a namespace that one names, or makes
+abbrev pub all_lines : Numbers → List Peer → TitledSpace → List Row → List Row → List ℕ
+all_lines nb es s before after = space_lines nb before after ++ unsure_lines nb es (not (is_unnamed s)) before after
+
+abbrev pub space_changes : Numbers → List Peer → TitledSpace → List Row → List Row → List ℕ
+space_changes nb es s before after = with_heading s.name (all_lines nb es s before after)

@@ -41,7 +41,14 @@ fn push_between(
 {
     let first = rows_if_there(before, space.number)?;
     let second = rows_if_there(after, space.number)?;
-    push_space(text, numbers, &space.name, first.rows(), second.rows())?;
+    push_space(
+        text,
+        numbers,
+        &after.peers,
+        space,
+        first.rows(),
+        second.rows(),
+    )?;
     Ok(())
 }
 

@@ -13,6 +13,7 @@ use crate::known_space::KnownSpace;
 use crate::line_told::{Tried, push_tried};
 use crate::naming::{numbers_of, spaces_told};
 use crate::numbers::Numbers;
+use crate::reasons::reason_told;
 use crate::scene::Scene;
 use crate::taken::taken_told;
 use crate::told::push_events_text;
@@ -128,14 +129,17 @@ fn foretell_line(
         trial.world(),
     )?;
     let taken = taken_told(alloc, trial.given())?;
+    let reason = reason_told(alloc, question.names, trial, outcome)?;
     let tried = Tried {
         telling: question.manner.telling,
         number,
         words: line.words,
         taken: &taken,
         outcome,
+        changes: &changes,
+        reason: &reason,
     };
-    push_tried(text, tried, &changes)?;
+    push_tried(text, tried)?;
     Ok(outcome)
 }
 

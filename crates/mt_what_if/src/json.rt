@@ -1,6 +1,6 @@
 //! What is told of lines, as JSON: an object a line.
 ghost use Rattle.std.specs.Prelude.{◌≡◌, ◌++◌, OnOk};
-ghost use Rattle.mt_what_if.specs.Json.{json_text, asked_object, taken_object, further_texts, listed_texts, elsewhere_object};
+ghost use Rattle.mt_what_if.specs.Json.{json_text, asked_object, taken_object, refusal_member, reason_member, reason_object, further_texts, listed_texts, elsewhere_object};
 
 use crate::known_space::KnownSpace;
 use mt_info::print::push_number;
@@ -42,6 +42,45 @@ pub(crate) fn push_taken_object(text: &mut Vec<u8>, taken: &[u8]) -> Result<(), 
 {
     text.extend_from_slice(b"{\"taken\":")?;
     push_text(text, taken)?;
+    text.extend_from_slice(b"}\n")?;
+    Ok(())
+}
+
+/// Appends bytes as a string, behind others as they are.
+fn push_behind(text: &mut Vec<u8>, front: &[u8], bytes: &[u8]) -> Result<(), AllocError>
+    ensures { OnOk result (text.new.items ≡ text.old.items ++ (front.now ++ json_text bytes.now)) }
+{
+    text.extend_from_slice(front)?;
+    push_text(text, bytes)
+}
+
+/// Appends the name of a refusal, as the first member of an object.
+#[tactic(auto, unfolding(crate::specs::Json::refusal_member))]
+fn push_refusal_member(text: &mut Vec<u8>, name: &[u8]) -> Result<(), AllocError>
+    ensures { OnOk result (text.new.items ≡ text.old.items ++ refusal_member name.now) }
+{
+    push_behind(text, b"{\"refusal\":", name)
+}
+
+/// Appends why a line is refused, as another member.
+#[tactic(auto, unfolding(crate::specs::Json::reason_member))]
+fn push_reason_member(text: &mut Vec<u8>, reason: &[u8]) -> Result<(), AllocError>
+    ensures { OnOk result (text.new.items ≡ text.old.items ++ reason_member reason.now) }
+{
+    push_behind(text, b",\"reason\":", reason)
+}
+
+/// Appends the name of a refusal, and why the line is refused.
+#[tactic(auto, unfolding(crate::specs::Json::reason_object))]
+pub(crate) fn push_reason_object(
+    text: &mut Vec<u8>,
+    name: &[u8],
+    reason: &[u8],
+) -> Result<(), AllocError>
+    ensures { OnOk result (text.new.items ≡ text.old.items ++ reason_object name.now reason.now) }
+{
+    push_refusal_member(text, name)?;
+    push_reason_member(text, reason)?;
     text.extend_from_slice(b"}\n")?;
     Ok(())
 }

@@ -15,6 +15,7 @@ mod lines;
 mod naming;
 pub mod numbers;
 mod provide;
+mod reasons;
 pub mod scene;
 mod script;
 mod sources;
@@ -26,6 +27,7 @@ pub mod told;
 pub mod trial;
 pub mod trying;
 mod unmounts;
+mod unsure;
 mod walking;
 mod words;
 

@@ -10,7 +10,7 @@ use mt_render::wording::{push_shown, push_standing};
 use std::alloc::AllocError;
 
 /// Appends the number of a mount and its mount point.
-fn push_mount(text: &mut Vec<u8>, numbers: Numbers, row: &Row) -> Result<(), AllocError>
+pub(crate) fn push_mount(text: &mut Vec<u8>, numbers: Numbers, row: &Row) -> Result<(), AllocError>
     ensures { OnOk result (text.new.items ≡ text.old.items ++ mount_and_point numbers row.now) }
 {
     numbers.push_mount(text, row.id)?;

@@ -207,6 +207,7 @@ fn filesystem_mounted(command: &Command) -> Option<&Label>
     match command {
         Command::Mount { fs, .. } => Some(fs),
         Command::MountWith { fs, .. } => Some(fs),
+        Command::NewTree { fs } => Some(fs),
         _ => None,
     }
 }

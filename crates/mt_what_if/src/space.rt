@@ -3,16 +3,19 @@ ghost use Rattle.std.specs.Prelude.{◌≡◌, ◌++◌, IfOk, OnOk, IsTrue};
 ghost use Rattle.std.specs.List.{flat_map};
 ghost use Rattle.mt_skel.specs.Keyed.{rises, has};
 ghost use Rattle.mt_info.specs.Table.{row_id};
-ghost use Rattle.mt_what_if.specs.Spaces.{text_if_gone, text_if_new, told_change, has_changed, change_in, row_changes, abridged_changes, space_lines, space_heading, with_heading, space_changes};
+ghost use Rattle.mt_what_if.specs.Spaces.{text_if_gone, text_if_new, told_change, has_changed, change_in, row_changes, abridged_changes, space_lines, space_heading, with_heading, all_lines, space_changes};
 
 use crate::abridged::{Told, push_abridged};
 use crate::along::{goes_along, push_alongs};
+use crate::known_space::KnownSpace;
 use crate::lines::{push_changed_line, push_gone_line, push_new_line};
 use crate::numbers::Numbers;
+use crate::unsure::push_unsures;
 use crate::words::push_changes;
 use mt_info::row::Row;
 use mt_info::table::find_row;
 use mt_mounts::mount::MountId;
+use mt_peers::peers::Peers;
 use mt_render::wording::push_shown;
 use std::alloc::{AllocError, Global};
 
@@ -216,21 +219,40 @@ fn push_with_heading(text: &mut Vec<u8>, name: &[u8], lines: &[u8]) -> Result<()
     }
 }
 
-/// Appends what changes from one table of a namespace to another one: a line with its name, and below it the mounts that left,
-/// those that are not as they were, and those that are new. Nothing, where nothing changes. Both tables are by rising ID.
-/// Fails for want of memory alone.
-pub(crate) fn push_space(
+/// Appends the lines of all that changes in a namespace, and last what these tables do not tell.
+fn push_all_lines(
     text: &mut Vec<u8>,
     numbers: Numbers,
-    name: &[u8],
+    peers: &Peers,
+    space: &KnownSpace,
     before: &[Row],
     after: &[Row],
 ) -> Result<(), AllocError>
     requires before { IsTrue (rises row_id before.now) }
     requires after { IsTrue (rises row_id after.now) }
-    ensures { OnOk result (text.new.items ≡ text.old.items ++ space_changes numbers name.now before.now after.now) }
+    ensures { OnOk result (text.new.items ≡ text.old.items ++ all_lines numbers peers.now.peers space.now before.now after.now) }
+{
+    let named = !space.is_unnamed();
+    push_space_lines(text, numbers, before, after)?;
+    push_unsures(text, numbers, peers, named, before, after)
+}
+
+/// Appends what changes from one table of a namespace to another one: a line with its name, and below it the mounts that left,
+/// those that are not as they were, and those that are new, and last what these tables do not tell. Nothing, where nothing changes.
+/// Both tables are by rising ID, and the states are those of the second one. Fails for want of memory alone.
+pub(crate) fn push_space(
+    text: &mut Vec<u8>,
+    numbers: Numbers,
+    peers: &Peers,
+    space: &KnownSpace,
+    before: &[Row],
+    after: &[Row],
+) -> Result<(), AllocError>
+    requires before { IsTrue (rises row_id before.now) }
+    requires after { IsTrue (rises row_id after.now) }
+    ensures { OnOk result (text.new.items ≡ text.old.items ++ space_changes numbers peers.now.peers space.now before.now after.now) }
 {
     let mut lines = Vec::new(*text.allocator());
-    push_space_lines(&mut lines, numbers, before, after)?;
-    push_with_heading(text, name, &lines)
+    push_all_lines(&mut lines, numbers, peers, space, before, after)?;
+    push_with_heading(text, &space.name, &lines)
 }

@@ -1,4 +1,4 @@
-use Rattle.mt_bind.proofs.CopyLaws.{copy-kept}
+use Rattle.mt_bind.proofs.NamespaceCopyLaws.{copy-kept}
 use Rattle.mt_bind.proofs.GoneLaws.{end-kept}
 use Rattle.mt_bind.proofs.laws.spaces_keep_worlds.Goals as goal
 

@@ -1,4 +1,4 @@
-use Rattle.std.proofs.Common.{◌≡◌, Ok, sym, ◌∙◌, arith, ap}
+use Rattle.std.proofs.Common.{◌≡◌, Ok, sym, ◌∙◌, arith}
 use Rattle.std.proofs.lemmas.Result.{err_from_is_err_and}
 use Rattle.mt_skel.proofs.SkeletonLaws.{directory_within}
 use Rattle.mt_propagate.specs.World.{world_view}

@@ -22,7 +22,7 @@ goes c = destination _ _ _ _ c.requires.well_formed (sym c.walk-2.ensures ∙ c.
 -- both places are judged: it is left to see what is below the mount, and whether the copies are too many
 judged : (c : After-is_among) → moved (world_view c.args.world.now) c.args.space c.args.from.now c.args.to.now ≡ past_places (world_view c.args.world.now) c.in_ok-source.source c.in_ok-place.place
 judged c =
-    moved_judged _ _ _ _ _ _ (sym c.walk.ensures ∙ c.in_ok-source.was) (sym c.is_mount_root.ensures ∙ c.if-not-is_mount_root.false) (sym c.is_root_mount.ensures ∙ c.if-is_root_mount.false) (sym c.walk-2.ensures ∙ c.in_ok-place.was)
+    moved_judged _ _ _ _ _ _ (sym c.is_tree.ensures ∙ c.if-is_tree.false) (sym c.walk.ensures ∙ c.in_ok-source.was) (sym c.is_mount_root.ensures ∙ c.if-not-is_mount_root.false) (sym c.is_root_mount.ensures ∙ c.if-is_root_mount.false) (sym c.walk-2.ensures ∙ c.in_ok-place.was)
     (sym c.is_root_place.ensures ∙ c.if-is_root_place.false) (sym c.has_shared_parent.ensures ∙ c.if-has_shared_parent.false)
 
 -- it was found whether the place is among them

@@ -1,54 +1,59 @@
-use Rattle.std.proofs.Common.{◌≡◌, ◌∙◌, ◌+◌, ◌∷◌, ◌++◌, [], ap, sym, subst, arith, None, refl}
-use Rattle.std.proofs.lemmas.Bool.{or_parts}
-use Rattle.mt_skel.proofs.SkeletonLaws.{directory_within}
+use Rattle.std.proofs.Common.{◌≡◌, ℕ, ◌+◌, ◌<◌, length, [], ap, sym, subst, ◌∙◌, refl, Ok}
+use Rattle.std.specs.Option.{unwrap_or}
+use Rattle.mt_skel.specs.declared.fault.Fault.TheVariants.{TooMany}
+use Rattle.mt_skel.specs.Keyed.{put}
+use Rattle.mt_skel.specs.Outcome.{outcome}
+use Rattle.mt_skel.specs.Skeleton.{fs_named}
+use Rattle.mt_skel.proofs.OutcomeLaws.{passed}
 use Rattle.mt_mounts.specs.declared.mount.Mount.{Mount}
-use Rattle.mt_mounts.specs.Forest.{root_mount}
-use Rattle.mt_peers.specs.Peers.{Peering, state_at}
+use Rattle.mt_mounts.specs.Forest.{id_of, mount_at, root_mount}
+use Rattle.mt_peers.specs.Peers.{mount_of, state_at}
 use Rattle.mt_propagate.specs.Limits.{too_many_spaces, too_many_mounts}
-use Rattle.mt_propagate.specs.World.{world_view}
+use Rattle.mt_propagate.specs.World.{WorldView, world_view}
 use Rattle.mt_propagate.specs.WellFormed.{IsWellFormed}
-use Rattle.mt_propagate.proofs.WalkLaws.{space_free}
-use Rattle.mt_propagate.proofs.PrivateLaws.{state_free, forest_after, peers_after, private_world}
+use Rattle.mt_propagate.proofs.WalkLaws.{space_free, number_free}
+use Rattle.mt_propagate.proofs.PrivateLaws.{new_peer, state_free, forest_after, peers_after, private_world}
 use Rattle.mt_bind.proofs.SpaceLaws.{new_root, space-kept}
-use Rattle.mt_bind.specs.Spaces.{with_space}
+use Rattle.mt_bind.specs.Spaces.{with_space, new_space_refusals, new_space_effect}
 use Rattle.mt_bind.proofs.spaces.new_space.Goals as goal
 
-pub insert-requires-clause-rootless : goal.insert-requires-clause-rootless
-insert-requires-clause-rootless c _ =
-    let w = world_view c.args.world.now in
-    ap (λ ms. root_mount ms w.next_space) c.in_ok-reserve.ensures.mounts ∙ space_free w c.requires.well_formed
+pub add_root-requires-clause-absent : goal.add_root-requires-clause-absent
+add_root-requires-clause-absent c = (λ i. mount_at (c.ready_root.ensures.world i).forest (c.in_ok-root.ensures.root i).id) ∙ number_free (world_view c.args.world.now) c.requires.well_formed
 
-pub join-requires-clause-absent : goal.join-requires-clause-absent
-join-requires-clause-absent c =
-    let w = world_view c.args.world.now in
-    ap (λ (p : Peering). state_at p.peers w.next_mount) c.in_ok-reserve-2.ensures.peering ∙ state_free w c.requires.well_formed
+pub add_root-requires-clause-first : goal.add_root-requires-clause-first
+add_root-requires-clause-first c = (λ i. root_mount (c.ready_root.ensures.world i).forest (c.in_ok-root.ensures.root i).space) ∙ space_free (world_view c.args.world.now) c.requires.well_formed
+
+pub add_root-requires-clause-stateless : goal.add_root-requires-clause-stateless
+add_root-requires-clause-stateless c = (λ i. state_at (c.ready_root.ensures.world i).peering.peers (c.in_ok-root.ensures.root i).id) ∙ state_free (world_view c.args.world.now) c.requires.well_formed
+
+-- the number of the filesystem
+abbrev fs : goal.After-add_root → ℕ
+fs c = unwrap_or (fs_named c.args.world.now.skel c.args.fs.now) 0
 
 -- the world after the call
-is_made : (c : goal.After-world-2-1) → with_space (world_view c.args.world.now) c.in-Some.fs ≡ record {
-  skel = c.args.world.now.skel;
-  forest = c.insert.new.self.mounts;
-  peering = record { peers = c.join.new.self.peers; next = c.join.new.self.next };
-  next_mount = c.args.world.now.next_mount + 1;
-  next_space = c.args.world.now.next_space + 1;
-  trees = c.args.world.now.trees;
-}
+is_made : (c : goal.After-add_root) → world_view c.add_root.new.world ≡ with_space (world_view c.args.world.now) (fs c)
 unfolding with_space
 is_made c =
     let w = world_view c.args.world.now in
-    let m : Mount = record { id = w.next_mount; space = w.next_space; place = None; root = c.root.result; attrs = c.new.result } in
-    let forest = forest_after w m _ _ c.requires.well_formed refl c.insert.ensures.mounts c.in_ok-reserve.ensures.mounts in
-    let peers = peers_after w _ _ c.requires.well_formed c.join.ensures.peers (ap (λ (p : Peering). p.peers) c.in_ok-reserve-2.ensures.peering) in
-    let next = c.join.ensures.next ∙ ap (λ (p : Peering). p.next) c.in_ok-reserve-2.ensures.peering in
-    sym (private_world w _ (new_root w c.in-Some.fs) (w.next_space + 1) refl
-    (forest ∙ (λ i. w.forest ++ record m { root = c.root.ensures.root i; attrs = c.new.ensures i } ∷ [])) peers next refl refl refl)
+    let still = c.ready_root.ensures.world in
+    let root = c.in_ok-root.ensures.root in
+    let m = new_root w (fs c) in
+    private_world w _ m (w.next_space + 1) (c.add_root.ensures.same.0 ∙ ap (λ (v : WorldView). v.skel) still)
+    (forest_after w m _ _ c.requires.well_formed refl (c.add_root.ensures.forest ∙ ap (λ (m : Mount). put id_of m c.ready_root.new.world.forest.mounts) root) (ap (λ (v : WorldView). v.forest) still))
+    (peers_after w _ _ c.requires.well_formed (c.add_root.ensures.peers ∙ ap (λ (m : Mount). put mount_of (new_peer m.id) c.ready_root.new.world.peers.peers) root) (ap (λ (v : WorldView). v.peering.peers) still))
+    (c.add_root.ensures.same.1 ∙ ap (λ (v : WorldView). v.peering.next) still)
+    (c.add_root.ensures.next.0 ∙ ap (λ (v : WorldView). v.next_mount + 1) still) (c.add_root.ensures.next.1 ∙ ap (λ (v : WorldView). v.next_space + 1) still)
+    (c.add_root.ensures.same.2 ∙ ap (λ (v : WorldView). v.trees) still)
 
 pub returns-clause-done : goal.returns-clause-done
 returns-clause-done c =
     let w = world_view c.args.world.now in
-    let few = or_parts (too_many_spaces w) (too_many_mounts w 1) (sym c.too_many.ensures ∙ c.if-too_many.false) in
-    rw (sym c.fs.ensures.number ∙ c.in-Some.is, few.0, few.1, is_made c) refl
+    let p = c.in_ok-root.ensures.passed in
+    let number = c.add_root.ensures.space ∙ ap (λ (m : Mount). m.space) c.in_ok-root.ensures.root in
+    (λ i. outcome (new_space_refusals w (p.0 i)) (new_space_effect w (p.0 i))) ∙ passed (too_many_spaces w) TooMany _ _ p.1 ∙ passed (too_many_mounts w 1) TooMany [] _ p.2
+    ∙ (λ i. Ok (sym (is_made c) i, sym number i))
 
 pub returns-clause-kept : goal.returns-clause-kept
 returns-clause-kept c =
-    let there = directory_within c.args.world.now.skel c.root.result c.root.ensures.there in
-    subst IsWellFormed (is_made c) (space-kept (world_view c.args.world.now) c.in-Some.fs c.requires.well_formed (omega (arith, there, c.root.ensures.root)))
+    let w = world_view c.args.world.now in
+    subst IsWellFormed (sym (is_made c)) (space-kept w (fs c) c.requires.well_formed (subst (λ (m : Mount). m.root < length w.skel.directories) c.in_ok-root.ensures.root c.in_ok-root.ensures.there))

@@ -16,6 +16,6 @@ take_away-requires-clause-can_go c =
 
 pub returns-clause-done : goal.returns-clause-done
 returns-clause-done c =
-    detached-done (world_view c.args.world.now) c.args.space c.args.path.now c.in_ok-end.end c.top-place.result c.top-place.ensures (sym c.walk.ensures ∙ c.in_ok-end.was)
+    detached-done (world_view c.args.world.now) c.args.space c.args.path.now c.in_ok-end.end c.top-place.result c.top-place.ensures (sym c.is_tree.ensures ∙ c.if-is_tree.false) (sym c.walk.ensures ∙ c.in_ok-end.was)
     (sym c.is_mount_root.ensures ∙ c.if-not-is_mount_root.false) (sym c.is_root_mount.ensures ∙ c.if-is_root_mount.false) c.in_ok-gone.gone c.in_ok-gone.ensures.gone
     ∙ ap (λ (v : WorldView). Ok v) (sym c.in_ok-take_away.ensures.gone)

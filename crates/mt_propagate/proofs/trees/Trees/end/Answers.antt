@@ -1,4 +1,4 @@
-use Rattle.std.proofs.Common.{◌≡◌, ℕ, List, not, ◌==◌, rules, ap, ◌∙◌}
+use Rattle.std.proofs.Common.{ℕ, List, not, ◌==◌, rules, ap, ◌∙◌}
 use Rattle.std.specs.List.{filter}
 use Rattle.std.proofs.lemmas.Fn.{filter_same}
 use Rattle.mt_propagate.proofs.trees.Trees.end.Goals as goal
