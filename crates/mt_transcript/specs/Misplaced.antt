@@ -1,10 +1,9 @@
 -- Which lines of a transcript do not stand where they may.
 -- A word with no source is this project's rule.
-use Rattle.std.specs.Prelude.{ℕ, ◌+◌, nat_lt, nat_le, nat_eq, Bool, true, false, not, ◌||◌, ◌&&◌, if◌then◌else◌, List, [], ◌∷◌, ◌++◌, drop, Option, Some, None, codes}
-use Rattle.std.specs.List.{starts_with}
+use Rattle.std.specs.Prelude.{ℕ, ◌+◌, nat_lt, nat_le, Bool, true, false, not, ◌||◌, ◌&&◌, if◌then◌else◌, List, [], ◌∷◌, ◌++◌, drop, Option, Some, None, codes}
 use Rattle.mt_lines.specs.Words.{number_in_text}
 use Rattle.mt_transcript.specs.Lines.{ReadLine}
-use Rattle.mt_transcript.specs.Sent.{bytes_sent, ends_input}
+use Rattle.mt_transcript.specs.Sent.{has_mark, bytes_sent, ends_input}
 use Rattle.mt_transcript.specs.declared.lines.LineKind.{LineKind}
 use Rattle.mt_transcript.specs.declared.lines.LineKind.TheVariants.{Nothing, Comment, Arguments, Sent, Answer}
 use Rattle.mt_transcript.specs.declared.misplaced.Before.{Before}
@@ -32,7 +31,7 @@ within_by None = None
 within_by (Some n) = if_within n
 
 abbrev pub queue_of : List ℕ → Option ℕ
-queue_of line = if starts_with nat_eq line (codes "$ -" ++ codes "-queue ") then within_by (number_in_text (drop 10 line)) else None
+queue_of line = if has_mark (codes "$ -" ++ codes "-queue ") line then within_by (number_in_text (drop 10 line)) else None
 
 -- what a line is
 abbrev pub is_sent : LineKind → Bool

@@ -1,7 +1,7 @@
 -- What an input line of a transcript sends.
 -- A word with no source is this project's rule.
-use Rattle.std.specs.Prelude.{ℕ, suc, nat_lt, nat_le, nat_eq, Bool, ◌||◌, ◌&&◌, ◌==◌, if◌then◌else◌, List, [], ◌∷◌, ◌++◌, drop, length, Option, Some, None, codes}
-use Rattle.std.specs.List.{starts_with, list_any}
+use Rattle.std.specs.Prelude.{ℕ, suc, nat_lt, nat_le, Bool, ◌||◌, ◌&&◌, ◌==◌, if◌then◌else◌, List, [], ◌∷◌, ◌++◌, take, drop, length, Option, Some, None, codes}
+use Rattle.std.specs.List.{list_any}
 use Rattle.std.specs.Option.{option_map, is_some}
 use Rattle.std.specs.Str.{bytes_eq}
 use Rattle.mt_lines.specs.Words.{pieces, words, number_in_text}
@@ -13,9 +13,13 @@ abbrev pub unless_empty : List ℕ → Option (List ℕ)
 unless_empty [] = None
 unless_empty (b ∷ bs) = Some (b ∷ bs)
 
+-- whether the first bytes of a line are a mark
+abbrev pub has_mark : List ℕ → List ℕ → Bool
+has_mark mark line = bytes_eq (take (length mark) line) mark
+
 -- the text behind a mark with which a line begins
 abbrev pub behind_mark : List ℕ → List ℕ → Option (List ℕ)
-behind_mark mark line = if starts_with nat_eq line mark then unless_empty (drop (length mark) line) else None
+behind_mark mark line = if has_mark mark line then unless_empty (drop (length mark) line) else None
 
 -- how often a word is repeated
 abbrev pub count_within : ℕ → Option ℕ

@@ -1,7 +1,7 @@
 //! Lines that do not stand where they may.
 ghost use Rattle.std.specs.Prelude.{◌≡◌, map, IfOk};
 ghost use Rattle.mt_transcript.specs.Lines.{line_viewed};
-ghost use Rattle.mt_transcript.specs.Misplaced.{sentence_of, if_within, queue_of, is_behind_answer, before_all, with_line, last_why, sent_why, comment_why, arguments_why, answer_why, why_not, misplaced_in};
+ghost use Rattle.mt_transcript.specs.Misplaced.{sentence_of, if_within, queue_of, is_behind_answer, before_all, with_line, last_why, sent_why, comment_why, arguments_why, answer_why, why_not, has_no_line, misplaced_in};
 
 use crate::lines::{LineKind, TranscriptLine};
 use crate::sent::{bytes_sent, ends_input};
@@ -199,6 +199,16 @@ impl Before {
     }
 }
 
+/// Whether there is no line.
+fn has_no_line(lines: &[TranscriptLine<'_>]) -> bool
+    ensures { result ≡ has_no_line (map line_viewed lines.now) }
+{
+    match lines {
+        [] => true,
+        [_first, ..] => false,
+    }
+}
+
 /// The first of the lines of a transcript that does not stand where it may, and why: of these the last one is what stands behind the
 /// last line end. Fails for want of memory alone.
 pub fn misplaced_in(
@@ -209,7 +219,7 @@ pub fn misplaced_in(
 {
     let mut before = before_all();
     'lines: for (place, line) in lines.iter().enumerate() {
-        let is_last = place + 1 == lines.len();
+        let is_last = has_no_line(&lines[place + 1..]);
         if let Some(why) = before.why_not(alloc, *line, is_last)? {
             return Ok(Some(Misplaced {
                 number: place as u64 + 1,

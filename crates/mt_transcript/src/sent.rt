@@ -115,6 +115,7 @@ fn repeated(alloc: Global, text: &[u8]) -> Result<Option<Vec<u8>>, AllocError>
 /// What an input line sends, if it is one: `> TEXT` the text and a line end, `>` alone a line end; `>. TEXT` the text without one;
 /// `>* TEXT` and `>*. TEXT` the same of a text in which `{N WORD}` stands for the word, written N times, up to 65,536. Fails for
 /// want of memory alone.
+#[tactic(auto, unfolding(crate::specs::Sent::bytes_sent))]
 pub fn bytes_sent(alloc: Global, line: &[u8]) -> Result<Option<Vec<u8>>, AllocError>
     ensures { IfOk result (λ sent. option_map (λ x. x.items) sent ≡ bytes_sent line.now) }
 {
