@@ -28,8 +28,9 @@ abbrev pub changes_in_spaces : Telling → List TitledSpace → Numbers → Worl
 changes_in_spaces Words spaces nb w v = difference_text nb w v spaces
 changes_in_spaces Json spaces nb w v = events_text w v spaces
 
-unfoldable pub question_changes : Question → Numbers → WorldView → WorldView → List ℕ
-question_changes q nb w v = changes_in_spaces q.manner.telling (spaces_told q.names.now q.lines.now w v) nb w v
+-- those of its tables, and those that its lines have made since the start
+unfoldable pub question_changes : Question → WorldView → WorldView → WorldView → List ℕ
+question_changes q start w v = changes_in_spaces q.manner.telling (spaces_told q.names.now q.lines.now start v) (numbers_of start) w v
 
 -- what all lines change together
 abbrev pub total_heading : Telling → List ℕ
@@ -37,7 +38,7 @@ total_heading Words = codes "all lines together:\n"
 total_heading Json = []
 
 abbrev pub total_text : Question → WorldView → WorldView → List ℕ
-total_text q w v = total_heading q.manner.telling ++ question_changes q (numbers_of w) w v
+total_text q w v = total_heading q.manner.telling ++ question_changes q w w v
 
 -- which namespaces change that no line names
 abbrev pub changed_spaces : List TitledSpace → WorldView → WorldView → List TitledSpace
@@ -62,7 +63,7 @@ ending_text q w v = (if q.manner.each then [] else total_text q w v) ++ leak_tex
 
 -- what a line changes, where that is told of each line
 abbrev pub changes_if_each : Question → WorldView → WorldView → WorldView → List ℕ
-changes_if_each q start w v = if q.manner.each then question_changes q (numbers_of start) w v else []
+changes_if_each q start w v = if q.manner.each then question_changes q start w v else []
 
 -- what comes of a line, and what is told of it: what it was given is taken to be there, and why it is refused
 pub record IsForetold (q : Question) (number : ℕ) (line : AskedLine) (t u : TrialView) (outcome : Outcome) (text : List ℕ) : Type 0 where

@@ -78,27 +78,28 @@ fn push_changes_in(
     }
 }
 
-/// Appends what changes from one world to another one in the namespaces of a question.
+/// Appends what changes from one world to another one in the namespaces of a question, of which lines may have made some since
+/// the start.
 #[tactic(auto, unfolding(crate::specs::Foretelling::question_changes))]
 fn push_changes(
     text: &mut Vec<u8>,
     question: &Question<'_, '_>,
-    numbers: Numbers,
+    start: &World,
     before: &World,
     after: &World,
 ) -> Result<(), Fault>
     requires before { IsWellFormed (world_view before.now) }
     requires after { IsWellFormed (world_view after.now) }
-    ensures text { OnOk result (text.new.items ≡ text.old.items ++ question_changes question.now numbers (world_view before.now) (world_view after.now)) }
+    ensures text { OnOk result (text.new.items ≡ text.old.items ++ question_changes question.now (world_view start.now) (world_view before.now) (world_view after.now)) }
     ensures memory { IsOkUnless result Fault.NoMemory }
 {
     let alloc = *text.allocator();
-    let spaces = spaces_told(alloc, question.names, question.lines, before, after)?;
+    let spaces = spaces_told(alloc, question.names, question.lines, start, after)?;
     push_changes_in(
         text,
         question.manner.telling,
         &spaces,
-        numbers,
+        numbers_of(start),
         before,
         after,
     )
@@ -157,7 +158,7 @@ fn push_if_each(
     ensures memory { IsOkUnless result Fault.NoMemory }
 {
     if question.manner.each {
-        push_changes(text, question, numbers_of(start), before, after)?;
+        push_changes(text, question, start, before, after)?;
     }
     Ok(())
 }
@@ -210,7 +211,7 @@ fn push_total(
         return Ok(());
     }
     text.extend_from_slice(total_heading(question.manner.telling))?;
-    push_changes(text, question, numbers_of(before), before, after)?;
+    push_changes(text, question, before, before, after)?;
     Ok(())
 }
 
