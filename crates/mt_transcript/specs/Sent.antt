@@ -1,6 +1,6 @@
 -- What an input line of a transcript sends.
 -- A word with no source is this project's rule.
-use Rattle.std.specs.Prelude.{ℕ, suc, nat_lt, nat_le, Bool, ◌||◌, ◌&&◌, ◌==◌, if◌then◌else◌, List, [], ◌∷◌, ◌++◌, take, drop, length, Option, Some, None, codes}
+use Rattle.std.specs.Prelude.{ℕ, zero, suc, nat_lt, nat_le, Bool, ◌||◌, ◌&&◌, ◌==◌, if◌then◌else◌, List, [], ◌∷◌, ◌++◌, take, drop, length, Option, Some, None, codes}
 use Rattle.std.specs.List.{list_any}
 use Rattle.std.specs.Option.{option_map, is_some}
 use Rattle.std.specs.Str.{bytes_eq}
@@ -33,8 +33,8 @@ abbrev pub times_said : List ℕ → Option ℕ
 times_said digits = count_by (number_in_text digits)
 
 abbrev pub times : ℕ → List ℕ → List ℕ
-times 0 word = []
-times (suc n) word = word ++ times n word
+times zero word = []
+times (suc n) word = times n word ++ word
 
 -- a count and a word between braces
 abbrev pub repeated_word : Option ℕ → Option (List ℕ) → Option (List ℕ)

@@ -106,7 +106,7 @@ fn before_all() -> Before
 impl Before {
     /// What the lines up to this one say of the next.
     fn with_line(self, line: TranscriptLine<'_>) -> Before
-        ensures { result ≡ with_line self (line_viewed line) }
+        ensures { result ≡ with_line self (line_viewed line.entry) }
     {
         let is_sent = line.kind == LineKind::Sent;
         Before {
@@ -184,7 +184,7 @@ impl Before {
         line: TranscriptLine<'_>,
         is_last: bool,
     ) -> Result<Option<Why>, AllocError>
-        ensures { IfOk result (λ why. why ≡ why_not self (line_viewed line) is_last) }
+        ensures { IfOk result (λ why. why ≡ why_not self (line_viewed line.entry) is_last) }
     {
         if is_last {
             return Ok(self.last_why(line.text));
