@@ -1,6 +1,6 @@
 -- Which lines of a transcript do not stand where they may.
 -- A word with no source is this project's rule.
-use Rattle.std.specs.Prelude.{ℕ, ◌+◌, nat_lt, nat_le, Bool, true, false, ◌||◌, ◌&&◌, if◌then◌else◌, List, [], ◌∷◌, ◌++◌, drop, Option, Some, None, codes}
+use Rattle.std.specs.Prelude.{ℕ, ◌+◌, nat_lt, nat_le, Bool, true, false, not, ◌||◌, ◌&&◌, if◌then◌else◌, List, [], ◌∷◌, ◌++◌, drop, Option, Some, None, codes}
 use Rattle.mt_lines.specs.Words.{number_in_text}
 use Rattle.mt_transcript.specs.Lines.{ReadLine}
 use Rattle.mt_transcript.specs.Sent.{has_mark, bytes_sent, ends_input}
