@@ -60,6 +60,21 @@ KEPT_SAID = b"""1 mount --make-private /home
 elsewhere: nothing changes in 2 other namespaces
 """
 
+# A line in a namespace that the line before it has made, where each line's changes are told.
+EACH = "unshare", "-m", "--", "nsenter", "-t", "new:1", "-m", "mount", "-t", "tmpfs", "none", "/media"
+EACH_SAID = b"""1 unshare -m
+  new:1:
+    + new:1 / ext4 rw,relatime private
+    + new:2 /proc proc rw,nosuid,nodev,noexec,relatime private
+    + new:3 /run tmpfs rw,nosuid,nodev private
+    + new:4 /home ext4 rw,relatime private
+2 nsenter -t new:1 -m mount -t tmpfs none /media
+    taken to be there: filesystem none
+  new:1:
+    + new:5 /media tmpfs rw,relatime private
+elsewhere: nothing changes in 1 other namespace
+"""
+
 # Options of a row that a line sets, and the propagation that it makes.
 SETS = b"set=ro", b"set=nosuid,noexec", b"clr=nodev", b"set=noatime clr=atime"
 KINDS = b"shared", b"slave", b"private", b"unbindable"
@@ -215,10 +230,12 @@ def check_said(mountctl, name, names, line, wanted):
 
 
 def check_by_hand(mountctl):
-    """A refused line, and which mounts are in its way; and a master that may have a mount in a table which is not there."""
+    """A refused line, and which mounts are in its way; a master that may have a mount in a table which is not there; a namespace that
+    a line has made."""
     names = [os.path.join(TOP, "docs", "tables", name) for name in ("host", "container")]
     check_said(mountctl, "a refused line with its reason", names, REFUSED, (1, REFUSED_SAID))
     check_said(mountctl, "a master without a mount", names, LEFT, (0, LEFT_SAID))
+    check_said(mountctl, "a line in a namespace that one before it made", [*names, "--each"], EACH, (0, EACH_SAID))
     with files_of([OTHER]) as others:
         check_said(mountctl, "a master with a mount in one more table", names + others, LEFT, (0, KEPT_SAID))
 
