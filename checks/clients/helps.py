@@ -27,6 +27,9 @@ WORLD = [
     *(b"mkfs root ext4 /dev/sda2", b"mkdir root /media", b"mkdir root /mnt", b"mkdir root /srv", b"newns root", b"newns root"),
     *(b"mkfs usb vfat /dev/sdb1", b"mkdir usb /old", b"mount 1 usb /media"),
 ]
+# The same, where the second namespace is a detached tree.
+WORLD_WITH_TREE = [*WORLD[:5], b"opentree 1 /srv", *WORLD[6:]]
+WORLDS = {b"movetree": WORLD_WITH_TREE}
 BESIDES = {b"take": [b"watch all"], b"follow": [b"watch all", b"umount 1 /media"], b"close": [b"watch all"]}
 
 # The examples that end once somebody else changes something, or never.
@@ -71,8 +74,9 @@ def check_page(word, page, forms):
 def check_line(program, word, example):
     """A session accepts the example of a line, in a world that has what it asks for."""
     check(f"the example of {word}", example.split(" ")[0] == word, example)
-    place = WORLD.index(example.encode()) if example.encode() in WORLD else len(WORLD)
-    before = WORLD[:place] + BESIDES.get(word.encode(), [])
+    world = WORLDS.get(word.encode(), WORLD)
+    place = world.index(example.encode()) if example.encode() in world else len(world)
+    before = world[:place] + BESIDES.get(word.encode(), [])
     without, told = (session(program, lines)[1] for lines in (before, [*before, example.encode()]))
     answer = told[len(without) :]
     good = told.startswith(without) and b"no " not in without and re.search(rb"(?m)^ok\b", answer) and not re.search(rb"(?m)^no ", answer)
