@@ -1,6 +1,7 @@
 -- A contained family of namespaces is one whose mounts are with all that receive from them.
-use Rattle.std.proofs.Common.{◌≡◌, ℕ, Bool, true, false, List, Some, None, Result, Ok, Err, refl, sym, ap, ◌∙◌, subst, length}
+use Rattle.std.proofs.Common.{◌≡◌, ℕ, ◌<◌, Bool, true, false, List, Option, Some, None, Result, Ok, Err, refl, sym, ap, ◌∙◌, subst, length, arith}
 use Rattle.std.specs.Prelude.{unwrap_or}
+use Rattle.std.specs.Option.{option_map}
 use Rattle.std.proofs.lemmas.Bool.{true≢false}
 use Rattle.mt_skel.specs.Keyed.{rises}
 use Rattle.mt_skel.specs.declared.fault.Fault.{Fault}
@@ -47,6 +48,27 @@ contained family w r a = record {
       let s = slave-state w i m ei in
       let t = grouped-state w j g ej in
       reached (λ i. family (space_of w i) ≡ true) w.peering.peers r a i j m g s.0 t.0 s.1 t.1 s.2 t.2 q far;
+}
+
+-- each namespace that a mount is in was given out
+pub space_low : (w : WorldView) → IsWellFormed w → (i : ℕ) → space_of w i < w.next_space
+space_low w h i = go (mount_at w.forest i) refl
+  where
+    go : (o : Option Mount) → mount_at w.forest i ≡ o → space_of w i < w.next_space
+    go None e =
+        let zero : space_of w i ≡ 0 = ap (λ (o : Option Mount). unwrap_or (option_map (λ (m : Mount). m.space) o) 0) e in
+        let one = h.from_one in
+        omega (arith, zero, one.1)
+    go (Some m) e =
+        let low = h.below i m e in
+        let is = space_is w i m e in
+        omega (arith, low.3, is)
+
+-- of two families that agree on the namespaces of all mounts, one is contained where the other is
+pub alike_contained : (f g : ℕ → Bool) (w : WorldView) → ((i : ℕ) → f (space_of w i) ≡ g (space_of w i)) → IsContained f w → IsContained g w
+alike_contained f g w same c = record {
+  groups = λ i j x ei ej q. sym (same j) ∙ c.groups i j x ei ej (same i ∙ q);
+  chains = λ i j m x ei ej q far. sym (same i) ∙ c.chains i j m x ei ej (same j ∙ q) far;
 }
 
 -- where mounts leave, and the others stay in their namespaces
