@@ -59,10 +59,10 @@ pub(crate) const IN_PLACE_OF_LINES: [Usage; 13] = [
 ];
 
 /// What may stand in the place of a socket and a line.
-pub(crate) const IN_PLACE_OF_SOCKETS: [Usage; 9] = [
+pub(crate) const IN_PLACE_OF_SOCKETS: [Usage; 11] = [
     Usage {
         words: "what-if [OPTION].. TABLE.. -- LINE [-- LINE]..",
-        says: "tells what lines would change in the namespaces of tables, with no server: each TABLE is a file, or\nwith --pid a process; --all stands for each mount namespace of this machine. A LINE is one of\nmount, umount, unshare, nsenter, pivot_root or of a session; - stands for those of standard input.\n--each tells what each line changes, --json prints objects, and with --fail-if-elsewhere the\nstatus is 4 where a namespace changes that no line names",
+        says: "tells what lines would change in the namespaces of tables, with no server: each TABLE is a file, or\nwith --pid a process; --all stands for each mount namespace of this machine. A LINE is one of\nmount, umount, unshare, nsenter, pivot_root or of a session; - stands for those of standard input.\n--each tells what each line changes, --json prints objects, and --page a page for a browser that plays\nthe lines; with --fail-if-elsewhere the status is 4 where a namespace changes that no line names",
     },
     Usage {
         words: "import",
@@ -87,6 +87,14 @@ pub(crate) const IN_PLACE_OF_SOCKETS: [Usage; 9] = [
     Usage {
         words: "holders TABLE.. -- SOURCE|MAJ:MIN|NS PATH [--json]",
         says: "what still shows it",
+    },
+    Usage {
+        words: "session",
+        says: "answers the lines of standard input in a new server of its own; it also knows help [WORD] and\ntree [NS [PATH]|all], says why a line is refused, and has a prompt at a terminal",
+    },
+    Usage {
+        words: "play FILE|-",
+        says: "plays a transcript, line by line, in such a server, and says how many lines are answered as it tells",
     },
     Usage {
         words: "explain REFUSAL|ERRNO",

@@ -11,6 +11,7 @@ mod connection;
 mod explain;
 mod fault;
 mod foretold;
+mod foretold_page;
 mod found;
 mod help;
 mod import;
@@ -24,9 +25,11 @@ mod namespaces;
 mod naming;
 mod newness;
 mod options;
+mod own_session;
 mod page;
 mod page_task;
 mod part;
+mod play;
 mod played;
 mod process_tables;
 mod processes;
@@ -37,6 +40,7 @@ mod refusals;
 mod screen;
 mod script;
 mod server_tables;
+mod session;
 mod sources;
 mod spaces;
 mod tables;
@@ -58,10 +62,12 @@ use crate::messages::NAME;
 use crate::naming::named_words;
 use crate::page_task::run_page;
 use crate::part::{Part, draw_part};
+use crate::play::run_play;
 use crate::questions::{Question, form_of_words, run_question};
 use crate::quiet::Quiet;
 use crate::screen::standard_output;
 use crate::script::{SCRIPT_LIMIT, run_script};
+use crate::session::run_session;
 use crate::spaces::list_spaces;
 use crate::tables::import_files;
 use crate::task::{Task, WordFault, found_words, part_words, task_of};
@@ -315,6 +321,8 @@ fn run(rt: &HostRuntime) -> io::Result<ExitCode> {
         [_, "import", words @ ..] => import_files(rt, words),
         [_, "what-if", words @ ..] => run_foretold(rt, words),
         [_, "explain", words @ ..] => explain(rt, words),
+        [_, "play", words @ ..] => run_play(rt, words),
+        [_, "session", words @ ..] => run_session(rt, words),
         [_, "reach", words @ ..] if words.contains(&"--") => {
             run_question(rt, Question::Reach, words)
         }

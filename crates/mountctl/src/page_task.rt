@@ -2,8 +2,8 @@
 
 use crate::connection::{connected, status_of};
 use crate::fault::Fault;
-use crate::kept::Kept;
 use crate::messages::NAME;
+use crate::own_session::answers_to;
 use crate::page::{PageData, Unplayed, play};
 use crate::played::{Played, PlayedFault, read_played};
 use crate::quiet::Quiet;
@@ -13,11 +13,10 @@ use crate::task::WordFault;
 use crate::{LINE_LIMIT, PROGRAM};
 use mt_client::relay::print_text;
 use mt_floor::floor::Floor;
-use mt_lines::line::{LineReader, ReadFault};
+use mt_lines::line::LineReader;
 use mt_lines::stream::{Reading, Writing};
 use mt_page::data::Step;
 use mt_page::template::{BEFORE, BEHIND};
-use mt_session::serving::{End, LINE_LIMIT as SESSION_LIMIT, serve_plain};
 use mt_terminal::message::Shown;
 use std::alloc::{AllocError, Global};
 use std::os::unix::net::UnixStream;
@@ -39,22 +38,12 @@ fn requests_of(alloc: Global, steps: &[Step]) -> Result<Vec<u8>, AllocError> {
     Ok(requests)
 }
 
-/// The answers of a new server to requests: a session of its own, as `mountd -` serves one.
-fn answers_to(alloc: Global, requests: &[u8]) -> Result<Kept, Fault> {
-    let mut input = LineReader::new(alloc, Reading::new(requests), SESSION_LIMIT)?;
-    let mut answers = Kept::new(alloc);
-    let mut floor = Floor::new(alloc, QUEUE);
-    match serve_plain(alloc, &mut input, &mut answers, &mut floor) {
-        End::Cut(_) | End::Read(ReadFault::NoMemory) | End::Memory => Err(Fault::NoMemory),
-        End::Read(_) | End::Quit | End::Stop | End::Input | End::Spent => Ok(answers),
-    }
-}
-
 /// The data of a session's page, which a new server of its own answers.
 fn play_alone(rt: &HostRuntime, session: Played, title: &[u8]) -> Result<PageData, Unplayed> {
     let alloc = rt.alloc();
     let requests = requests_of(alloc, session.steps.as_slice())?;
-    let answers = answers_to(alloc, requests.as_slice())?;
+    let mut floor = Floor::new(alloc, QUEUE);
+    let answers = answers_to(alloc, &mut floor, requests.as_slice())?;
     let mut lines = LineReader::new(alloc, Reading::new(answers.text()), LINE_LIMIT)?;
     play(alloc, session, title, &mut lines, &mut Quiet)
 }
@@ -73,7 +62,7 @@ fn play_over(
 }
 
 /// Prints the page of these data.
-fn print_page(rt: &HostRuntime, data: &PageData) -> Result<bool, Fault> {
+pub(crate) fn print_page(rt: &HostRuntime, data: &PageData) -> Result<bool, Fault> {
     let mut out = standard_output(rt);
     print_text(&mut out, BEFORE.as_bytes())?;
     print_text(&mut out, data.opening.as_slice())?;

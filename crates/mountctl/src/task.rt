@@ -94,10 +94,16 @@ pub(crate) enum WordFault {
     WhatIf,
     /// Behind `what-if`, without a server.
     Question,
+    /// Two forms of an answer, which has one.
+    Form,
     /// More tables than a server has namespaces.
     TooMany,
     /// Behind `page`.
     Page,
+    /// Behind `play`.
+    Play,
+    /// Behind `session`.
+    Session,
     /// Behind `explain`, which stands in the place of a socket.
     Explain,
     /// Behind `help`.
@@ -127,6 +133,7 @@ impl WordFault {
             WordFault::Question => {
                 "what-if takes files, --pid and processes or --all, and lines behind --, or - for those of standard input"
             }
+            WordFault::Form => "what-if prints a page or JSON",
             WordFault::TooMany => "more than 64 tables",
             WordFault::Page => "page takes a title, or no words",
             WordFault::Reach =>
@@ -136,6 +143,8 @@ impl WordFault {
             WordFault::Holders => {
                 "holders takes tables, and behind -- a source, a device, or a namespace and a path; behind a socket those alone"
             }
+            WordFault::Play => "play takes a file, or - for standard input",
+            WordFault::Session => "session takes no words",
             WordFault::Explain => "explain takes the name of a refusal, or an errno",
             WordFault::Help => "help takes a word, or none",
         }

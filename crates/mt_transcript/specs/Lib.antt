@@ -1,0 +1,4 @@
+pub mod Lines
+pub mod Sent
+pub mod Misplaced
+pub mod Told
