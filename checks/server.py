@@ -41,6 +41,7 @@ from clients.python import check_python
 from clients.questions import check_questions
 from clients.reasons import check_reasons
 from clients.refusals import check_refusals
+from clients.saves import check_saves
 from clients.starts import check_starts
 from clients.terminals import check_terminals
 from clients.transcripts import check_transcripts
@@ -113,6 +114,7 @@ CLIENT_PARTS = {
     "played": check_played,
     "transcripts": check_transcripts,
     "own sessions": check_own_sessions,
+    "saves": check_saves,
     "foretold": check_foretold,
     "paged": check_paged,
 }

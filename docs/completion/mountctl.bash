@@ -42,12 +42,13 @@ _mountctl_words()
 {
     local count=$#
     case $1:$count in
-        :0) echo mkfs mkdir newns copyns dropns mount bind rbind move pivot umount detach setattr opentree newtree movetree show find watch take follow close quit stop - monitor mirror tree dot spaces what-if reach origin holders page ;;
+        :0) echo mkfs mkdir newns copyns dropns mount bind rbind move pivot umount detach setattr opentree newtree movetree show find journal watch take follow close quit stop - monitor mirror tree dot spaces what-if reach origin holders save page ;;
         copyns:2) echo less ;;
         opentree:3) echo rec ;;
         mount:4) echo set={ro,nosuid,nodev,noexec,nosymfollow,nodiratime,relatime,noatime,strictatime} ;;
         watch:1) echo all ;;
         show:2 | find:3 | reach:3 | origin:3 | holders:[23]) echo --json ;;
+        page:[12]) echo --journal ;;
         tree:[1-9] | dot:[1-9] | spaces:[1-9] | monitor:[1-9]) _mountctl_options "$@" ;;
         setattr:[3-9])
             # Each option may be there once.

@@ -3,7 +3,7 @@
 use mt_help::page::Usage;
 
 /// What may stand in the place of a line.
-pub(crate) const IN_PLACE_OF_LINES: [Usage; 13] = [
+pub(crate) const IN_PLACE_OF_LINES: [Usage; 14] = [
     Usage {
         words: "-",
         says: "sends the lines of standard input, one after another, but for comments",
@@ -53,8 +53,12 @@ pub(crate) const IN_PLACE_OF_LINES: [Usage; 13] = [
         says: "names the mounts that still show a filesystem, or the directory there",
     },
     Usage {
-        words: "page [TITLE]",
-        says: "plays the lines of standard input, and prints what they do as a page for a browser;\nwithout SOCKET, also where MOUNTD_SOCKET is set, in a new server of its own",
+        words: "save",
+        says: "prints the session that makes what is there: the commands that were accepted, as lines for a new server",
+    },
+    Usage {
+        words: "page [--journal] [TITLE]",
+        says: "plays the lines of standard input, and prints what they do as a page for a browser;\nwithout SOCKET, also where MOUNTD_SOCKET is set, in a new server of its own;\nwith --journal plays what the server has accepted since its start, and sends it nothing",
     },
 ];
 

@@ -35,6 +35,7 @@ fn example_of(word: &str) -> &'static str {
         "reach" => "mountctl reach host container -- host /media/usb",
         "origin" => "mountctl origin host container -- container /media",
         "holders" => "mountctl holders host container -- host /media",
+        "save" => "mountctl mounts.sock save > saved",
         "page" => "mountctl page < session > page.html",
         "import" => "mountctl import host container > script",
         "session" => "mountctl session < session",

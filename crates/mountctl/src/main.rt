@@ -37,6 +37,7 @@ mod provide;
 mod questions;
 mod quiet;
 mod refusals;
+mod save;
 mod screen;
 mod script;
 mod server_tables;
@@ -60,11 +61,12 @@ use crate::lines::run_line;
 use crate::marked::Marked;
 use crate::messages::NAME;
 use crate::naming::named_words;
-use crate::page_task::run_page;
+use crate::page_task::{JOURNAL, run_page};
 use crate::part::{Part, draw_part};
 use crate::play::run_play;
 use crate::questions::{Question, form_of_words, run_question};
 use crate::quiet::Quiet;
+use crate::save::print_saved;
 use crate::screen::standard_output;
 use crate::script::{SCRIPT_LIMIT, run_script};
 use crate::session::run_session;
@@ -174,6 +176,7 @@ fn run_on<R: Input + Drop, W: Output, O: Output>(
             None => Ok(false),
         },
         Task::List { telling } => list_spaces(alloc, telling, names, lines, writer, out),
+        Task::Save => print_saved(alloc, lines, writer, out),
         Task::WhatIf | Task::Page => Ok(false),
         Task::Question(question) => match asked_by(question, words) {
             Some(asked) => {
@@ -275,7 +278,7 @@ fn run_import(rt: &HostRuntime) -> ExitCode {
 fn run_matches(rt: &HostRuntime, matches: &ArgMatches<'_>) -> Result<ExitCode, AllocError> {
     let first = matches.get_str("SOCKET");
     let behind = matches.get_strs("WORD").unwrap_or(&[]);
-    if first == Some(PAGE) {
+    if first == Some(PAGE) && !behind.contains(&JOURNAL) {
         return Ok(run_page(rt, None, behind, 0));
     }
     if first == Some(HELP) {
