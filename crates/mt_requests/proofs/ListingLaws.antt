@@ -4,6 +4,7 @@ use Rattle.std.proofs.lemmas.Grind.{flat_map-append}
 use Rattle.std.proofs.lemmas.Bool.Decides.{nat_tests}
 use Rattle.std.proofs.lemmas.List.Folds.{list_all-append}
 use Rattle.std.specs.List.{flat_map, list_all, list_any, join_with_byte}
+use Rattle.std.specs.Option.{option_map}
 use Rattle.std.specs.Str.{bytes_eq}
 use Rattle.mt_peers.specs.declared.state.Kind.{Kind}
 use Rattle.mt_peers.specs.declared.state.Kind.TheVariants.{Shared, Private, Slave, Unbindable}
@@ -17,9 +18,9 @@ use Rattle.mt_lines.proofs.PieceLaws.{lacks_byte, pieces_joined}
 use Rattle.mt_protocol.specs.declared.argument.Argument.TheVariants.{Setting}
 use Rattle.mt_info.proofs.WordLaws.{all-joined}
 use Rattle.mt_requests.proofs.SentLaws.{is_inner, inner}
-use Rattle.mt_requests.specs.Options.{is_set_word, is_clr_word, nothing_set, nothing_cleared, set_words, clr_words, change_with, change_of}
+use Rattle.mt_requests.specs.Options.{is_set_word, is_clr_word, nothing_set, nothing_cleared, set_words, clr_words, kind_of, change_with, change_of}
 use Rattle.mt_requests.specs.Requests.{are_counted}
-use Rattle.mt_requests.specs.Printed.{words_there, set_rows, clr_rows, listed_option, behind_comma, said_set, said_clr, said_prop, change_options}
+use Rattle.mt_requests.specs.Printed.{words_there, set_rows, clr_rows, listed_option, behind_comma, said_set, said_clr, kind_word, said_prop, change_options}
 
 -- ---- texts
 
@@ -221,22 +222,43 @@ clr_read s = go (words_there (clr_rows s)) refl
 abbrev all_options : Bool → List (List ℕ) → List (List ℕ) → Option Kind → List (List ℕ)
 all_options rec ws vs prop = word_if rec (codes "rec") ++ (listed_option (codes "set=") ws ++ (listed_option (codes "clr=") vs ++ said_prop prop))
 
-options_read : (rec : Bool) (ws vs : List (List ℕ)) (prop : Option Kind) → change_of (all_options rec ws vs prop) ≡ change_with (set_back ws) (clr_back vs) (Some prop) rec
-options_read true [] [] None = refl
-options_read rec ws vs prop = refl
+prop_read : (kind : Kind) → option_map (λ k. Some k) (kind_of (kind_word kind)) ≡ Some (Some kind)
+prop_read Shared = refl
+prop_read Private = refl
+prop_read Slave = refl
+prop_read Unbindable = refl
 
-options_counted : (rec : Bool) (ws vs : List (List ℕ)) (prop : Option Kind) → are_counted (Setting ∷ Setting ∷ Setting ∷ Setting ∷ []) (all_options rec ws vs prop) ≡ true
-options_counted true [] [] None = refl
-options_counted rec ws vs prop = refl
+abbrev AreRead : Bool → List (List ℕ) → List (List ℕ) → Option Kind → Type 0
+AreRead rec ws vs prop =
+    (change_of (all_options rec ws vs prop) ≡ change_with (set_back ws) (clr_back vs) (Some prop) rec)
+    × (are_counted (Setting ∷ Setting ∷ Setting ∷ Setting ∷ []) (all_options rec ws vs prop) ≡ true)
+
+options_read : (rec : Bool) (ws vs : List (List ℕ)) (prop : Option Kind) → AreRead rec ws vs prop
+options_read true [] [] None = (refl, refl)
+options_read true [] [] (Some kind) = (λ i. change_with (set_back []) (clr_back []) (prop_read kind i) true, refl)
+options_read true [] (v ∷ vs) None = (refl, refl)
+options_read true [] (v ∷ vs) (Some kind) = (λ i. change_with (set_back []) (clr_back (v ∷ vs)) (prop_read kind i) true, refl)
+options_read true (w ∷ ws) [] None = (refl, refl)
+options_read true (w ∷ ws) [] (Some kind) = (λ i. change_with (set_back (w ∷ ws)) (clr_back []) (prop_read kind i) true, refl)
+options_read true (w ∷ ws) (v ∷ vs) None = (refl, refl)
+options_read true (w ∷ ws) (v ∷ vs) (Some kind) = (λ i. change_with (set_back (w ∷ ws)) (clr_back (v ∷ vs)) (prop_read kind i) true, refl)
+options_read false [] [] None = (refl, refl)
+options_read false [] [] (Some kind) = (λ i. change_with (set_back []) (clr_back []) (prop_read kind i) false, refl)
+options_read false [] (v ∷ vs) None = (refl, refl)
+options_read false [] (v ∷ vs) (Some kind) = (λ i. change_with (set_back []) (clr_back (v ∷ vs)) (prop_read kind i) false, refl)
+options_read false (w ∷ ws) [] None = (refl, refl)
+options_read false (w ∷ ws) [] (Some kind) = (λ i. change_with (set_back (w ∷ ws)) (clr_back []) (prop_read kind i) false, refl)
+options_read false (w ∷ ws) (v ∷ vs) None = (refl, refl)
+options_read false (w ∷ ws) (v ∷ vs) (Some kind) = (λ i. change_with (set_back (w ∷ ws)) (clr_back (v ∷ vs)) (prop_read kind i) false, refl)
 
 -- the options of a change say it, and are no more than there may be
 pub change_read : (c : Change) → change_of (change_options c) ≡ Some c
 change_read c =
-    options_read c.recursive (words_there (set_rows c.set)) (words_there (clr_rows c.clr)) c.prop
+    (options_read c.recursive (words_there (set_rows c.set)) (words_there (clr_rows c.clr)) c.prop).0
     ∙ (λ i. change_with (set_read c.set i) (clr_read c.clr i) (Some c.prop) c.recursive)
 
 pub change_counted : (c : Change) → are_counted (Setting ∷ Setting ∷ Setting ∷ Setting ∷ []) (change_options c) ≡ true
-change_counted c = options_counted c.recursive (words_there (set_rows c.set)) (words_there (clr_rows c.clr)) c.prop
+change_counted c = (options_read c.recursive (words_there (set_rows c.set)) (words_there (clr_rows c.clr)) c.prop).1
 
 -- ---- what may stand in a word
 

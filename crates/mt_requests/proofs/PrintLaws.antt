@@ -52,10 +52,14 @@ none_prior : (faults : List (Option Fault)) → HasNoFault faults → fold prior
 none_prior [] h = refl
 none_prior (f ∷ faults) h = ap (λ x. fold prior_of_two (prior_of_two None x) faults) h.0 ∙ none_prior faults h.1
 
+-- words that have no space and no line end
+pub record AreInner (ws : List (List ℕ)) : Type 0 where
+  pub all : list_all inner ws ≡ true
+
 -- words that each can stand behind a verb
 pub record IsReadAs (v : Verb) (ws : List (List ℕ)) (c : Command) : Type 0 where
   pub known : verb_of (verb_word v) ≡ Some v
-  pub bare : list_all inner (verb_word v ∷ ws) ≡ true
+  pub bare : AreInner (verb_word v ∷ ws)
   pub counted : are_counted (verb_arguments v) ws ≡ true
   pub fine : HasNoFault (word_faults (verb_arguments v) ws)
   pub made : request_with v ws ≡ Run c
@@ -63,42 +67,51 @@ pub record IsReadAs (v : Verb) (ws : List (List ℕ)) (c : Command) : Type 0 whe
 read_words : (v : Verb) (ws : List (List ℕ)) (c : Command) → IsReadAs v ws c → request_of (verb_word v ++ behind 32 ws) ≡ Ok (Run c)
 unfolding request_of
 read_words v ws c r =
-    let pieces : words (verb_word v ++ behind 32 ws) ≡ verb_word v ∷ ws = ap words (spaced (verb_word v) ws) ∙ pieces_joined 32 (verb_word v) ws (all_lack_space (verb_word v ∷ ws) r.bare) in
+    let pieces : words (verb_word v ++ behind 32 ws) ≡ verb_word v ∷ ws = ap words (spaced (verb_word v) ws) ∙ pieces_joined 32 (verb_word v) ws (all_lack_space (verb_word v ∷ ws) r.bare.all) in
     let none : words_fault (verb_arguments v) ws ≡ None = ap (λ b. cond {A = Option Fault} b (prior_fault (word_faults (verb_arguments v) ws)) (Some BadLine)) r.counted ∙ none_prior (word_faults (verb_arguments v) ws) r.fine in
     ap by_words pieces ∙ ap (λ o. option_map_or (λ v. read_by v ws) o (Err BadLine)) r.known
     ∙ ap (λ o. option_map_or (λ f. Err f) o (Ok (request_with v ws))) none ∙ ap (λ x. Ok x) r.made
 
--- words without a space, one after the other
-and_bare : (w : List ℕ) (ws : List (List ℕ)) → inner w ≡ true → list_all inner ws ≡ true → list_all inner (w ∷ ws) ≡ true
-and_bare w ws h k = and-true (inner w) (list_all inner ws) h k
+those : (ws : List (List ℕ)) → list_all inner ws ≡ true → AreInner ws
+those ws h = record { all = h }
 
-with_label : (l : List ℕ) (ws : List (List ℕ)) → list_all inner ws ≡ true → list_all inner (sent l ∷ ws) ≡ true
-with_label l ws h = and_bare (sent l) ws (sent_inner l) h
+none_left : AreInner []
+none_left = those [] refl
 
-with_path : (p : List (List ℕ)) (ws : List (List ℕ)) → list_all inner ws ≡ true → list_all inner (sent_path p ∷ ws) ≡ true
-with_path p ws h = and_bare (sent_path p) ws (sent_inner (bytes_of_path p)) h
+with_word : {ws : List (List ℕ)} (w : List ℕ) → inner w ≡ true → AreInner ws → AreInner (w ∷ ws)
+with_word {ws} w h rest = those (w ∷ ws) (and-true (inner w) (list_all inner ws) h rest.all)
 
-with_number : (n : ℕ) (ws : List (List ℕ)) → n < 2 ^ 64 → list_all inner ws ≡ true → list_all inner (decimal n ∷ ws) ≡ true
-with_number n ws lt h = and_bare (decimal n) ws (decimal_inner n lt) h
+with_label : {ws : List (List ℕ)} (l : List ℕ) → AreInner ws → AreInner (sent l ∷ ws)
+with_label l rest = with_word (sent l) (sent_inner l) rest
+
+with_path : {ws : List (List ℕ)} (p : List (List ℕ)) → AreInner ws → AreInner (sent_path p ∷ ws)
+with_path p rest = with_word (sent_path p) (sent_inner (bytes_of_path p)) rest
+
+with_number : {ws : List (List ℕ)} (n : ℕ) → n < 2 ^ 64 → AreInner ws → AreInner (decimal n ∷ ws)
+with_number n low rest = with_word (decimal n) (decimal_inner n low) rest
 
 -- ---- each command
 
-two_paths : (n : ℕ) (a b : List (List ℕ)) → n < 2 ^ 64 → list_all inner (decimal n ∷ sent_path a ∷ sent_path b ∷ []) ≡ true
-two_paths n a b lt = with_number n _ lt (with_path a _ (with_path b [] refl))
+two_paths : (n : ℕ) (a b : List (List ℕ)) → n < 2 ^ 64 → AreInner (decimal n ∷ sent_path a ∷ sent_path b ∷ [])
+two_paths n a b low = with_number n low (with_path a (with_path b none_left))
+
+mount_known : verb_of (verb_word verb.Mount) ≡ Some verb.Mount
+unfolding verb_of
+mount_known = refl
 
 mounted_back : (n : ℕ) (fs : List ℕ) (path : List (List ℕ)) (set : SetWords) → IsSaid (command.MountWith n fs path set) → IsReadAs verb.Mount (decimal n ∷ sent fs ∷ sent_path path ∷ said_set set) (command.MountWith n fs path set)
-unfolding verb_of
 mounted_back n fs path set h = go (words_there (set_rows set)) refl (set_read set)
   where
     go : (ws : List (List ℕ)) → words_there (set_rows set) ≡ ws → set_back (words_there (set_rows set)) ≡ Some set → IsReadAs verb.Mount (decimal n ∷ sent fs ∷ sent_path path ∷ said_set set) (command.MountWith n fs path set)
     go [] is back = absurd (h.3 is)
     go (w ∷ ws) is back =
         let said : said_set set ≡ (codes "set=" ++ join_with_byte 44 (w ∷ ws)) ∷ [] = ap (listed_option (codes "set=")) is in
-        let read = sym (ap set_back is) ∙ back in
+        let read : set_back (w ∷ ws) ≡ Some set = sym (ap set_back is) ∙ back in
+        let all : list_all inner ((codes "set=" ++ join_with_byte 44 (w ∷ ws)) ∷ []) ≡ true = subst (λ options. list_all inner options ≡ true) said (set_inner set) in
         subst (λ options. IsReadAs verb.Mount (decimal n ∷ sent fs ∷ sent_path path ∷ options) (command.MountWith n fs path set)) (sym said)
         (record {
-          known = refl;
-          bare = and_bare (codes "mount") _ refl (with_number n _ h.0 (with_label fs _ (with_path path _ (subst (λ options. list_all inner options ≡ true) said (set_inner set)))));
+          known = mount_known;
+          bare = with_word (codes "mount") refl (with_number n h.0 (with_label fs (with_path path (those ((codes "set=" ++ join_with_byte 44 (w ∷ ws)) ∷ []) all))));
           counted = refl;
           fine = (number_fine n h.0, (label_fine fs h.1, (path_fine path h.2, (ap (λ o. bad_unless (is_some o)) read, tt))));
           made = λ i. Run (command.MountWith (number_back n h.0 i) (bytes_back fs i) (path_back path h.2 i) (unwrap_or (read i) nothing_set));
@@ -108,49 +121,49 @@ said_back : (c : Command) → IsSaid c → IsReadAs (command_verb c) (command_wo
 unfolding verb_of
 said_back (command.MakeFs name kind source) h = record {
   known = refl;
-  bare = and_bare (codes "mkfs") _ refl (with_label name _ (with_label kind _ (with_label source [] refl)));
+  bare = with_word (codes "mkfs") refl (with_label name (with_label kind (with_label source none_left)));
   counted = refl;
   fine = (label_fine name h.0, (label_fine kind h.1, (label_fine source h.2, tt)));
   made = λ i. Run (command.MakeFs (bytes_back name i) (bytes_back kind i) (bytes_back source i));
 }
 said_back (command.MakeDir fs path) h = record {
   known = refl;
-  bare = and_bare (codes "mkdir") _ refl (with_label fs _ (with_path path [] refl));
+  bare = with_word (codes "mkdir") refl (with_label fs (with_path path none_left));
   counted = refl;
   fine = (label_fine fs h.0, (path_fine path h.1, tt));
   made = λ i. Run (command.MakeDir (bytes_back fs i) (path_back path h.1 i));
 }
 said_back (command.NewSpace fs) h = record {
   known = refl;
-  bare = and_bare (codes "newns") _ refl (with_label fs [] refl);
+  bare = with_word (codes "newns") refl (with_label fs none_left);
   counted = refl;
   fine = (label_fine fs h, tt);
   made = λ i. Run (command.NewSpace (bytes_back fs i));
 }
 said_back (command.CopySpace n true) h = record {
   known = refl;
-  bare = and_bare (codes "copyns") _ refl (with_number n _ h refl);
+  bare = with_word (codes "copyns") refl (with_number n h (with_word (codes "less") refl none_left));
   counted = refl;
   fine = (number_fine n h, (refl, tt));
   made = λ i. Run (command.CopySpace (number_back n h i) true);
 }
 said_back (command.CopySpace n false) h = record {
   known = refl;
-  bare = and_bare (codes "copyns") _ refl (with_number n _ h refl);
+  bare = with_word (codes "copyns") refl (with_number n h none_left);
   counted = refl;
   fine = (number_fine n h, tt);
   made = λ i. Run (command.CopySpace (number_back n h i) false);
 }
 said_back (command.DropSpace n) h = record {
   known = refl;
-  bare = and_bare (codes "dropns") _ refl (with_number n _ h refl);
+  bare = with_word (codes "dropns") refl (with_number n h none_left);
   counted = refl;
   fine = (number_fine n h, tt);
   made = λ i. Run (command.DropSpace (number_back n h i));
 }
 said_back (command.Mount n fs path) h = record {
   known = refl;
-  bare = and_bare (codes "mount") _ refl (with_number n _ h.0 (with_label fs _ (with_path path [] refl)));
+  bare = with_word (codes "mount") refl (with_number n h.0 (with_label fs (with_path path none_left)));
   counted = refl;
   fine = (number_fine n h.0, (label_fine fs h.1, (path_fine path h.2, tt)));
   made = λ i. Run (command.Mount (number_back n h.0 i) (bytes_back fs i) (path_back path h.2 i));
@@ -158,77 +171,77 @@ said_back (command.Mount n fs path) h = record {
 said_back (command.MountWith n fs path set) h = mounted_back n fs path set h
 said_back (command.Bind n src dst true) h = record {
   known = refl;
-  bare = and_bare (codes "rbind") _ refl (two_paths n src dst h.0);
+  bare = with_word (codes "rbind") refl (two_paths n src dst h.0);
   counted = refl;
   fine = (number_fine n h.0, (path_fine src h.1, (path_fine dst h.2, tt)));
   made = λ i. Run (command.Bind (number_back n h.0 i) (path_back src h.1 i) (path_back dst h.2 i) true);
 }
 said_back (command.Bind n src dst false) h = record {
   known = refl;
-  bare = and_bare (codes "bind") _ refl (two_paths n src dst h.0);
+  bare = with_word (codes "bind") refl (two_paths n src dst h.0);
   counted = refl;
   fine = (number_fine n h.0, (path_fine src h.1, (path_fine dst h.2, tt)));
   made = λ i. Run (command.Bind (number_back n h.0 i) (path_back src h.1 i) (path_back dst h.2 i) false);
 }
 said_back (command.Move n src dst) h = record {
   known = refl;
-  bare = and_bare (codes "move") _ refl (two_paths n src dst h.0);
+  bare = with_word (codes "move") refl (two_paths n src dst h.0);
   counted = refl;
   fine = (number_fine n h.0, (path_fine src h.1, (path_fine dst h.2, tt)));
   made = λ i. Run (command.Move (number_back n h.0 i) (path_back src h.1 i) (path_back dst h.2 i));
 }
 said_back (command.Pivot n new old) h = record {
   known = refl;
-  bare = and_bare (codes "pivot") _ refl (two_paths n new old h.0);
+  bare = with_word (codes "pivot") refl (two_paths n new old h.0);
   counted = refl;
   fine = (number_fine n h.0, (path_fine new h.1, (path_fine old h.2, tt)));
   made = λ i. Run (command.Pivot (number_back n h.0 i) (path_back new h.1 i) (path_back old h.2 i));
 }
 said_back (command.Unmount n path) h = record {
   known = refl;
-  bare = and_bare (codes "umount") _ refl (with_number n _ h.0 (with_path path [] refl));
+  bare = with_word (codes "umount") refl (with_number n h.0 (with_path path none_left));
   counted = refl;
   fine = (number_fine n h.0, (path_fine path h.1, tt));
   made = λ i. Run (command.Unmount (number_back n h.0 i) (path_back path h.1 i));
 }
 said_back (command.Detach n path) h = record {
   known = refl;
-  bare = and_bare (codes "detach") _ refl (with_number n _ h.0 (with_path path [] refl));
+  bare = with_word (codes "detach") refl (with_number n h.0 (with_path path none_left));
   counted = refl;
   fine = (number_fine n h.0, (path_fine path h.1, tt));
   made = λ i. Run (command.Detach (number_back n h.0 i) (path_back path h.1 i));
 }
 said_back (command.SetAttr n path change) h = record {
   known = refl;
-  bare = and_bare (codes "setattr") _ refl (with_number n _ h.0 (with_path path _ (change_inner change)));
+  bare = with_word (codes "setattr") refl (with_number n h.0 (with_path path (those (change_options change) (change_inner change))));
   counted = change_counted change;
   fine = (number_fine n h.0, (path_fine path h.1, (ap (λ o. bad_unless (is_some o)) (change_read change), tt)));
   made = λ i. Run (command.SetAttr (number_back n h.0 i) (path_back path h.1 i) (unwrap_or (change_read change i) no_change));
 }
 said_back (command.OpenTree n path true) h = record {
   known = refl;
-  bare = and_bare (codes "opentree") _ refl (with_number n _ h.0 (with_path path _ refl));
+  bare = with_word (codes "opentree") refl (with_number n h.0 (with_path path (with_word (codes "rec") refl none_left)));
   counted = refl;
   fine = (number_fine n h.0, (path_fine path h.1, (refl, tt)));
   made = λ i. Run (command.OpenTree (number_back n h.0 i) (path_back path h.1 i) true);
 }
 said_back (command.OpenTree n path false) h = record {
   known = refl;
-  bare = and_bare (codes "opentree") _ refl (with_number n _ h.0 (with_path path _ refl));
+  bare = with_word (codes "opentree") refl (with_number n h.0 (with_path path none_left));
   counted = refl;
   fine = (number_fine n h.0, (path_fine path h.1, tt));
   made = λ i. Run (command.OpenTree (number_back n h.0 i) (path_back path h.1 i) false);
 }
 said_back (command.NewTree fs) h = record {
   known = refl;
-  bare = and_bare (codes "newtree") _ refl (with_label fs [] refl);
+  bare = with_word (codes "newtree") refl (with_label fs none_left);
   counted = refl;
   fine = (label_fine fs h, tt);
   made = λ i. Run (command.NewTree (bytes_back fs i));
 }
 said_back (command.MoveTree tree n path) h = record {
   known = refl;
-  bare = and_bare (codes "movetree") _ refl (with_number tree _ h.0 (with_number n _ h.1 (with_path path [] refl)));
+  bare = with_word (codes "movetree") refl (with_number tree h.0 (with_number n h.1 (with_path path none_left)));
   counted = refl;
   fine = (number_fine tree h.0, (number_fine n h.1, (path_fine path h.2, tt)));
   made = λ i. Run (command.MoveTree (number_back tree h.0 i) (number_back n h.1 i) (path_back path h.2 i));
@@ -291,4 +304,4 @@ line_said line c e = words_said (words line) c e
 pub read_back : CommandsAreReadBack
 unfolding line_of_command
 read_back line c e =
-    let back = said_back c (line_said line c e) in (read_words (command_verb c) (command_words c) c back, line_whole (verb_word (command_verb c)) (command_words c) back.bare)
+    let back = said_back c (line_said line c e) in (read_words (command_verb c) (command_words c) c back, line_whole (verb_word (command_verb c)) (command_words c) back.bare.all)

@@ -19,7 +19,7 @@ use Rattle.mt_requests.specs.Requests.{text_length, label_fault, label_bytes, co
 use Rattle.mt_requests.specs.Printed.{bytes_of_path, words_there, set_rows}
 use Rattle.mt_requests.proofs.TextLaws.{IsText, text, label_bytes-is, good_label}
 use Rattle.mt_requests.proofs.PathLaws.{good_path}
-use Rattle.mt_requests.proofs.SentWordLaws.{IsGoodPath}
+use Rattle.mt_requests.proofs.SentWordLaws.{IsGoodPath, named_bytes}
 use Rattle.mt_requests.proofs.ListingLaws.{set_among, set_of_words_if, set_of_words, set_there}
 
 -- labels
@@ -33,13 +33,13 @@ label_said w h = go (text_length w) refl h
         ap is_label (label_bytes-is w t.0 t.1.stands) ∙ good_label w t.0 h t.1.stands
 
 -- paths
-pieces_some : (c : ℕ) (text : List ℕ) → pieces c text ≢ []
+pieces_some : (c : ℕ) (bytes : List ℕ) → pieces c bytes ≢ []
 pieces_some c [] e = cc
-pieces_some c (b ∷ text) e = grind (arith, nat_tests, pieces_some c text)
+pieces_some c (b ∷ bytes) e = grind (arith, nat_tests, pieces_some c bytes)
 
-names_there : (text : List ℕ) (ps : List (List ℕ)) → pieces 47 text ≡ ps → bytes_of_path ps ≡ 47 ∷ text
-names_there text [] is = absurd (pieces_some 47 text is)
-names_there text (p ∷ ps) is = ap names_text (sym is) ∙ sym (text_between text)
+names_there : (bytes : List ℕ) (ps : List (List ℕ)) → pieces 47 bytes ≡ ps → bytes_of_path ps ≡ 47 ∷ bytes
+names_there bytes [] is = absurd (pieces_some 47 bytes is)
+names_there bytes (p ∷ ps) is = named_bytes p ps ∙ ap names_text (sym is) ∙ sym (text_between bytes)
 
 -- the text of the names of a path is the path
 pub path_there : (bytes : List ℕ) → is_path bytes ≡ true → bytes_of_path (components bytes) ≡ bytes

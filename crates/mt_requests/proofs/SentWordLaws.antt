@@ -1,5 +1,6 @@
 -- Labels, paths and numbers as they stand in a line are read as what they are.
 use Rattle.std.proofs.Common.{◌≡◌, ◌≢◌, ℕ, ◌<◌, ◌≤◌, ◌^◌, ◌==◌, ◌&&◌, ◌||◌, not, nat_eq, nat_lt, nat_le, cond, if◌then◌else◌, Bool, true, false, List, [], ◌∷◌, ◌++◌, length, drop, codes, decimal, Option, Some, None, is_some, unwrap_or, refl, sym, ap, ◌∙◌, arith}
+use Rattle.std.proofs.Math.Dec.{eqb-suc-zero}
 use Rattle.std.proofs.lemmas.Bool.{and_parts}
 use Rattle.std.proofs.lemmas.Bool.Decides.{nat_tests}
 use Rattle.std.proofs.lemmas.List.Folds.{list_all-append}
@@ -59,6 +60,14 @@ pub record IsGoodPath (names : List (List ℕ)) : Type 0 where
   pub names_are : list_all is_name names ≡ true
   pub short : nat_lt 4095 (length (bytes_of_path names)) ≡ false
 
+-- a path that has a name is its names, each preceded by a slash
+pub named_bytes : (n : List ℕ) (names : List (List ℕ)) → bytes_of_path (n ∷ names) ≡ names_text (n ∷ names)
+named_bytes n names = ap (λ root. cond {A = List ℕ} root (codes "/") (names_text (n ∷ names))) (eqb-suc-zero (length names))
+
+-- and is not empty
+named_full : (n : List ℕ) (names : List (List ℕ)) → nat_eq (length (names_text (n ∷ names))) 0 ≡ false
+named_full n names = eqb-suc-zero (length (n ++ names_text names))
+
 name_label : (n : List ℕ) → is_name n ≡ true → is_label n ≡ true
 name_label n h =
     and_first (is_label n) _ (and_first (is_label n && list_all (λ b. not (b == 47)) n) _ (and_first (is_label n && list_all (λ b. not (b == 47)) n && not (bytes_eq n (codes "."))) _ h))
@@ -72,11 +81,11 @@ text_nonzero (n ∷ names) h =
 
 path_nonzero : (names : List (List ℕ)) → list_all is_name names ≡ true → lacks_byte 0 (bytes_of_path names) ≡ true
 path_nonzero [] h = refl
-path_nonzero (n ∷ names) h = text_nonzero (n ∷ names) h
+path_nonzero (n ∷ names) h = ap (lacks_byte 0) (named_bytes n names) ∙ text_nonzero (n ∷ names) h
 
 path_full : (names : List (List ℕ)) → nat_eq (length (bytes_of_path names)) 0 ≡ false
 path_full [] = refl
-path_full (n ∷ names) = refl
+path_full (n ∷ names) = ap (λ bytes. nat_eq (length bytes) 0) (named_bytes n names) ∙ named_full n names
 
 -- the text of a path that has a name is more than a slash
 not_slash : (n : List ℕ) (rest : List ℕ) → nat_eq (length n) 0 ≡ false → bytes_eq (47 ∷ (n ++ rest)) (codes "/") ≡ false
@@ -91,7 +100,8 @@ pub components_back : (names : List (List ℕ)) → list_all is_name names ≡ t
 components_back [] h = refl
 components_back (n ∷ names) h =
     let label = labelled n (name_label n (and_first (is_name n) (list_all is_name names) h)) in
-    ap (λ b. cond {A = List (List ℕ)} b [] (drop 1 (pieces 47 (names_text (n ∷ names))))) (not_slash n (names_text names) label.some)
+    ap components (named_bytes n names)
+    ∙ ap (λ b. cond {A = List (List ℕ)} b [] (drop 1 (pieces 47 (names_text (n ∷ names))))) (not_slash n (names_text names) label.some)
     ∙ behind_slash (n ++ names_text names) ∙ names_of_text (n ∷ names) h
 
 short_names : (names : List (List ℕ)) → list_all is_name names ≡ true → list_any (λ piece. nat_lt 255 (length piece)) names ≡ false
@@ -104,11 +114,12 @@ short_names (n ∷ names) h =
 no_long : (names : List (List ℕ)) → list_all is_name names ≡ true → has_long_piece (bytes_of_path names) ≡ false
 no_long [] h = refl
 no_long (n ∷ names) h =
-    ap (λ ps. list_any (λ piece. nat_lt 255 (length piece)) ([] ∷ ps)) (names_of_text (n ∷ names) h) ∙ short_names (n ∷ names) h
+    ap has_long_piece (named_bytes n names)
+    ∙ ap (λ ps. list_any (λ piece. nat_lt 255 (length piece)) ([] ∷ ps)) (names_of_text (n ∷ names) h) ∙ short_names (n ∷ names) h
 
 begins_with_slash : (names : List (List ℕ)) → starts_with nat_eq (bytes_of_path names) (codes "/") ≡ true
 begins_with_slash [] = refl
-begins_with_slash (n ∷ names) = refl
+begins_with_slash (n ∷ names) = ap (λ bytes. starts_with nat_eq bytes (codes "/")) (named_bytes n names)
 
 is_path_back : (names : List (List ℕ)) → list_all is_name names ≡ true → is_path (bytes_of_path names) ≡ true
 is_path_back names h =
@@ -130,11 +141,11 @@ path_back names p = ap components (bytes_back (bytes_of_path names)) ∙ compone
 -- the text of names is the path, where there are some
 pub path_lies : (names : List (List ℕ)) → (length (names_text names) == 0) ≡ false → names_text names ≡ bytes_of_path names
 path_lies [] h = let f : true ≡ false = h in cc
-path_lies (n ∷ names) h = refl
+path_lies (n ∷ names) h = sym (named_bytes n names)
 
 pub root_lies : (names : List (List ℕ)) → (length (names_text names) == 0) ≡ true → codes "/" ≡ sent_path names
 root_lies [] h = refl
-root_lies (n ∷ names) h = let f : false ≡ true = h in cc
+root_lies (n ∷ names) h = let f : false ≡ true = sym (named_full n names) ∙ h in cc
 
 -- numbers
 pub number_fine : (n : ℕ) → n < 2 ^ 64 → bad_unless (is_some (number_in_text (decimal n))) ≡ None
