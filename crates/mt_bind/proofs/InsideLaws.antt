@@ -1,6 +1,6 @@
 -- Where mounts come to stand and namespaces come and go, contained families of namespaces stay contained, and what
 -- happens in them changes nothing outside.
-use Rattle.std.proofs.Common.{◌≡◌, ◌⊎◌, ℕ, ◌+◌, ◌<◌, Bool, true, false, not, ◌==◌, eqb-true, List, [], ◌∷◌, ◌++◌, map, Option, Some, None, Ok, refl, sym, ap, subst, ◌∙◌, inl, inr, arith, append-nil}
+use Rattle.std.proofs.Common.{◌≡◌, ◌⊎◌, ℕ, ◌+◌, Bool, true, false, not, ◌==◌, eqb-true, List, [], ◌∷◌, ◌++◌, map, Option, Some, None, Ok, refl, sym, ap, subst, ◌∙◌, inl, inr, arith, append-nil}
 use Rattle.std.specs.List.{filter}
 use Rattle.std.specs.Prelude.{unwrap_or}
 use Rattle.std.specs.Option.{option_map}
@@ -131,10 +131,10 @@ module _ (w : WorldView) (h : IsWellFormed w) (ms : List Mount) (a : AreSources 
     mounts = λ k off.
         filter-append (in_space k) w.forest (map (copy_of w (map id_of ms)) ms)
         ∙ ap (λ l. filter (in_space k) w.forest ++ l)
-          (none-picked (in_space k) (map (copy_of w (map id_of ms)) ms) (λ x e.
-          let m = in_map (copy_of w (map id_of ms)) x ms e in
-          let there : w.next_space ≡ x.space = ap (λ (m : Mount). m.space) m.2 in
-          ne_eqb x.space k (λ same. true≢false (sym here ∙ ap family (there ∙ same) ∙ off))))
+        (none-picked (in_space k) (map (copy_of w (map id_of ms)) ms) (λ x e.
+        let m = in_map (copy_of w (map id_of ms)) x ms e in
+        let there : w.next_space ≡ x.space = ap (λ (m : Mount). m.space) m.2 in
+        ne_eqb x.space k (λ same. true≢false (sym here ∙ ap family (there ∙ same) ∙ off))))
         ∙ append-nil (filter (in_space k) w.forest);
     states = λ i m e off.
         let t = mount-state w.forest w.peering.peers i m h.same_mounts e in

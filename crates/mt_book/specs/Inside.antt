@@ -1,7 +1,7 @@
 -- What is done in a family of namespaces, and what brings mounts over its border. A family is given by a test on the numbers of
 -- namespaces.
 -- A word with no source is this project's rule.
-use Rattle.std.specs.Prelude.{◌≡◌, ℕ, Bool, true, false, ◌&&◌, ◌||◌, ◌==◌, List, [], ◌∷◌, ◌++◌, Result, Ok, Err, IsTrue}
+use Rattle.std.specs.Prelude.{◌≡◌, ℕ, Bool, true, false, ◌&&◌, ◌||◌, ◌==◌, List, [], ◌∷◌, ◌++◌, Result, Ok, IsTrue}
 use Rattle.mt_skel.specs.declared.fault.Fault.{Fault}
 use Rattle.mt_propagate.specs.World.{WorldView}
 use Rattle.mt_propagate.specs.Contained.{only}

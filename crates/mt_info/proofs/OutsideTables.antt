@@ -1,5 +1,5 @@
 -- Where nothing changes outside a family of namespaces, the tables of all others stay.
-use Rattle.std.proofs.Common.{◌≡◌, ℕ, Bool, false, eqb-true, eq-eqb, map, Some, refl, sym, ap, ◌∙◌}
+use Rattle.std.proofs.Common.{◌≡◌, ℕ, Bool, false, eqb-true, eq-eqb, map, Some, refl, ap, ◌∙◌}
 use Rattle.mt_skel.specs.Skeleton.{directory, filesystem}
 use Rattle.mt_skel.proofs.ElementLaws.{in_filter, in_row}
 use Rattle.mt_mounts.specs.declared.mount.Mount.{Mount}
