@@ -30,7 +30,7 @@ use Rattle.mt_book.specs.declared.command.Reply.TheVariants.{Number}
 use Rattle.mt_book.specs.Step.{with_made_number, step, makes_directories, world_or, next_world, after_from, after}
 use Rattle.mt_book.specs.History.{events, space_number}
 use Rattle.mt_book.specs.Book.{command_limit, answer, reply_of}
-use Rattle.mt_book.specs.Inside.{is_issued_in, is_taken_from, is_answer, joined, family_after, StaysOnItsSide, IsNotCrossed, family_of, StaysInCopy, AllStayInCopies}
+use Rattle.mt_book.specs.Inside.{is_issued_in, is_taken_from, is_answer, enlarged, family_after, StaysOnItsSide, IsNotCrossed, family_of, StaysInCopy, AllStayInCopies}
 use Rattle.mt_book.specs.Laws.{AreGivenOut}
 use Rattle.mt_book.proofs.EffectLaws.{number_ok, done_ok, directories_made, next_by}
 use Rattle.mt_book.proofs.StepLaws.{step_kept}
@@ -84,8 +84,8 @@ next_joins family w (OpenTree m path recursive) k taken e = made_next (tree_open
 next_joins family w c k taken e = absurd (cc)
 
 -- so the namespaces that were given out are of the family as they were
-joined_low : (family : ℕ → Bool) (w : WorldView) (c : Command) (k : ℕ) → k < w.next_space → joined family w c k ≡ family k
-joined_low family w c k low = none_joins (family k) (is_taken_from family c) (is_answer k (step w c)) (by (is_taken_from family c) refl)
+enlarged_low : (family : ℕ → Bool) (w : WorldView) (c : Command) (k : ℕ) → k < w.next_space → enlarged family w c k ≡ family k
+enlarged_low family w c k low = none_joins (family k) (is_taken_from family c) (is_answer k (step w c)) (by (is_taken_from family c) refl)
   where
     answer_off : is_taken_from family c ≡ true → (x : Bool) → is_answer k (step w c) ≡ x → is_answer k (step w c) ≡ false
     answer_off taken false e = e
@@ -95,8 +95,8 @@ joined_low family w c k low = none_joins (family k) (is_taken_from family c) (is
     by false e = inl e
     by true e = inr (answer_off e (is_answer k (step w c)) refl)
 
-joined_contained : (family : ℕ → Bool) (w : WorldView) (c : Command) → IsWellFormed w → IsContained family w → IsContained (joined family w c) w
-joined_contained family w c h a = alike_contained family (joined family w c) w (λ i. sym (joined_low family w c (space_of w i) (space_low w h i))) a
+enlarged_contained : (family : ℕ → Bool) (w : WorldView) (c : Command) → IsWellFormed w → IsContained family w → IsContained (enlarged family w c) w
+enlarged_contained family w c h a = alike_contained family (enlarged family w c) w (λ i. sym (enlarged_low family w c (space_of w i) (space_low w h i))) a
 
 not_yet : (family : ℕ → Bool) (w : WorldView) → AreGivenOut family w → family w.next_space ≡ false
 not_yet family w given = by (family w.next_space) refl
@@ -108,11 +108,11 @@ not_yet family w given = by (family w.next_space) refl
 -- ---- a command
 
 pub step_contained : (family : ℕ → Bool) (w : WorldView) (c : Command) (v : WorldView) (r : Reply) → IsWellFormed w → IsContained family w → AreGivenOut family w → StaysOnItsSide family w c → step w c ≡ Ok (v, r)
-    → IsContained (joined family w c) v
+    → IsContained (enlarged family w c) v
 unfolding step
-step_contained family w c v r h a given side e = go c side e (joined_contained family w c h a)
+step_contained family w c v r h a given side e = go c side e (enlarged_contained family w c h a)
   where
-    go : (c : Command) → StaysOnItsSide family w c → step w c ≡ Ok (v, r) → IsContained (joined family w c) w → IsContained (joined family w c) v
+    go : (c : Command) → StaysOnItsSide family w c → step w c ≡ Ok (v, r) → IsContained (enlarged family w c) w → IsContained (enlarged family w c) v
     go (MakeFs name kind source) side e b = skel_contained _ w (MakeFs name kind source) v r refl e b
     go (MakeDir fs path) side e b = skel_contained _ w (MakeDir fs path) v r refl e b
     go (NewSpace fs) side e b = let q = number_ok _ v r e in made_contained _ w fs v q.0 h b q.1
@@ -139,11 +139,11 @@ step_contained family w c v r h a given side e = go c side e (joined_contained f
     go (MoveTree tree k path) side e b = attached_contained _ w tree k path v h b (λ linked. ap (λ x. x || false) (side linked)) (done_ok _ v r e)
 
 -- a command that is issued in a contained family changes nothing outside it
-step_outside : (family : ℕ → Bool) (w : WorldView) (c : Command) (v : WorldView) (r : Reply) → IsWellFormed w → IsContained family w → is_issued_in family c ≡ true → step w c ≡ Ok (v, r) → IsSameOutside (joined family w c) w v
+step_outside : (family : ℕ → Bool) (w : WorldView) (c : Command) (v : WorldView) (r : Reply) → IsWellFormed w → IsContained family w → is_issued_in family c ≡ true → step w c ≡ Ok (v, r) → IsSameOutside (enlarged family w c) w v
 unfolding step
-step_outside family w c v r h a is e = go c is e (joined_contained family w c h a)
+step_outside family w c v r h a is e = go c is e (enlarged_contained family w c h a)
   where
-    go : (c : Command) → is_issued_in family c ≡ true → step w c ≡ Ok (v, r) → IsContained (joined family w c) w → IsSameOutside (joined family w c) w v
+    go : (c : Command) → is_issued_in family c ≡ true → step w c ≡ Ok (v, r) → IsContained (enlarged family w c) w → IsSameOutside (enlarged family w c) w v
     go (CopySpace k less) is e b =
         let q = number_ok _ v r e in
         copied_outside _ w k less v q.0 h (new_joins (family q.0) (family k) _ is (answered w (CopySpace k less) v r q.0 q.0 e q.2 refl)) q.1
@@ -165,8 +165,8 @@ step_outside family w c v r h a is e = go c is e (joined_contained family w c h 
 
 -- so the tables of all namespaces outside stay
 pub step_inside : (family : ℕ → Bool) (w : WorldView) (c : Command) (v : WorldView) (r : Reply) → IsWellFormed w → IsSkeleton w.skel → IsContained family w → AreGivenOut family w → is_issued_in family c ≡ true → step w c ≡ Ok (v, r)
-    → (k : ℕ) → joined family w c k ≡ false → table_of v k ≡ table_of w k
-step_inside family w c v r h s a given is e k off = same_table (joined family w c) w v h (step_kept w c v r h s e).0 (joined_contained family w c h a) (step_outside family w c v r h a is e) k off
+    → (k : ℕ) → enlarged family w c k ≡ false → table_of v k ≡ table_of w k
+step_inside family w c v r h s a given is e k off = same_table (enlarged family w c) w v h (step_kept w c v r h s e).0 (enlarged_contained family w c h a) (step_outside family w c v r h a is e) k off
 
 -- what is kept while no group and no master is brought over the border
 record Stands (family : ℕ → Bool) (w : WorldView) : Type 0 where
@@ -190,7 +190,7 @@ next_given family w (OpenTree k path recursive) v r taken e =
 next_given family w c v r taken e = absurd (cc)
 
 -- what joins was given out
-step_given : (family : ℕ → Bool) (w : WorldView) (c : Command) (v : WorldView) (r : Reply) → AreGivenOut family w → step w c ≡ Ok (v, r) → AreGivenOut (joined family w c) v
+step_given : (family : ℕ → Bool) (w : WorldView) (c : Command) (v : WorldView) (r : Reply) → AreGivenOut family w → step w c ≡ Ok (v, r) → AreGivenOut (enlarged family w c) v
 step_given family w c v r given e k is = by (is_taken_from family c) refl
   where
     rises : w.next_space ≤ v.next_space
@@ -207,31 +207,31 @@ step_given family w c v r given e k is = by (is_taken_from family c) refl
     by true taken = new taken (is_answer k (step w c)) refl
     by false off = old (sym (none_joins (family k) (is_taken_from family c) (is_answer k (step w c)) (inl off)) ∙ is)
 
-step_stands : (family : ℕ → Bool) (w : WorldView) (c : Command) (v : WorldView) (r : Reply) → Stands family w → StaysOnItsSide family w c → step w c ≡ Ok (v, r) → Stands (joined family w c) v
+step_stands : (family : ℕ → Bool) (w : WorldView) (c : Command) (v : WorldView) (r : Reply) → Stands family w → StaysOnItsSide family w c → step w c ≡ Ok (v, r) → Stands (enlarged family w c) v
 step_stands family w c v r s side e = record {
   good = step_good w c v r s.good e;
   given = step_given family w c v r s.given e;
   contained = step_contained family w c v r s.good.formed s.contained s.given side e;
 }
 
-next_stands : (family : ℕ → Bool) (w : WorldView) (c : Command) → Stands family w → ((v : WorldView) (r : Reply) → step w c ≡ Ok (v, r) → StaysOnItsSide family w c) → Stands (joined family w c) (next_world w c)
+next_stands : (family : ℕ → Bool) (w : WorldView) (c : Command) → Stands family w → ((v : WorldView) (r : Reply) → step w c ≡ Ok (v, r) → StaysOnItsSide family w c) → Stands (enlarged family w c) (next_world w c)
 next_stands family w c s side = by (step w c) refl
   where
-    by : (q : Result (WorldView × Reply) Fault) → step w c ≡ q → Stands (joined family w c) (world_or w q)
+    by : (q : Result (WorldView × Reply) Fault) → step w c ≡ q → Stands (enlarged family w c) (world_or w q)
     by (Ok p) e = step_stands family w c p.0 p.1 s (side p.0 p.1 e) e
     by (Err f) e =
-        let same : (k : ℕ) → joined family w c k ≡ family k = λ k. none_joins (family k) (is_taken_from family c) (is_answer k (step w c)) (inr (ap (is_answer k) e)) in
+        let same : (k : ℕ) → enlarged family w c k ≡ family k = λ k. none_joins (family k) (is_taken_from family c) (is_answer k (step w c)) (inr (ap (is_answer k) e)) in
         record {
           good = s.good;
           given = λ k is. s.given k (sym (same k) ∙ is);
-          contained = alike_contained family (joined family w c) w (λ i. sym (same (space_of w i))) s.contained;
+          contained = alike_contained family (enlarged family w c) w (λ i. sym (same (space_of w i))) s.contained;
         }
 
 all_stand : (family : ℕ → Bool) (w : WorldView) (done : List Command) → Stands family w → IsNotCrossed family w done → Stands (family_after family w done) (after_from w done)
 all_stand family w [] s side = s
-all_stand family w (c ∷ later) s side = all_stand (joined family w c) (next_world w c) later (next_stands family w c s side.0) side.1
+all_stand family w (c ∷ later) s side = all_stand (enlarged family w c) (next_world w c) later (next_stands family w c s side.0) side.1
 
-stands_inside : (family : ℕ → Bool) (w : WorldView) (c : Command) → Stands family w → is_issued_in family c ≡ true → (k : ℕ) → joined family w c k ≡ false → table_of (next_world w c) k ≡ table_of w k
+stands_inside : (family : ℕ → Bool) (w : WorldView) (c : Command) → Stands family w → is_issued_in family c ≡ true → (k : ℕ) → enlarged family w c k ≡ false → table_of (next_world w c) k ≡ table_of w k
 stands_inside family w c s is k off = next_by (λ v. table_of v k ≡ table_of w k) w c refl (λ v r e. step_inside family w c v r s.good.formed s.good.skeleton s.contained s.given is e k off)
 
 -- a less privileged copy, as it is made
@@ -256,7 +256,7 @@ less_stands w m n v g e =
 -- what is done in the family of a less privileged copy leaves the tables of all namespaces outside, as long as nothing was accepted that
 -- brings a group or a master over its border
 pub less_inside : (w : WorldView) (m n : ℕ) (v : WorldView) → IsWellFormed w → IsSkeleton w.skel → step w (CopySpace m true) ≡ Ok (v, Number n) → (done : List Command) → IsNotCrossed (only n) v done
-    → (c : Command) → is_issued_in (family_after (only n) v done) c ≡ true → (k : ℕ) → joined (family_after (only n) v done) (after_from v done) c k ≡ false
+    → (c : Command) → is_issued_in (family_after (only n) v done) c ≡ true → (k : ℕ) → enlarged (family_after (only n) v done) (after_from v done) c k ≡ false
     → table_of (next_world (after_from v done) c) k ≡ table_of (after_from v done) k
 less_inside w m n v h s e done side c is k off =
     stands_inside (family_after (only n) v done) (after_from v done) c (all_stand (only n) v done (less_stands w m n v (record { formed = h; skeleton = s }) e) side) is k off
@@ -275,7 +275,7 @@ after_copy before m n v e done = after-append before (CopySpace m true ∷ done)
 
 -- the same from the empty world on
 pub book_inside : (before : List Command) (m n : ℕ) (v : WorldView) → step (after before) (CopySpace m true) ≡ Ok (v, Number n) → (done : List Command) → IsNotCrossed (only n) v done
-    → (c : Command) → is_issued_in (family_after (only n) v done) c ≡ true → (k : ℕ) → joined (family_after (only n) v done) (after_from v done) c k ≡ false
+    → (c : Command) → is_issued_in (family_after (only n) v done) c ≡ true → (k : ℕ) → enlarged (family_after (only n) v done) (after_from v done) c k ≡ false
     → (table_of (after ((before ++ CopySpace m true ∷ done) ++ c ∷ [])) k ≡ table_of (after (before ++ CopySpace m true ∷ done)) k)
     × (space_number k ((before ++ CopySpace m true ∷ done) ++ c ∷ []) ≡ space_number k (before ++ CopySpace m true ∷ done))
 book_inside before m n v e done side c is k off =
@@ -306,12 +306,12 @@ stays_inside cs c n h is k off =
     let made = made_is h.before (CopySpace h.copied true) n h.made in
     let all = h.before ++ CopySpace h.copied true ∷ h.later in
     let Same : List Command → Type 0 = λ l. (table_of (after (l ++ c ∷ [])) k ≡ table_of (after l) k) × (space_number k (l ++ c ∷ []) ≡ space_number k l) in
-    let Holds : WorldView → Type 0 = λ u. IsNotCrossed (only n) u h.later → is_issued_in (family_after (only n) u h.later) c ≡ true → joined (family_after (only n) u h.later) (after all) c k ≡ false → Same all in
+    let Holds : WorldView → Type 0 = λ u. IsNotCrossed (only n) u h.later → is_issued_in (family_after (only n) u h.later) c ≡ true → enlarged (family_after (only n) u h.later) (after all) c k ≡ false → Same all in
     let here = after_copy h.before h.copied n made.0 made.1 h.later in
     let there : Holds made.0 = λ side issued out.
-    book_inside h.before h.copied n made.0 made.1 h.later side c issued k (subst (λ u. joined (family_after (only n) made.0 h.later) u c k ≡ false) here out) in
+    book_inside h.before h.copied n made.0 made.1 h.later side c issued k (subst (λ u. enlarged (family_after (only n) made.0 h.later) u c k ≡ false) here out) in
     let holds : Holds (next_world (after h.before) (CopySpace h.copied true)) = subst Holds (sym (ap (world_or (after h.before)) made.1)) there in
-    subst Same (sym h.commands) (holds h.not_crossed is (subst (λ l. joined (family_of n cs h) (after l) c k ≡ false) h.commands off))
+    subst Same (sym h.commands) (holds h.not_crossed is (subst (λ l. enlarged (family_of n cs h) (after l) c k ≡ false) h.commands off))
 
 pub all_inside : (cs : List Command) → AllStayInCopies cs
 all_inside cs before c later is = stays_inside before c

@@ -43,13 +43,13 @@ is_answer k (Ok (v, Number i)) = k == i
 is_answer k q = false
 
 -- the family once a command was tried in a world: the copy of a namespace of the family joins it, and so does a tree that is opened in one
-abbrev pub joined : (ℕ → Bool) → WorldView → Command → ℕ → Bool
-joined family w c k = family k || (is_taken_from family c && is_answer k (step w c))
+abbrev pub enlarged : (ℕ → Bool) → WorldView → Command → ℕ → Bool
+enlarged family w c k = family k || (is_taken_from family c && is_answer k (step w c))
 
 -- and once these commands were
 abbrev pub family_after : (ℕ → Bool) → WorldView → List Command → ℕ → Bool
 family_after family w [] = family
-family_after family w (c ∷ later) = family_after (joined family w c) (next_world w c) later
+family_after family w (c ∷ later) = family_after (enlarged family w c) (next_world w c) later
 
 -- the command brings no group and no master over the border of the family: a tree that it attaches, and that has one, comes from the side
 -- on which the place is (`sharedsubtree`; a descriptor that is passed over the border of a sandbox)
@@ -61,7 +61,7 @@ StaysOnItsSide family w c = Unit {0}
 abbrev pub IsNotCrossed : (ℕ → Bool) → WorldView → List Command → Type 0
 IsNotCrossed family w [] = Unit {0}
 IsNotCrossed family w (c ∷ later) =
-    ((v : WorldView) (r : Reply) → step w c ≡ Ok (v, r) → StaysOnItsSide family w c) × IsNotCrossed (joined family w c) (next_world w c) later
+    ((v : WorldView) (r : Reply) → step w c ≡ Ok (v, r) → StaysOnItsSide family w c) × IsNotCrossed (enlarged family w c) (next_world w c) later
 
 -- one of these commands made the namespace n as a less privileged copy, and no later one brings a group or a master over the border of its
 -- family: of the namespace, of what is copied from one of the family, and of what is opened in one
@@ -82,7 +82,7 @@ family_of n cs h = family_after (only n) (next_world (after h.before) (CopySpace
 abbrev pub StaysInCopy : List Command → Command → List Command → Type 0
 StaysInCopy cs c now =
     (n : ℕ) (h : IsLessCopy n cs) → is_issued_in (family_of n cs h) c ≡ true
-    → (k : ℕ) → joined (family_of n cs h) (after cs) c k ≡ false → (table_of (after now) k ≡ table_of (after cs) k) × (space_number k now ≡ space_number k cs)
+    → (k : ℕ) → enlarged (family_of n cs h) (after cs) c k ≡ false → (table_of (after now) k ≡ table_of (after cs) k) × (space_number k now ≡ space_number k cs)
 
 -- and so does each of these commands, where it stands
 abbrev pub AllStayInCopies : List Command → Type 0
