@@ -1,3 +1,4 @@
+use Rattle.std.proofs.Common.{sym, ◌∙◌}
 use Rattle.mt_propagate.proofs.CopiedInsideLaws.{copied-contained, copied-outside}
 use Rattle.mt_propagate.proofs.laws.copying_stays_inside.Goals as goal
 
