@@ -2,6 +2,7 @@
 
 use crate::connection::{connected, status_of};
 use crate::fault::Fault;
+use crate::kept::Kept;
 use crate::messages::NAME;
 use crate::own_session::answers_to;
 use crate::page::{PageData, Unplayed, play};
