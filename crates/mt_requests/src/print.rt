@@ -288,7 +288,7 @@ fn verb_of(command: &Command) -> Verb
 }
 
 /// Appends the line of a command, without its line end. Where a line has said the command, this one is read as the same
-/// command, and is no longer ([`crate::laws`]).
+/// command ([`crate::laws`]), and is no longer.
 #[tactic(auto, unfolding(crate::specs::Printed::line_of_command))]
 pub fn push_command(line: &mut Vec<u8>, command: &Command) -> Result<(), AllocError>
     ensures { OnOk result (line.new.items ≡ line.old.items ++ line_of_command command.now) }
