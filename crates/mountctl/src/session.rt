@@ -6,7 +6,7 @@ use crate::help::{session_page, tell_no_page};
 use crate::kept::Kept;
 use crate::lines::tell_bad;
 use crate::messages::NAME;
-use crate::own_session::{answer_sent, answers_to};
+use crate::own_session::{Answered, answer_sent, answers_to};
 use crate::part::{Part, draw_part};
 use crate::quiet::Quiet;
 use crate::refusals::{refusal_in, tell_reason_of};
@@ -172,13 +172,12 @@ fn ask<E: Eprint, O: Output>(
 {
     let mut sent = Vec::from_slice(alloc, line)?;
     sent.push(b'\n')?;
-    let mut answer = Kept::new(alloc);
-    let goes_on = answer_sent(alloc, floor, session, sent.as_slice(), &mut answer)?;
-    print_text(out, answer.text())?;
-    if answer.text() == b"no BadLine\n".as_slice() {
+    let Answered { answer, goes_on } = answer_sent(alloc, floor, session, sent.as_slice())?;
+    print_text(out, answer.as_slice())?;
+    if answer.as_slice() == b"no BadLine\n".as_slice() {
         tell_bad(rt, alloc, None, line)?;
     }
-    let first = Pieces::new(b'\n', answer.text()).next().unwrap_or(&[]);
+    let first = Pieces::new(b'\n', answer.as_slice()).next().unwrap_or(&[]);
     tell_why(rt, alloc, floor, line, first)?;
     Ok(goes_on)
 }
