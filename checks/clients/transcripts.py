@@ -71,10 +71,10 @@ MISFITS = (
     (b"> quit\n# a comment\nok\n", 3, "an answer below no input line"),
     (b"$ --sessions 2\n> quit\n", 1, "no arguments of a session: they are --queue N, from 1 to 1024"),
     (b"$ --queue 1025\n> quit\n", 1, "no arguments of a session: they are --queue N, from 1 to 1024"),
-    (b"$ --queue 2\n$ --queue 2\n> quit\n", 2, "arguments that are not right above the first input line"),
-    (b"$ --queue 2\n# a comment\n> quit\n", 2, "arguments that are not right above the first input line"),
+    (b"$ --queue 2\n$ --queue 2\n> quit\n", 1, "arguments that are not right above the first input line"),
+    (b"$ --queue 2\n# a comment\n> quit\n", 1, "arguments that are not right above the first input line"),
     (b"> quit\nok\n$ --queue 2\n", 3, "arguments that are not right above the first input line"),
-    (b"$ --queue 2\n", 2, "arguments that are not right above the first input line"),
+    (b"$ --queue 2\n", 1, "arguments that are not right above the first input line"),
 )
 
 

@@ -111,7 +111,8 @@ fn answer_line(
     ensures answered { IfOk result (λ answered. IsSentAnswered (sent_by line.now goes_on) goes_on (floor.old, session.old) answered.answer.items answered.goes_on (floor.new, session.new)) }
     ensures idle { floor.new.due ≡ [] }
 {
-    match sent_by(alloc, line, goes_on)? {
+    let sent = sent_by(alloc, line, goes_on)?;
+    match sent {
         Some(sent) => answer_sent(alloc, floor, session, sent.as_slice()),
         None => Ok(Answered {
             answer: Vec::new(alloc),

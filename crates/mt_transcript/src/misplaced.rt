@@ -184,7 +184,8 @@ pub fn misplaced_in(
 {
     let mut above = nothing_above();
     'lines: for (place, line) in lines.iter().enumerate() {
-        if let Some(why) = above.why_not(alloc, *line, &lines[place + 1..])? {
+        let misfit = above.why_not(alloc, *line, &lines[place + 1..])?;
+        if let Some(why) = misfit {
             return Ok(Some(Misplaced {
                 number: place as u64 + 1,
                 why,
