@@ -30,8 +30,8 @@ fn lacks_memory(end: End) -> bool {
     )
 }
 
-/// Whether a session goes on, of which this is the end, if it has one.
-fn goes_on(end: Option<End>) -> Result<bool, Fault>
+/// Whether a session goes on after a line that brought this end, if it brought one. Refused as `NoMemory` alone.
+fn goes_on_after(end: Option<End>) -> Result<bool, Fault>
     ensures { IfOk result (λ goes_on. goes_on ≡ is_none end) }
 {
     let Some(end) = end else {
@@ -57,7 +57,7 @@ pub(crate) fn answer_sent(
     let mut input = LineReader::new(alloc, Reading::new(sent), LINE_LIMIT)?;
     let mut answer = Kept::new(alloc);
     let end = serve_next(floor, session, &mut input, &mut answer);
-    let goes_on = goes_on(end)?;
+    let goes_on = goes_on_after(end)?;
     Ok(Answered {
         answer: answer.into_text(),
         goes_on,
@@ -68,6 +68,7 @@ pub(crate) fn answer_sent(
 pub(crate) fn answers_to(alloc: Global, floor: &mut Floor, requests: &[u8]) -> Result<Kept, Fault>
     ensures idle { floor.new.due ≡ [] }
 {
+    floor.settle();
     let mut input = LineReader::new(alloc, Reading::new(requests), LINE_LIMIT)?;
     let mut answers = Kept::new(alloc);
     if lacks_memory(serve_plain(alloc, &mut input, &mut answers, floor)) {
