@@ -1,9 +1,9 @@
 -- The first of the lines below so many others that does not stand where it may.
-use Rattle.std.proofs.Common.{arith, ◌≡◌, ℕ, suc, ◌+◌, ◌-◌, ◌<◌, ◌≤◌, Bool, false, ◌||◌, List, [], ◌∷◌, ◌++◌, length, take, drop, map, get_or, Option, Some, None, option_map, slice_get, filter_map, refl, sym, ap, ◌∙◌}
+use Rattle.std.proofs.Common.{arith, ◌≡◌, ℕ, suc, ◌+◌, ◌-◌, ◌<◌, ◌≤◌, Bool, false, ◌||◌, List, [], ◌∷◌, ◌++◌, length, take, drop, map, get_or, Option, Some, None, option_map, slice_get, slice_range, filter_map, refl, sym, ap, ◌∙◌}
 use Rattle.std.specs.List.{list_any, last_or, cons_option, range_with_len, drop-map}
 use Rattle.std.specs.Option.{option_map_or}
 use Rattle.std.proofs.Math.ListN.{get_or-map}
-use Rattle.std.proofs.lemmas.List.{take_more, drop_more, length-map}
+use Rattle.std.proofs.lemmas.List.{take_more, take_rest, drop_more, length-map}
 use Rattle.std.proofs.lemmas.List.Folds.{list_any_more}
 use Rattle.mt_transcript.specs.Lines.{ReadLine, line_viewed}
 use Rattle.mt_transcript.specs.Misplaced.{takes_answer, is_sent, said_above, why_not, misplaced_at, misplaced_in}
@@ -48,45 +48,45 @@ last_after : (o : Option ReadLine) (lines : List ReadLine) (l : ReadLine) → la
 last_after o [] l = refl
 last_after o (x ∷ xs) l = last_after (Some x) xs l
 
-any_more : (test : ReadLine → Bool) (lines : List ReadLine) (n : ℕ) (l : ReadLine) → n < length lines → get_or lines n l ≡ l → list_any test (take (n + 1) lines) ≡ (list_any test (take n lines) || test l)
-any_more test lines n l lt at = list_any_more test lines n l lt ∙ ap (λ (x : ReadLine). list_any test (take n lines) || test x) at
-
-above_more : (lines : List ReadLine) (n : ℕ) (l : ReadLine) → n < length lines → get_or lines n l ≡ l → said_above (take (n + 1) lines) ≡ with_line (said_above (take n lines)) l
-above_more lines n l lt at =
-    let last : last_or None (take (n + 1) lines) ≡ Some l =
-    ap (last_or None) (take_more lines n l lt) ∙ ap (λ (x : ReadLine). last_or None (take n lines ++ x ∷ [])) at ∙ last_after None (take n lines) l
+above_more : (lines : List ReadLine) (n : ℕ) (d : ReadLine) → n < length lines → said_above (take (n + 1) lines) ≡ with_line (said_above (take n lines)) (get_or lines n d)
+above_more lines n d lt =
+    let last : last_or None (take (n + 1) lines) ≡ Some (get_or lines n d) = ap (last_or None) (take_more lines n d lt) ∙ last_after None (take n lines) (get_or lines n d)
     in ap (λ (o : Option ReadLine). said_by o (list_any sends (take (n + 1) lines)) (list_any ends_by (take (n + 1) lines))) last
-    ∙ ap (λ (b : Bool). said_by (Some l) b (list_any ends_by (take (n + 1) lines))) (any_more sends lines n l lt at)
-    ∙ ap (said_by (Some l) (list_any sends (take n lines) || sends l)) (any_more ends_by lines n l lt at)
+    ∙ ap (λ (b : Bool). said_by (Some (get_or lines n d)) b (list_any ends_by (take (n + 1) lines))) (list_any_more sends lines n d lt)
+    ∙ ap (said_by (Some (get_or lines n d)) (list_any sends (take n lines) || sends (get_or lines n d))) (list_any_more ends_by lines n d lt)
 
 -- a line of a transcript, below those that say this
-module _ (lines : List TranscriptLine) (n : ℕ) (line : TranscriptLine) (a : Above) (inside : n < length lines) (at : line ≡ get_or lines n line) (said : a ≡ said_above (take n (map line_viewed lines))) where
+module _ (lines : List TranscriptLine) (n : ℕ) (d : TranscriptLine) (a : Above) (inside : n < length lines) (said : a ≡ said_above (take n (map line_viewed lines))) where
   abbrev views : List ReadLine
   views = map line_viewed lines
 
-  one_here : Why → Misplaced
+  abbrev rest : List ReadLine
+  rest = line_viewed (get_or lines n d) ∷ map line_viewed (slice_range lines (n + 1) (length lines))
+
+  abbrev one_here : Why → Misplaced
   one_here why = record { number = n + 1; why = why }
 
   within : n < length views
   within = omega (arith, inside, length-map lines line_viewed)
 
-  here : (why : Option Why) → why ≡ why_not a (line_viewed line ∷ map line_viewed (drop (n + 1) lines)) → misplaced_at views n ≡ option_map one_here why
+  here : (why : Option Why) → why ≡ why_not a rest → misplaced_at views n ≡ option_map one_here why
   here why is =
-      let rest : drop n views ≡ line_viewed line ∷ map line_viewed (drop (n + 1) lines) =
-      drop-map line_viewed n lines ∙ ap (map line_viewed) (drop_more lines n line inside ∙ ap (λ (x : TranscriptLine). x ∷ drop (n + 1) lines) (sym at))
-      in ap (λ (r : List ReadLine). option_map one_here (why_not (said_above (take n views)) r)) rest
-      ∙ ap (λ (x : Above). option_map one_here (why_not x (line_viewed line ∷ map line_viewed (drop (n + 1) lines)))) (sym said) ∙ ap (option_map one_here) (sym is)
+      let left : drop n views ≡ rest =
+      drop-map line_viewed n lines
+      ∙ ap (map line_viewed) (drop_more lines n d inside ∙ ap (λ (ls : List TranscriptLine). get_or lines n d ∷ ls) (sym (take_rest lines (n + 1))))
+      in ap (λ (r : List ReadLine). option_map one_here (why_not (said_above (take n views)) r)) left
+      ∙ ap (λ (x : Above). option_map one_here (why_not x rest)) (sym said) ∙ ap (option_map one_here) (sym is)
 
-  pub found : (why : Why) → Some why ≡ why_not a (line_viewed line ∷ map line_viewed (drop (n + 1) lines)) → first_below views n ≡ misplaced_in views → Some (record { number = n + 1; why = why }) ≡ misplaced_in views
+  pub found : (why : Why) → Some why ≡ why_not a rest → first_below views n ≡ misplaced_in views → Some (record { number = n + 1; why = why }) ≡ misplaced_in views
   found why is first = sym (below_one views n (Some (one_here why)) within (here (Some why) is)) ∙ first
 
-  pub passed : None ≡ why_not a (line_viewed line ∷ map line_viewed (drop (n + 1) lines)) → first_below views n ≡ misplaced_in views → first_below views (n + 1) ≡ misplaced_in views
+  pub passed : None ≡ why_not a rest → first_below views n ≡ misplaced_in views → first_below views (n + 1) ≡ misplaced_in views
   passed is first = sym (below_one views n None within (here None is)) ∙ first
 
-  pub said_below : (more : Above) → more ≡ with_line a (line_viewed line) → more ≡ said_above (take (n + 1) views)
+  pub said_below : (more : Above) → more ≡ with_line a (line_viewed (get_or lines n d)) → more ≡ said_above (take (n + 1) views)
   said_below more is =
-      is ∙ ap (λ (x : Above). with_line x (line_viewed line)) said
-      ∙ sym (above_more views n (line_viewed line) within (get_or-map line_viewed lines n line ∙ ap line_viewed (sym at)))
+      is ∙ ap (λ (x : Above). with_line x (line_viewed (get_or lines n d))) said
+      ∙ sym (above_more views n (line_viewed d) within ∙ ap (with_line (said_above (take n views))) (get_or-map line_viewed lines n d))
 
 pub all_passed : (lines : List TranscriptLine) (n : ℕ) → length lines ≤ n → first_below (map line_viewed lines) n ≡ misplaced_in (map line_viewed lines) → None ≡ misplaced_in (map line_viewed lines)
 all_passed lines n le first =

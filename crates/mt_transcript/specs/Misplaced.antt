@@ -1,6 +1,6 @@
 -- Which lines of a transcript do not stand where they may.
 -- A word with no source is this project's rule.
-use Rattle.std.specs.Prelude.{ℕ, ◌+◌, ◌-◌, nat_lt, nat_le, Bool, true, false, not, ◌||◌, ◌&&◌, if◌then◌else◌, List, [], ◌∷◌, ◌++◌, length, take, drop, Option, Some, None, codes}
+use Rattle.std.specs.Prelude.{ℕ, ◌+◌, Bool, true, false, not, ◌||◌, List, [], ◌∷◌, length, take, drop, Option, Some, None, codes}
 use Rattle.std.specs.List.{slice_get, list_any, find, filter_map, range_with_len, last_or}
 use Rattle.std.specs.Option.{is_none, option_map, option_map_or}
 use Rattle.mt_transcript.specs.Lines.{ReadLine}
