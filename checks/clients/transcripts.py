@@ -71,10 +71,10 @@ MISFITS = (
     (b"> quit\n# a comment\nok\n", 3, "an answer below no input line"),
     (b"$ --sessions 2\n> quit\n", 1, "no arguments of a session: they are --queue N, from 1 to 1024"),
     (b"$ --queue 1025\n> quit\n", 1, "no arguments of a session: they are --queue N, from 1 to 1024"),
-    (b"$ --queue 2\n$ --queue 2\n> quit\n", 2, "arguments that are not right above the first input line"),
-    (b"$ --queue 2\n# a comment\n> quit\n", 2, "arguments that are not right above the first input line"),
+    (b"$ --queue 2\n$ --queue 2\n> quit\n", 1, "arguments that are not right above the first input line"),
+    (b"$ --queue 2\n# a comment\n> quit\n", 1, "arguments that are not right above the first input line"),
     (b"> quit\nok\n$ --queue 2\n", 3, "arguments that are not right above the first input line"),
-    (b"$ --queue 2\n", 2, "arguments that are not right above the first input line"),
+    (b"$ --queue 2\n", 1, "arguments that are not right above the first input line"),
 )
 
 
@@ -140,18 +140,43 @@ class Terminal:
         os.close(self.ours)
         return status
 
+    def closes(self):
+        """The status at the end, where the terminal is closed before."""
+        os.close(self.ours)
+        return self.running.wait(MOST_SECONDS)
 
-def check_keys(mountctl):
-    """At a terminal each further line waits for a key; a transcript that is read there does not."""
+
+@contextlib.contextmanager
+def file_of(text):
+    """The path of a file that has this text."""
     with tempfile.TemporaryDirectory() as folder:
         path = os.path.join(folder, "transcript")
         with open(path, "wb") as file:
-            file.write(OTHER)
-        # The comments above a line wait with it.
-        first, second, third, fourth, fifth = re.split(rb"(?m)^(?=> newns|> show|# Behind)", PLAYED)
+            file.write(text)
+        yield path
+
+
+def check_keys(mountctl):
+    """At a terminal each further line waits for a key; a transcript that is read there does not."""
+    # The comments above a line wait with it.
+    first, second, third, fourth, fifth = re.split(rb"(?m)^(?=> newns|> show|# Behind)", PLAYED)
+    with file_of(OTHER) as path:
         terminal = Terminal(mountctl, "play", path)
         found = [terminal.shows(first), *(terminal.types(b"\n", part) for part in (second, third, fourth, fifth))]
         check("a transcript at a terminal", (terminal.ends(), found) == (1, [first, second, third, fourth, fifth]), repr(found))
+        terminal = Terminal(mountctl, "play", path)
+        found = terminal.shows(first)
+        status = terminal.closes()
+        check("a transcript at a terminal that is closed", (found, status) == (first, 3), f"{status} {found}")
+
+
+def check_strangers(mountctl):
+    """A terminal is given nothing that it obeys, of a transcript or of its path."""
+    with file_of(b"# \x1b[2J\n> quit\nok\n") as path:
+        found = Terminal(mountctl, "play", path).shows(b"# as told: 1 of 1 lines\n")
+    check("an escape in a transcript", found.startswith(b"# ") and b"\x1b" not in found and found.endswith(b"# as told: 1 of 1 lines\n"), repr(found))
+    found = run(mountctl, b"", "play", "/no\x1b[2Jwhere")
+    check("an escape in the path of a transcript", found[:2] == (2, b"") and found[2] != b"" and b"\x1b" not in found[2], repr(found))
 
 
 def check_transcripts(_program, mountctl):
@@ -166,3 +191,4 @@ def check_transcripts(_program, mountctl):
     check_files(mountctl)
     check_misfits(mountctl)
     check_keys(mountctl)
+    check_strangers(mountctl)

@@ -291,6 +291,23 @@ fn print_answer(rt: &HostRuntime, answer: &Foretold, options: Options) -> ExitCo
     }
 }
 
+/// Prints what lines change in the namespaces of tables as a page, on which each is a step.
+fn answer_by_page(
+    rt: &HostRuntime,
+    scene: &mut Scene,
+    question: &Question<'_, '_>,
+    options: Options,
+) -> ExitCode {
+    let Ok(page) = foretell_steps(rt.alloc(), scene, question) else {
+        return PROGRAM.fail(rt, Fault::NoMemory.message());
+    };
+    let status = status_of_answer(page.outcome, page.leaks, options);
+    match print_foretold_page(rt, page) {
+        Ok(()) => status,
+        Err(fault) => PROGRAM.fail(rt, fault.message()),
+    }
+}
+
 /// Prints what lines change in the namespaces of tables, in words, as JSON, or as a page.
 fn answer_lines(
     rt: &HostRuntime,
@@ -299,16 +316,7 @@ fn answer_lines(
     options: Options,
 ) -> ExitCode {
     if options.page {
-        return match foretell_steps(rt.alloc(), scene, question) {
-            Ok(page) => {
-                let status = status_of_answer(page.outcome, page.leaks, options);
-                match print_foretold_page(rt, page) {
-                    Ok(()) => status,
-                    Err(fault) => PROGRAM.fail(rt, fault.message()),
-                }
-            }
-            Err(_) => PROGRAM.fail(rt, Fault::NoMemory.message()),
-        };
+        return answer_by_page(rt, scene, question, options);
     }
     match foretell(rt.alloc(), scene, question) {
         Ok(answer) => print_answer(rt, &answer, options),

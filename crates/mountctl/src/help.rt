@@ -17,6 +17,9 @@ use std::alloc::{AllocError, Global};
 use std::io::Eprint;
 use std::process::ExitCode;
 
+/// What a session answers beside the lines of a server.
+const IN_SESSIONS: &[&[u8]] = &[b"help", b"tree"];
+
 /// What is said behind the list of words.
 const BEHIND_LIST: &[u8] = b"
 mountctl help WORD has the page of a word, mountctl --help all of them in short, and mountctl explain REFUSAL what is known of a refusal.
@@ -228,9 +231,6 @@ fn refuse_word(rt: &HostRuntime, word: &str) -> ExitCode {
         Err(_) => PROGRAM.fail(rt, Fault::NoMemory.message()),
     }
 }
-
-/// What `help` in a session has beside the lines that the server answers.
-const IN_SESSIONS: &[&[u8]] = &[b"help", b"tree"];
 
 /// The words of a session, under their kinds.
 fn list_in_session(alloc: Global) -> Result<Vec<u8>, AllocError> {

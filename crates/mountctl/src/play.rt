@@ -1,27 +1,28 @@
 //! `play`: a transcript, line by line, in a session of its own.
-ghost use Rattle.std.specs.Prelude.{◌≡◌, ℕ, List, [], OnOk};
-ghost use Rattle.std.specs.Io.KnownBytes.{Appends};
-ghost use Rattle.mt_transcript.specs.Told.{played_text};
+ghost use Rattle.std.specs.Prelude.{◌≡◌, ◌<◌, ◌≤◌, [], IfOk};
+ghost use Rattle.std.specs.Option.{option_map};
+ghost use Rattle.mt_transcript.specs.Queue.{most_queued};
+ghost use Rattle.mountctl.specs.Played.{sent_by, IsSentAnswered, IsPlayed};
 
 use crate::PROGRAM;
 use crate::fault::Fault;
-use crate::kept::Kept;
 use crate::messages::NAME;
-use crate::own_session::answer_sent;
+use crate::own_session::{Answered, answer_sent};
 use crate::screen::{is_at_terminal, standard_output};
 use crate::tables::TableFault;
 use crate::task::WordFault;
 use mt_client::relay::print_text;
 use mt_floor::floor::Floor;
-use mt_lines::line::{Line, LineReader};
+use mt_lines::line::LineReader;
 use mt_lines::stream::{Input, Output, Reading};
 use mt_session::session::Session;
 use mt_terminal::message::Shown;
 use mt_transcript::lines::{LineKind, TranscriptLine, transcript_lines};
-use mt_transcript::misplaced::{Misplaced, misplaced_in, queue_of};
+use mt_transcript::misplaced::{Misplaced, misplaced_in};
+use mt_transcript::queue::queue_in;
 use mt_transcript::sent::bytes_sent;
 use mt_transcript::told::{alike_text, answer_told, played_text};
-use std::alloc::Global;
+use std::alloc::{AllocError, Global};
 use std::fs::File;
 use std::io::Read;
 use std::process::ExitCode;
@@ -35,6 +36,15 @@ const KEYS: u32 = 4_096;
 /// The word that stands for standard input.
 const STANDARD: &str = "-";
 
+/// What has come of a line that was played.
+#[derive(Clone, Copy)]
+struct Played {
+    /// Whether it was answered as it is told.
+    is_alike: bool,
+    /// Whether the session goes on.
+    goes_on: bool,
+}
+
 /// What has come of lines: how many were sent, and how many of them answered as they are told.
 #[derive(Clone, Copy)]
 struct Count {
@@ -44,10 +54,31 @@ struct Count {
     goes_on: bool,
 }
 
-/// Waits until a line comes.
-fn wait_for_key<K: Input + Drop>(keys: &mut LineReader<K>) {
-    match keys.next() {
-        Ok(Line::Text | Line::TooLong | Line::Unended | Line::End) | Err(_) => {}
+impl Count {
+    /// Before any line.
+    fn new() -> Count {
+        Count {
+            alike: 0,
+            sent: 0,
+            goes_on: true,
+        }
+    }
+
+    /// With one more line that was sent.
+    fn with(self, played: Played) -> Count {
+        let alike = if played.is_alike { 1 } else { 0 };
+        Count {
+            alike: self.alike.saturating_add(alike),
+            sent: self.sent.saturating_add(1),
+            goes_on: played.goes_on,
+        }
+    }
+}
+
+/// Waits until a line comes, where it `waits`.
+fn wait_for_key<K: Input + Drop>(keys: &mut LineReader<K>, waits: bool) {
+    if waits {
+        let _line = keys.next();
     }
 }
 
@@ -58,53 +89,94 @@ fn print_line<O: Output>(out: &mut O, line: &[u8]) -> Result<(), Fault> {
     Ok(())
 }
 
-/// Sends a session the input line of a transcript, unless it has ended, and keeps its answer: whether the session goes on.
-fn send_line(
+/// What an input line sends, if it is one, and the session goes on.
+fn sent_by(alloc: Global, line: &[u8], goes_on: bool) -> Result<Option<Vec<u8>>, AllocError>
+    ensures { IfOk result (λ sent. option_map (λ x. x.items) sent ≡ sent_by line.now goes_on) }
+{
+    if !goes_on {
+        return Ok(None);
+    }
+    bytes_sent(alloc, line)
+}
+
+/// Sends a session what an input line sends, if it is one, and the session goes on: its answer, and whether it goes on then.
+fn answer_line(
+    alloc: Global,
+    floor: &mut Floor,
+    session: &mut Session,
+    line: &[u8],
+    goes_on: bool,
+) -> Result<Answered, Fault>
+    requires idle { floor.old.due ≡ [] }
+    ensures answered { IfOk result (λ answered. IsSentAnswered (sent_by line.now goes_on) goes_on (floor.old, session.old) answered.answer.items answered.goes_on (floor.new, session.new)) }
+    ensures idle { floor.new.due ≡ [] }
+{
+    let sent = sent_by(alloc, line, goes_on)?;
+    match sent {
+        Some(sent) => answer_sent(alloc, floor, session, sent.as_slice()),
+        None => Ok(Answered {
+            answer: Vec::new(alloc),
+            goes_on,
+        }),
+    }
+}
+
+/// Plays a line that is sent, below which this answer is told: what has come of it.
+fn play_sent<O: Output>(
     alloc: Global,
     floor: &mut Floor,
     session: &mut Session,
     goes_on: bool,
     line: &[u8],
-    answer: &mut Kept,
-) -> Result<bool, Fault>
+    told: &[u8],
+    out: &mut O,
+) -> Result<Played, Fault>
     requires idle { floor.old.due ≡ [] }
+    ensures played { IfOk result (λ played. IsPlayed line.now told.now goes_on (floor.old, session.old) (O.contents out.old) played (floor.new, session.new) (O.contents out.new)) }
     ensures idle { floor.new.due ≡ [] }
 {
-    if !goes_on {
-        return Ok(false);
-    }
-    match bytes_sent(alloc, line)? {
-        Some(sent) => answer_sent(alloc, floor, session, sent.as_slice(), answer),
-        None => Ok(true),
-    }
+    let answered = answer_line(alloc, floor, session, line, goes_on)?;
+    let text = played_text(alloc, line, answered.answer.as_slice(), told)?;
+    print_text(out, text.as_slice())?;
+    Ok(Played {
+        is_alike: answered.answer.as_slice() == told,
+        goes_on: answered.goes_on,
+    })
 }
 
-/// Plays a line that is sent, below which this answer is told: what has come of those before, and of it.
-fn play_sent<O: Output>(
+/// Plays a line, below which these stand: what has come of those before, and of it.
+fn play_line<O: Output>(
     alloc: Global,
     floor: &mut Floor,
     session: &mut Session,
     before: Count,
-    line: &[u8],
-    told: &[u8],
+    line: TranscriptLine<'_>,
+    below: &[TranscriptLine<'_>],
     out: &mut O,
 ) -> Result<Count, Fault>
     requires idle { floor.old.due ≡ [] }
-    ensures printed { OnOk result ((answer : List ℕ) × Appends (O.contents out.old) (O.contents out.new) (played_text line.now answer told.now)) }
     ensures idle { floor.new.due ≡ [] }
 {
-    let mut kept = Kept::new(alloc);
-    let goes_on = send_line(alloc, floor, session, before.goes_on, line, &mut kept)?;
-    let answer = kept.text();
-    let text = played_text(alloc, line, answer, told)?;
-    print_text(out, text.as_slice())?;
-    Ok(Count {
-        alike: before
-            .alike
-            .saturating_add(if answer == told { 1 } else { 0 }),
-        sent: before.sent.saturating_add(1),
-        goes_on,
-    })
+    match line.kind {
+        LineKind::Comment | LineKind::Arguments => {
+            print_line(out, line.text)?;
+            Ok(before)
+        }
+        LineKind::Nothing | LineKind::Answer => Ok(before),
+        LineKind::Sent => {
+            let told = answer_told(alloc, below)?;
+            let played = play_sent(
+                alloc,
+                floor,
+                session,
+                before.goes_on,
+                line.text,
+                told.as_slice(),
+                out,
+            )?;
+            Ok(before.with(played))
+        }
+    }
 }
 
 /// How many of these lines are sent.
@@ -130,43 +202,31 @@ fn play_lines<K: Input + Drop, O: Output>(
     ensures idle { floor.new.due ≡ [] }
 {
     let all = count_sent(lines);
-    let mut count = Count {
-        alike: 0,
-        sent: 0,
-        goes_on: true,
-    };
+    let mut count = Count::new();
     'lines: for (place, line) in lines.iter().enumerate() {
-        match line.kind {
-            LineKind::Comment | LineKind::Arguments => print_line(out, line.text)?,
-            LineKind::Nothing | LineKind::Answer => {}
-            LineKind::Sent => {
-                let told = answer_told(alloc, &lines[place + 1..])?;
-                count = play_sent(
-                    alloc,
-                    floor,
-                    session,
-                    count,
-                    line.text,
-                    told.as_slice(),
-                    out,
-                )?;
-                if waits && count.sent < all {
-                    wait_for_key(keys);
-                }
-            }
-        }
+        count = play_line(
+            alloc,
+            floor,
+            session,
+            count,
+            *line,
+            &lines[place + 1..],
+            out,
+        )?;
+        let is_followed = line.kind == LineKind::Sent && count.sent < all;
+        wait_for_key(keys, waits && is_followed);
     }
     Ok(count)
 }
 
 /// How many posts the queue of a watcher holds in a transcript.
-fn queue_in(lines: &[TranscriptLine<'_>]) -> usize {
-    for line in lines {
-        if line.kind == LineKind::Arguments {
-            return queue_of(line.text).unwrap_or(QUEUE as u64) as usize;
-        }
+fn posts_of(lines: &[TranscriptLine<'_>]) -> usize
+    ensures { (0 < result) × (result ≤ most_queued) }
+{
+    match queue_in(lines) {
+        Some(posts) => posts as usize,
+        None => QUEUE,
     }
-    QUEUE
 }
 
 /// Plays a transcript in a session of its own, and prints how many lines were answered as they are told: whether all were.
@@ -177,7 +237,7 @@ fn play_transcript<K: Input + Drop, O: Output>(
     waits: bool,
     out: &mut O,
 ) -> Result<bool, Fault> {
-    let mut floor = Floor::new(alloc, queue_in(lines));
+    let mut floor = Floor::new(alloc, posts_of(lines));
     floor.settle();
     let mut session = Session::new(alloc);
     let count = play_lines(alloc, &mut floor, &mut session, lines, keys, waits, out)?;

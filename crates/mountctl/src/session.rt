@@ -6,7 +6,7 @@ use crate::help::{session_page, tell_no_page};
 use crate::kept::Kept;
 use crate::lines::tell_bad;
 use crate::messages::NAME;
-use crate::own_session::{answer_sent, answers_to};
+use crate::own_session::{Answered, answer_sent, answers_to};
 use crate::part::{Part, draw_part};
 use crate::quiet::Quiet;
 use crate::refusals::{refusal_in, tell_reason_of};
@@ -172,13 +172,12 @@ fn ask<E: Eprint, O: Output>(
 {
     let mut sent = Vec::from_slice(alloc, line)?;
     sent.push(b'\n')?;
-    let mut answer = Kept::new(alloc);
-    let goes_on = answer_sent(alloc, floor, session, sent.as_slice(), &mut answer)?;
-    print_text(out, answer.text())?;
-    if answer.text() == b"no BadLine\n".as_slice() {
+    let Answered { answer, goes_on } = answer_sent(alloc, floor, session, sent.as_slice())?;
+    print_text(out, answer.as_slice())?;
+    if answer.as_slice() == b"no BadLine\n".as_slice() {
         tell_bad(rt, alloc, None, line)?;
     }
-    let first = Pieces::new(b'\n', answer.text()).next().unwrap_or(&[]);
+    let first = Pieces::new(b'\n', answer.as_slice()).next().unwrap_or(&[]);
     tell_why(rt, alloc, floor, line, first)?;
     Ok(goes_on)
 }
@@ -236,6 +235,45 @@ fn do_line<E: Eprint, O: Output>(
     }
 }
 
+/// Ends the line of a prompt, if there is one.
+fn end_prompt<O: Output>(prompt: &[u8], out: &mut O) -> Result<(), Fault> {
+    if !prompt.is_empty() {
+        print_text(out, b"\n")?;
+    }
+    Ok(())
+}
+
+/// Does what the next line asks for, in front of which the prompt stands: whether the session goes on.
+fn do_next<E: Eprint, I: Input + Drop, O: Output>(
+    rt: &E,
+    alloc: Global,
+    floor: &mut Floor,
+    session: &mut Session,
+    prompt: &[u8],
+    input: &mut LineReader<I>,
+    out: &mut O,
+) -> Result<bool, Fault>
+    requires idle { floor.old.due ≡ [] }
+    ensures idle { floor.new.due ≡ [] }
+{
+    match input.next() {
+        Ok(Line::Text) => do_line(rt, alloc, floor, session, input.line(), out),
+        Ok(Line::TooLong) => {
+            print_text(out, b"no TooLong\n")?;
+            Ok(true)
+        }
+        Ok(Line::Unended) => {
+            print_text(out, b"no BadLine\n")?;
+            Ok(false)
+        }
+        Ok(Line::End) => {
+            end_prompt(prompt, out)?;
+            Ok(false)
+        }
+        Err(fault) => Err(Fault::of_input(fault)),
+    }
+}
+
 /// Does what lines ask for, up to one that ends the session, and prints the prompt in front of each.
 fn do_lines<E: Eprint, I: Input + Drop, O: Output>(
     rt: &E,
@@ -249,25 +287,7 @@ fn do_lines<E: Eprint, I: Input + Drop, O: Output>(
     let mut session = Session::new(alloc);
     'lines: for _line in 0..MOST_LINES {
         print_text(out, prompt)?;
-        let goes_on = match input.next() {
-            Ok(Line::Text) => { do_line(rt, alloc, &mut floor, &mut session, input.line(), out)? }
-            Ok(Line::TooLong) => {
-                print_text(out, b"no TooLong\n")?;
-                true
-            }
-            Ok(Line::Unended) => {
-                print_text(out, b"no BadLine\n")?;
-                false
-            }
-            Ok(Line::End) => {
-                if !prompt.is_empty() {
-                    print_text(out, b"\n")?;
-                }
-                false
-            }
-            Err(fault) => return Err(Fault::of_input(fault)),
-        };
-        if !goes_on {
+        if !do_next(rt, alloc, &mut floor, &mut session, prompt, input, out)? {
             return Ok(());
         }
     }

@@ -6,7 +6,6 @@ use Rattle.std.specs.Option.{option_map, is_some}
 use Rattle.std.specs.Str.{bytes_eq}
 use Rattle.mt_lines.specs.Words.{pieces, words, number_in_text}
 use Rattle.mt_transcript.specs.Lines.{with_line_end}
-use Rattle.mt_transcript.specs.declared.sent.TheConstants.{MOST_TIMES}
 
 -- a text that is not empty
 abbrev pub unless_empty : List ℕ → Option (List ℕ)
@@ -21,9 +20,13 @@ has_mark mark line = bytes_eq (take (length mark) line) mark
 abbrev pub behind_mark : List ℕ → List ℕ → Option (List ℕ)
 behind_mark mark line = if has_mark mark line then unless_empty (drop (length mark) line) else None
 
+-- how often a word is repeated at most
+abbrev pub most_times : ℕ
+most_times = 65536
+
 -- how often a word is repeated
 abbrev pub count_within : ℕ → Option ℕ
-count_within n = if nat_lt 0 n && nat_le n MOST_TIMES then Some n else None
+count_within n = if nat_lt 0 n && nat_le n most_times then Some n else None
 
 abbrev pub count_by : Option ℕ → Option ℕ
 count_by None = None

@@ -1,15 +1,13 @@
 //! Lines that do not stand where they may.
-ghost use Rattle.std.specs.Prelude.{◌≡◌, map, IfOk};
+ghost use Rattle.std.specs.Prelude.{◌≡◌, ◌||◌, [], ◌∷◌, map, IfOk};
 ghost use Rattle.mt_transcript.specs.Lines.{line_viewed};
-ghost use Rattle.mt_transcript.specs.Misplaced.{sentence_of, if_within, queue_of, is_behind_answer, before_all, with_line, last_why, sent_why, comment_why, arguments_why, answer_why, why_not, has_no_line, misplaced_in};
+ghost use Rattle.mt_transcript.specs.Misplaced.{sentence_of, is_sent, takes_answer, said_above, unended, first_so, arguments_wrongs, sent_wrongs, answer_wrongs, wrongs, why_not, misplaced_in};
+ghost use Rattle.mt_transcript.specs.Sent.{ends_input};
 
 use crate::lines::{LineKind, TranscriptLine};
+use crate::queue::queue_of;
 use crate::sent::{bytes_sent, ends_input};
-use mt_lines::words::number;
 use std::alloc::{AllocError, Global};
-
-/// The most posts of a queue.
-const MOST_POSTS: u64 = 1_024;
 
 /// Why a line may not stand where it does.
 #[derive(Clone, Copy, PartialEq, Eq, Debug)]
@@ -26,7 +24,7 @@ pub enum Why {
     Lost,
     /// It has other arguments than a session takes.
     Arguments,
-    /// It has arguments, or stands below them, and they do not stand right above the first input line.
+    /// It has arguments, and does not stand right above the first input line.
     Place,
 }
 
@@ -39,11 +37,11 @@ pub struct Misplaced {
     pub why: Why,
 }
 
-/// What the lines in front of one say of it.
+/// What the lines above one say of it.
 #[derive(Clone, Copy)]
-pub(crate) struct Before {
-    /// What the last one is; nothing where there is none.
-    kind: LineKind,
+pub(crate) struct Above {
+    /// Whether an answer may stand below the last of them.
+    takes_answer: bool,
     /// Whether one of them is sent.
     is_sent: bool,
     /// Whether one of them ends the input.
@@ -67,145 +65,112 @@ impl Why {
     }
 }
 
-/// The number of posts, if a queue may hold so many.
-fn within(posts: u64) -> Option<u64>
-    ensures { result ≡ if_within posts }
-{
-    if 0 < posts && posts <= MOST_POSTS {
-        Some(posts)
-    } else {
-        None
-    }
-}
-
-/// How many posts the queue of a watcher holds, if the arguments of a line say it.
-pub fn queue_of(line: &[u8]) -> Option<u64>
-    ensures { result ≡ queue_of line.now }
-{
-    within(number(line.strip_prefix(b"$ --queue ")?)?)
-}
-
-/// Whether an answer may stand behind a line.
-fn is_behind_answer(kind: LineKind) -> bool
-    ensures { result ≡ is_behind_answer kind }
+/// Whether an answer may stand right below a line.
+fn takes_answer(kind: LineKind) -> bool
+    ensures { result ≡ takes_answer kind }
 {
     matches!(kind, LineKind::Sent | LineKind::Answer)
 }
 
-/// What stands in front of the first line: nothing.
-fn before_all() -> Before
-    ensures { result ≡ before_all }
+/// A reason, if it is so.
+fn if_so(why: Why, is_so: bool) -> Option<Why>
+    ensures { result ≡ first_so ((why, is_so) ∷ []) }
 {
-    Before {
-        kind: LineKind::Nothing,
+    if is_so { Some(why) } else { None }
+}
+
+/// Why what stands behind the last line end may not.
+fn unended(text: &[u8]) -> Option<Why>
+    ensures { result ≡ unended text.now }
+{
+    match text {
+        [] => None,
+        [_first, ..] => Some(Why::Unended),
+    }
+}
+
+/// What no lines say of the first one.
+fn nothing_above() -> Above
+    ensures { result ≡ said_above [] }
+{
+    Above {
+        takes_answer: false,
         is_sent: false,
         ends: false,
     }
 }
 
-impl Before {
+impl Above {
     /// What the lines up to this one say of the next.
-    fn with_line(self, line: TranscriptLine<'_>) -> Before
-        ensures { result ≡ with_line self (line_viewed line.entry) }
+    fn with_line(self, line: TranscriptLine<'_>) -> Above
+        ensures { result ≡ record { takes_answer = takes_answer line.entry.kind; is_sent = self.is_sent || is_sent line.entry.kind; ends = self.ends || ends_input line.entry.text.now } }
     {
-        let is_sent = line.kind == LineKind::Sent;
-        Before {
-            kind: line.kind,
-            is_sent: self.is_sent || is_sent,
-            ends: self.ends || is_sent && ends_input(line.text),
+        Above {
+            takes_answer: takes_answer(line.kind),
+            is_sent: self.is_sent || line.kind == LineKind::Sent,
+            ends: self.ends || ends_input(line.text),
         }
     }
 
-    /// Why what stands behind the last line end may not.
-    fn last_why(self, text: &[u8]) -> Option<Why>
-        ensures { result ≡ last_why self text.now }
+    /// Why arguments may not stand here, right above a line of this kind.
+    fn arguments_why(self, text: &[u8], below: LineKind) -> Option<Why>
+        ensures { result ≡ first_so (arguments_wrongs text.now self below) }
     {
-        if !text.is_empty() {
-            Some(Why::Unended)
-        } else if self.kind == LineKind::Arguments {
-            Some(Why::Place)
-        } else {
-            None
+        if queue_of(text).is_none() {
+            return Some(Why::Arguments);
         }
+        if_so(Why::Place, self.is_sent || below != LineKind::Sent)
     }
 
     /// Why an input line may not stand here.
     fn sent_why(self, alloc: Global, text: &[u8]) -> Result<Option<Why>, AllocError>
-        ensures { IfOk result (λ why. why ≡ sent_why self text.now) }
+        ensures { IfOk result (λ why. why ≡ first_so (sent_wrongs text.now self)) }
     {
         if self.ends {
             return Ok(Some(Why::Behind));
         }
-        match bytes_sent(alloc, text)? {
-            Some(_sent) => Ok(None),
-            None => Ok(Some(Why::Unread)),
-        }
-    }
-
-    /// Why a comment may not stand here.
-    fn comment_why(self) -> Option<Why>
-        ensures { result ≡ comment_why self }
-    {
-        if self.kind == LineKind::Arguments {
-            Some(Why::Place)
-        } else {
-            None
-        }
-    }
-
-    /// Why arguments may not stand here.
-    fn arguments_why(self, text: &[u8]) -> Option<Why>
-        ensures { result ≡ arguments_why self text.now }
-    {
-        if self.is_sent || self.kind == LineKind::Arguments {
-            Some(Why::Place)
-        } else if queue_of(text).is_none() {
-            Some(Why::Arguments)
-        } else {
-            None
-        }
+        let sent = bytes_sent(alloc, text)?;
+        Ok(if_so(Why::Unread, sent.is_none()))
     }
 
     /// Why a line of an answer may not stand here.
     fn answer_why(self) -> Option<Why>
-        ensures { result ≡ answer_why self }
+        ensures { result ≡ first_so (answer_wrongs self) }
     {
-        if is_behind_answer(self.kind) {
-            None
-        } else {
-            Some(Why::Lost)
-        }
+        if_so(Why::Lost, !self.takes_answer)
     }
 
-    /// Why a line may not stand here, which is the last one or not.
-    fn why_not(
+    /// Why a line may not stand here, right above one of this kind.
+    fn line_why(
         self,
         alloc: Global,
         line: TranscriptLine<'_>,
-        is_last: bool,
+        below: LineKind,
     ) -> Result<Option<Why>, AllocError>
-        ensures { IfOk result (λ why. why ≡ why_not self (line_viewed line.entry) is_last) }
+        ensures { IfOk result (λ why. why ≡ first_so (wrongs line.entry.kind line.entry.text.now self below)) }
     {
-        if is_last {
-            return Ok(self.last_why(line.text));
-        }
         match line.kind {
             LineKind::Nothing => Ok(Some(Why::Empty)),
-            LineKind::Comment => Ok(self.comment_why()),
-            LineKind::Arguments => Ok(self.arguments_why(line.text)),
+            LineKind::Comment => Ok(None),
+            LineKind::Arguments => Ok(self.arguments_why(line.text, below)),
             LineKind::Sent => self.sent_why(alloc, line.text),
             LineKind::Answer => Ok(self.answer_why()),
         }
     }
-}
 
-/// Whether there is no line.
-fn has_no_line(lines: &[TranscriptLine<'_>]) -> bool
-    ensures { result ≡ has_no_line (map line_viewed lines.now) }
-{
-    match lines {
-        [] => true,
-        [_first, ..] => false,
+    /// Why a line may not stand here, right above these.
+    fn why_not(
+        self,
+        alloc: Global,
+        line: TranscriptLine<'_>,
+        below: &[TranscriptLine<'_>],
+    ) -> Result<Option<Why>, AllocError>
+        ensures { IfOk result (λ why. why ≡ why_not self (line_viewed line.entry ∷ map line_viewed below.now)) }
+    {
+        match below {
+            [] => Ok(unended(line.text)),
+            [next, ..] => self.line_why(alloc, line, next.kind),
+        }
     }
 }
 
@@ -217,16 +182,16 @@ pub fn misplaced_in(
 ) -> Result<Option<Misplaced>, AllocError>
     ensures { IfOk result (λ misplaced. misplaced ≡ misplaced_in (map line_viewed lines.now)) }
 {
-    let mut before = before_all();
+    let mut above = nothing_above();
     'lines: for (place, line) in lines.iter().enumerate() {
-        let is_last = has_no_line(&lines[place + 1..]);
-        if let Some(why) = before.why_not(alloc, *line, is_last)? {
+        let misfit = above.why_not(alloc, *line, &lines[place + 1..])?;
+        if let Some(why) = misfit {
             return Ok(Some(Misplaced {
                 number: place as u64 + 1,
                 why,
             }));
         }
-        before = before.with_line(*line);
+        above = above.with_line(*line);
     }
     Ok(None)
 }
