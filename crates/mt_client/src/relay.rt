@@ -166,6 +166,7 @@ pub(crate) fn pass_answer<R: Input + Drop, O: Output>(
         | Form::Table
         | Form::Opening
         | Form::Posts
+        | Form::Commands
         | Form::Never => pass_headed(alloc, lines, form, out),
     }
 }

@@ -21,6 +21,7 @@ pub fn answer_said(form: Form) -> &'static str
         Form::Opening =>
             "ok and a count of lines, and as many: of each namespace a heading and its rows",
         Form::Posts => "ok and a count of posts, and their lines",
+        Form::Commands => "ok and a count of commands, and the line of each",
         Form::Followed =>
             "the lines of posts as they come, and then ok and how many posts they are",
         Form::Never => "",
@@ -33,7 +34,13 @@ pub fn note_of(verb: Verb) -> &'static str
 {
     match verb {
         Verb::Quit | Verb::Stop => "A line of a wrong form is refused as BadLine or TooLong.",
-        Verb::Show | Verb::Find | Verb::Watch | Verb::Take | Verb::Follow | Verb::Close => {
+        Verb::Show
+        | Verb::Find
+        | Verb::Journal
+        | Verb::Watch
+        | Verb::Take
+        | Verb::Follow
+        | Verb::Close => {
             "A line of a wrong form is refused as BadLine, TooLong or BadPath, and any may be as NoMemory."
         }
         Verb::Mkfs

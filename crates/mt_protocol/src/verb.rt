@@ -9,7 +9,7 @@ use crate::argument::Argument::{
     Attributes, Count, Label, Less, Path, Recursive, Scope, Setting, Space,
 };
 use crate::form::Form;
-use crate::form::Form::{Done, Followed, Number, Opening, Place, Posts, Table};
+use crate::form::Form::{Commands, Done, Followed, Number, Opening, Place, Posts, Table};
 use std::marker::Model;
 
 /// What the first word of a line asks for.
@@ -51,6 +51,8 @@ pub enum Verb {
     Show,
     /// `find` says where a path ends.
     Find,
+    /// `journal` lists accepted commands.
+    Journal,
     /// `watch` begins a watcher.
     Watch,
     /// `take` takes posts that wait.
@@ -66,7 +68,7 @@ pub enum Verb {
 }
 
 /// Every verb, in the order of the help.
-pub const VERBS: [Verb; 24] = [
+pub const VERBS: [Verb; 25] = [
     Verb::Mkfs,
     Verb::Mkdir,
     Verb::Newns,
@@ -85,6 +87,7 @@ pub const VERBS: [Verb; 24] = [
     Verb::Movetree,
     Verb::Show,
     Verb::Find,
+    Verb::Journal,
     Verb::Watch,
     Verb::Take,
     Verb::Follow,
@@ -253,6 +256,10 @@ impl Verb {
             Verb::Find => other(b"find", &[Space, Path], Place).says(
                 "find NS PATH",
                 "says on which mount and directory a path ends",
+            ),
+            Verb::Journal => other(b"journal", &[Count(u64::MAX), Count(1_024)], Commands).says(
+                "journal FROM K",
+                "lists at most K commands that were accepted, from that number on, as lines that can be sent again",
             ),
             Verb::Watch => other(b"watch", &[Scope], Opening).says(
                 "watch NS, watch all",
