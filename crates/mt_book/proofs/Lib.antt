@@ -26,3 +26,5 @@ pub mod RowLaws
 pub mod ValidLaws
 pub mod MirrorLaws
 pub mod InsideLaws
+pub mod LockLaws
+pub mod ErasedLaws

@@ -8,7 +8,8 @@ use Rattle.mt_book.specs.declared.command.Command.{Command}
 use Rattle.mt_book.specs.declared.command.Command.TheVariants.{CopySpace, DropSpace, Mount, MountWith, Bind, Move, Pivot, Unmount, Detach, SetAttr, OpenTree, MoveTree}
 use Rattle.mt_book.specs.declared.command.Reply.{Reply}
 use Rattle.mt_book.specs.declared.command.Reply.TheVariants.{Number}
-use Rattle.mt_book.specs.Step.{step, next_world, after}
+use Rattle.mt_book.specs.declared.command.Privilege.{Privilege}
+use Rattle.mt_book.specs.Step.{is_less, step, next_world, after}
 use Rattle.mt_book.specs.History.{space_number}
 use Rattle.mt_book.specs.Book.{answer}
 
@@ -29,7 +30,7 @@ is_issued_in n c = false
 -- the command brings mounts over the border of the namespace n: it copies n, into one less privileged or not, opens a tree in n,
 -- or attaches a tree in n, or n as a tree
 abbrev pub crosses : ℕ → Command → Bool
-crosses n (CopySpace k less) = k == n
+crosses n (CopySpace k privilege) = k == n
 crosses n (OpenTree k path recursive) = k == n
 crosses n (MoveTree tree k path) = (tree == n) || (k == n)
 crosses n c = false
@@ -43,9 +44,11 @@ IsNotCrossed n w (c ∷ later) = ((v : WorldView) (r : Reply) → step w c ≡ O
 pub record IsLessCopy (n : ℕ) (cs : List Command) : Type 0 where
   pub before : List Command
   pub copied : ℕ
+  pub privilege : Privilege
   pub later : List Command
-  pub commands : cs ≡ before ++ CopySpace copied true ∷ later
-  pub made : answer before (CopySpace copied true) ≡ Ok (Number n)
+  pub less : is_less privilege ≡ true
+  pub commands : cs ≡ before ++ CopySpace copied privilege ∷ later
+  pub made : answer before (CopySpace copied privilege) ≡ Ok (Number n)
   pub not_crossed : AllByRecursion (λ c. crosses n c ≡ false) later
 
 -- a command came after others, and these are there now: if it was issued in a less privileged copy, it has left the table and the number of every other

@@ -12,7 +12,7 @@ ghost use Rattle.mt_book.specs.Step.{after};
 ghost use Rattle.mt_book.specs.Commands.{IsCommand};
 ghost use Rattle.mt_book.specs.History.{space_number, posts_of};
 ghost use Rattle.mt_book.specs.Inside.{StaysInCopy, AllStayInCopies};
-ghost use Rattle.mt_book.specs.Book.{answer, accepts, command_limit, found_at, space_in, number_in, spaces_of, AreAnswered};
+ghost use Rattle.mt_book.specs.Book.{answer, accepts, command_limit, found_at, locks_in, space_in, number_in, spaces_of, AreAnswered};
 ghost use Rattle.mt_book.specs.Kept.{IsPrepared, prepared_command, prepared_reply, prepared_posts, is_heard};
 
 use crate::between::Between;
@@ -24,9 +24,10 @@ use crate::spare::{Spare, Tried, keep_level, level, show, try_on};
 use mt_events::shared::SharedPosts;
 use mt_info::lines::push_table;
 use mt_info::table::{Table, table_of};
+use mt_locks::mount_locks::MountLocks;
 use mt_mounts::mount::{MountId, SpaceId};
 use mt_propagate::touched::touched;
-use mt_propagate::world::World;
+use mt_propagate::world::{World, space_of};
 use mt_skel::fault::Fault;
 use mt_skel::name::Name;
 use std::alloc::Global;
@@ -258,6 +259,19 @@ impl Book {
         Ok(spaces)
     }
 
+    /// What is locked of the mounts of a namespace, of each of which something is. Refused as `NoNamespace` exactly where there
+    /// is no such namespace, and otherwise only as `NoMemory`.
+    pub fn locks(&self, space: SpaceId) -> Result<Vec<MountLocks>, Fault>
+        ensures done { IfOk result (λ locks. (is_space (after self.now.journal) space ≡ true) × (locks.items ≡ locks_in (after self.now.journal) space)) }
+        ensures refused { IfErr result (λ fault. fault ≢ Fault.NoMemory → (fault ≡ Fault.NoNamespace) × (is_space (after self.now.journal) space ≡ false)) }
+    {
+        let world = self.world();
+        if world.forest.root(space).is_none() {
+            return Err(Fault::NoNamespace);
+        }
+        locks_in(world, space)
+    }
+
     /// Where the walk along a path ends in a namespace: the mount, and the names from its
     /// filesystem's root down to the directory. Refused as `NoNamespace`, as `NoEntry` if a
     /// component is not there, and as `NoMemory`.
@@ -314,6 +328,21 @@ fn spaces_in(alloc: Global, numbers: &[(SpaceId, u64)]) -> Result<Vec<SpaceId>, 
         spaces.push(row.0)?;
     }
     Ok(spaces)
+}
+
+/// What is locked of the mounts of a namespace in a world, as `Book::locks` says.
+fn locks_in(world: &World, space: SpaceId) -> Result<Vec<MountLocks>, Fault>
+    ensures locks { IfOk result (λ locks. locks.items ≡ locks_in (world_view world.now) space) }
+    ensures memory { IsOkUnless result Fault.NoMemory }
+{
+    let rows = world.locks.mounts();
+    let mut locks = Vec::new(world.forest.allocator());
+    'locking: for row in rows {
+        if space_of(world, row.mount) == space {
+            locks.push(*row)?;
+        }
+    }
+    Ok(locks)
 }
 
 /// Where the walk along a path ends in a world, as `Book::find` says.

@@ -18,6 +18,7 @@ pub fn answer_said(form: Form) -> &'static str
         Form::Number => "ok, and the number of what is made",
         Form::Place => "ok, the number of the mount, and the directory of its filesystem",
         Form::Table => "ok, the count of the rows and the number of the last change, and the rows",
+        Form::Locks => "ok and a count of mounts, and of each its ID and what is locked of it",
         Form::Opening =>
             "ok and a count of lines, and as many: of each namespace a heading and its rows",
         Form::Posts => "ok and a count of posts, and their lines",
@@ -33,7 +34,13 @@ pub fn note_of(verb: Verb) -> &'static str
 {
     match verb {
         Verb::Quit | Verb::Stop => "A line of a wrong form is refused as BadLine or TooLong.",
-        Verb::Show | Verb::Find | Verb::Watch | Verb::Take | Verb::Follow | Verb::Close => {
+        Verb::Show
+        | Verb::Locks
+        | Verb::Find
+        | Verb::Watch
+        | Verb::Take
+        | Verb::Follow
+        | Verb::Close => {
             "A line of a wrong form is refused as BadLine, TooLong or BadPath, and any may be as NoMemory."
         }
         Verb::Mkfs

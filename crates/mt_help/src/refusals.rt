@@ -23,7 +23,7 @@ pub fn refusals_of(verb: Verb) -> &'static [Fault]
         ],
         Verb::Newns => &[Fault::NoFilesystem, Fault::TooMany],
         Verb::Copyns => &[Fault::NoNamespace, Fault::Detached, Fault::TooMany],
-        Verb::Dropns | Verb::Show => &[Fault::NoNamespace],
+        Verb::Dropns | Verb::Show | Verb::Locks => &[Fault::NoNamespace],
         Verb::Mount => &[
             Fault::NoFilesystem,
             Fault::NoNamespace,
@@ -37,6 +37,7 @@ pub fn refusals_of(verb: Verb) -> &'static [Fault]
             Fault::NoEntry,
             Fault::RootPlace,
             Fault::Unbindable,
+            Fault::LockedInside,
             Fault::TooMany,
         ],
         Verb::Move => &[
@@ -45,6 +46,7 @@ pub fn refusals_of(verb: Verb) -> &'static [Fault]
             Fault::NoEntry,
             Fault::NotMountRoot,
             Fault::RootPlace,
+            Fault::Locked,
             Fault::SharedParent,
             Fault::IntoItself,
             Fault::UnbindableInside,
@@ -56,6 +58,7 @@ pub fn refusals_of(verb: Verb) -> &'static [Fault]
             Fault::NoEntry,
             Fault::NotMountRoot,
             Fault::RootPlace,
+            Fault::Locked,
             Fault::SharedParent,
             Fault::IntoItself,
         ],
@@ -65,6 +68,7 @@ pub fn refusals_of(verb: Verb) -> &'static [Fault]
             Fault::NoEntry,
             Fault::NotMountRoot,
             Fault::RootPlace,
+            Fault::Locked,
             Fault::Busy,
         ],
         Verb::Detach => &[
@@ -73,6 +77,7 @@ pub fn refusals_of(verb: Verb) -> &'static [Fault]
             Fault::NoEntry,
             Fault::NotMountRoot,
             Fault::RootPlace,
+            Fault::Locked,
         ],
         Verb::Setattr => &[
             Fault::NoNamespace,
@@ -80,11 +85,13 @@ pub fn refusals_of(verb: Verb) -> &'static [Fault]
             Fault::NotMountRoot,
             Fault::BadAttr,
             Fault::Detached,
+            Fault::LockedAttr,
         ],
         Verb::Opentree => &[
             Fault::NoNamespace,
             Fault::NoEntry,
             Fault::Unbindable,
+            Fault::LockedInside,
             Fault::TooMany,
         ],
         Verb::Newtree => &[Fault::NoFilesystem, Fault::TooMany],

@@ -6,11 +6,11 @@ use Rattle.std.specs.Option.{option_map_or}
 use Rattle.std.specs.Str.{bytes_eq}
 use Rattle.mt_lines.specs.Words.{words}
 use Rattle.mt_protocol.specs.declared.argument.Argument.{Argument}
-use Rattle.mt_protocol.specs.declared.argument.Argument.TheVariants.{Space, Scope, Count, Label, Path, Less, Recursive, Attributes, Setting}
+use Rattle.mt_protocol.specs.declared.argument.Argument.TheVariants.{Space, Scope, Count, Label, Path, Less, Lock, Recursive, Attributes, Setting}
 use Rattle.mt_protocol.specs.declared.form.Form.{Form}
-use Rattle.mt_protocol.specs.declared.form.Form.TheVariants.{Done, Number, Place, Table, Opening, Posts, Followed, Never}
+use Rattle.mt_protocol.specs.declared.form.Form.TheVariants.{Done, Number, Place, Table, Locks as LocksForm, Opening, Posts, Followed, Never}
 use Rattle.mt_protocol.specs.declared.verb.Verb.{Verb}
-use Rattle.mt_protocol.specs.declared.verb.Verb.TheVariants.{Mkfs, Mkdir, Newns, Copyns, Dropns, Mount, Bind, Rbind, Move, Pivot, Umount, Detach, Setattr, Opentree, Newtree, Movetree, Show, Find, Watch, Take, Follow, Close, Quit, Stop}
+use Rattle.mt_protocol.specs.declared.verb.Verb.TheVariants.{Mkfs, Mkdir, Newns, Copyns, Dropns, Mount, Bind, Rbind, Move, Pivot, Umount, Detach, Setattr, Opentree, Newtree, Movetree, Show, Locks, Find, Watch, Take, Follow, Close, Quit, Stop}
 use Rattle.mt_protocol.specs.Rows.{VerbRow}
 
 -- the most posts of one `take`, and of one `follow`
@@ -32,7 +32,7 @@ abbrev pub verb_row : Verb → VerbRow
 verb_row Mkfs = command (codes "mkfs") (Label ∷ Label ∷ Label ∷ []) Number
 verb_row Mkdir = command (codes "mkdir") (Label ∷ Path ∷ []) Done
 verb_row Newns = command (codes "newns") (Label ∷ []) Number
-verb_row Copyns = command (codes "copyns") (Space ∷ Less ∷ []) Number
+verb_row Copyns = command (codes "copyns") (Space ∷ Less ∷ Lock ∷ []) Number
 verb_row Dropns = command (codes "dropns") (Space ∷ []) Done
 verb_row Mount = command (codes "mount") (Space ∷ Label ∷ Path ∷ Attributes ∷ []) Number
 verb_row Bind = command (codes "bind") (Space ∷ Path ∷ Path ∷ []) Number
@@ -46,6 +46,7 @@ verb_row Opentree = command (codes "opentree") (Space ∷ Path ∷ Recursive ∷
 verb_row Newtree = command (codes "newtree") (Label ∷ []) Number
 verb_row Movetree = command (codes "movetree") (Space ∷ Space ∷ Path ∷ []) Done
 verb_row Show = other (codes "show") (Space ∷ []) Table
+verb_row Locks = other (codes "locks") (Space ∷ []) LocksForm
 verb_row Find = other (codes "find") (Space ∷ Path ∷ []) Place
 verb_row Watch = other (codes "watch") (Scope ∷ []) Opening
 verb_row Take = other (codes "take") (Count most_taken ∷ []) Posts
@@ -73,6 +74,7 @@ is_command verb = (verb_row verb).command
 -- an argument that may be left out
 abbrev pub is_optional : Argument → Bool
 is_optional Less = true
+is_optional Lock = true
 is_optional Recursive = true
 is_optional Attributes = true
 is_optional Setting = true
@@ -80,7 +82,7 @@ is_optional argument = false
 
 -- every verb
 abbrev pub verbs : List Verb
-verbs = Mkfs ∷ Mkdir ∷ Newns ∷ Copyns ∷ Dropns ∷ Mount ∷ Bind ∷ Rbind ∷ Move ∷ Pivot ∷ Umount ∷ Detach ∷ Setattr ∷ Opentree ∷ Newtree ∷ Movetree ∷ Show ∷ Find ∷ Watch ∷ Take ∷ Follow ∷ Close ∷ Quit ∷ Stop ∷ []
+verbs = Mkfs ∷ Mkdir ∷ Newns ∷ Copyns ∷ Dropns ∷ Mount ∷ Bind ∷ Rbind ∷ Move ∷ Pivot ∷ Umount ∷ Detach ∷ Setattr ∷ Opentree ∷ Newtree ∷ Movetree ∷ Show ∷ Locks ∷ Find ∷ Watch ∷ Take ∷ Follow ∷ Close ∷ Quit ∷ Stop ∷ []
 
 -- the verb of a word, if it is that of one
 unfoldable pub verb_of : List ℕ → Option Verb

@@ -6,10 +6,10 @@ ghost use Rattle.mt_protocol.specs.Verbs.{verb_row, verb_word, verb_arguments, v
 
 use crate::argument::Argument;
 use crate::argument::Argument::{
-    Attributes, Count, Label, Less, Path, Recursive, Scope, Setting, Space,
+    Attributes, Count, Label, Less, Lock, Path, Recursive, Scope, Setting, Space,
 };
 use crate::form::Form;
-use crate::form::Form::{Done, Followed, Number, Opening, Place, Posts, Table};
+use crate::form::Form::{Done, Followed, Locks, Number, Opening, Place, Posts, Table};
 use std::marker::Model;
 
 /// What the first word of a line asks for.
@@ -49,6 +49,8 @@ pub enum Verb {
     Movetree,
     /// `show` lists the mounts of a namespace.
     Show,
+    /// `locks` lists what is locked in a namespace.
+    Locks,
     /// `find` says where a path ends.
     Find,
     /// `watch` begins a watcher.
@@ -66,7 +68,7 @@ pub enum Verb {
 }
 
 /// Every verb, in the order of the help.
-pub const VERBS: [Verb; 24] = [
+pub const VERBS: [Verb; 25] = [
     Verb::Mkfs,
     Verb::Mkdir,
     Verb::Newns,
@@ -84,6 +86,7 @@ pub const VERBS: [Verb; 24] = [
     Verb::Newtree,
     Verb::Movetree,
     Verb::Show,
+    Verb::Locks,
     Verb::Find,
     Verb::Watch,
     Verb::Take,
@@ -189,9 +192,9 @@ impl Verb {
                 "newns FS",
                 "makes a namespace with a filesystem as its root mount",
             ),
-            Verb::Copyns => command(b"copyns", &[Space, Less], Number).says(
-                "copyns NS [less]",
-                "makes a copy of a namespace, or a less privileged one",
+            Verb::Copyns => command(b"copyns", &[Space, Less, Lock], Number).says(
+                "copyns NS [less [lock]]",
+                "makes a copy of a namespace, or a less privileged one, or one with locks",
             ),
             Verb::Dropns => command(b"dropns", &[Space], Done).says(
                 "dropns NS",
@@ -249,6 +252,10 @@ impl Verb {
             Verb::Show => other(b"show", &[Space], Table).says(
                 "show NS",
                 "lists the mounts of a namespace",
+            ),
+            Verb::Locks => other(b"locks", &[Space], Locks).says(
+                "locks NS",
+                "lists what is locked of the mounts of a namespace",
             ),
             Verb::Find => other(b"find", &[Space, Path], Place).says(
                 "find NS PATH",

@@ -8,7 +8,7 @@ use Rattle.mt_refused.specs.declared.asked.Which.TheVariants.{First, Second}
 
 -- its namespace, in which its paths are looked up, if it has one
 abbrev pub asked_space : Command → Option ℕ
-asked_space (command.CopySpace n less) = Some n
+asked_space (command.CopySpace n privilege) = Some n
 asked_space (command.DropSpace n) = Some n
 asked_space (command.Mount n fs path) = Some n
 asked_space (command.MountWith n fs path set) = Some n
