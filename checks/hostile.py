@@ -88,6 +88,7 @@ WORD_FAULTS = {
     "W": lambda word: None if word == b"all" else number_fault(word),
     "T": lambda word: number_fault(word, 1, 1_024),
     "F": lambda word: number_fault(word, 1, 1_048_576),
+    "J": lambda word: number_fault(word, 1),
 }
 
 
@@ -118,6 +119,7 @@ WORDS = {
     "W": [b"all", b"1", b"2", b"9"],
     "T": [b"1", b"8", b"1024"],
     "F": [b"1", b"8", b"1048576"],
+    "J": [b"1", b"2", b"1048577", b"18446744073709551615"],
     "?": [b"less"],
     "!": [b"lock"],
     "R": [b"rec"],

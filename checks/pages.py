@@ -203,6 +203,7 @@ PUT_TOGETHER = {
         "line N is no row of a mountinfo",
         "FILE: line N is no row of a mountinfo",
         "FILE: REASON",
+        "FILE: line N: REASON",
         "SOCKET: not a new server",
         "SOCKET: changes were lost",
         "SOCKET: others made changes",
@@ -312,7 +313,7 @@ def offered(*words):
 def check_offers(helps):
     """The completion offers the options and words of mountctl --help, and after each word what may stand there."""
     check_same("the options that the completion offers", options(helps["mountctl"]), offered("-"))
-    check_same("the words that the completion offers alone", words_in_place(helps["mountctl"], "SOCKET WORD.."), [*offered("wha"), *offered("imp"), *offered("exp"), *offered("rea"), *offered("ori"), *offered("hol"), *offered("help")])
+    check_same("the words that the completion offers alone", words_in_place(helps["mountctl"], "SOCKET WORD.."), [*offered("wha"), *offered("imp"), *offered("exp"), *offered("rea"), *offered("ori"), *offered("hol"), *offered("ses"), *offered("pla"), *offered("help")])
     pages = {*usages(helps["mountctl"]), *words_in_place(helps["mountctl"]), *words_in_place(helps["mountctl"], "SOCKET WORD..")}
     check_same("the words that the completion offers behind help", pages, offered("help", ""))
     check_same("what the completion offers behind help and a word", ["none"], [*offered("help", "show", ""), "none"])

@@ -33,14 +33,18 @@ from clients.mountctl import (
     check_statuses,
 )
 from clients.objects import check_objects
+from clients.own_sessions import check_own_sessions
+from clients.paged import check_paged
 from clients.pictures import check_pictures, update_pictures
 from clients.played import check_played
 from clients.python import check_python
 from clients.questions import check_questions
 from clients.reasons import check_reasons
 from clients.refusals import check_refusals
+from clients.saves import check_saves
 from clients.starts import check_starts
 from clients.terminals import check_terminals
+from clients.transcripts import check_transcripts
 from clients.worlds import check_worlds
 from clients.writes import check_writes
 from harness.protocol import Broken
@@ -108,7 +112,11 @@ CLIENT_PARTS = {
     "hosts": check_hosts,
     "questions": check_questions,
     "played": check_played,
+    "transcripts": check_transcripts,
+    "own sessions": check_own_sessions,
+    "saves": check_saves,
     "foretold": check_foretold,
+    "paged": check_paged,
 }
 
 

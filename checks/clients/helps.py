@@ -121,6 +121,8 @@ def check_commands(program, mountctl, examples):
             shutil.copy(os.path.join(TOP, "docs", "tables", name), folder)
         with open(os.path.join(folder, "session"), "w", encoding="ascii") as file:
             file.write("# a directory\nmkfs more tmpfs none\nmkdir more /more\n")
+        with open(os.path.join(folder, "transcript"), "w", encoding="ascii") as file:
+            file.write("> mkfs more tmpfs none\nok 1\n")
         path = os.pathsep.join([links, os.environ["PATH"]])
         settings = {"cwd": folder, "env": dict(os.environ, PATH=path)}
         with server.free() as client:

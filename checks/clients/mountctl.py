@@ -263,7 +263,7 @@ def check_lines(program, mountctl):
     kept, lines = words_of(mountctl, b"In the place of WORD..:"), words_of(program, b"Lines of a session:")
     check("the words of both", kept & lines == {b"show", b"find"}, repr(kept & lines))
     kept -= lines
-    check("the words of the client", kept == {b"-", b"monitor", b"mirror", b"tree", b"dot", b"spaces", b"what-if", b"reach", b"origin", b"holders", b"page"}, repr(kept))
+    check("the words of the client", kept == {b"-", b"monitor", b"mirror", b"tree", b"dot", b"spaces", b"what-if", b"reach", b"origin", b"holders", b"page", b"save"}, repr(kept))
     check("the words of the server", lines == set(commands.LINES), repr(sorted(lines)))
     with Server(program) as server, server.free() as client:
         for line in START:

@@ -28,8 +28,8 @@ TABLE = read_table()
 # All words that begin a line.
 LINES = tuple(TABLE)
 
-# What stands behind each: labels, paths, numbers, what is watched, counts, `less`, `lock`, `rec`, `set=`, and the rest of the line.
-LETTERS = {"Label": "L", "Path": "P", "Space": "N", "Scope": "W", "Count(1_024)": "T", "Count(1_048_576)": "F", "Less": "?", "Lock": "!", "Recursive": "R", "Attributes": "=", "Setting": "*"}
+# What stands behind each: labels, paths, numbers, what is watched, counts, the number of a command, `less`, `lock`, `rec`, `set=`, and the rest of the line.
+LETTERS = {"Label": "L", "Path": "P", "Space": "N", "Scope": "W", "Count(1_024)": "T", "Count(1_048_576)": "F", "Count(u64::MAX)": "J", "Less": "?", "Lock": "!", "Recursive": "R", "Attributes": "=", "Setting": "*"}
 FORMS = {word: re.sub(r"\*+", "*", "".join(LETTERS[name] for name in row.arguments)) for word, row in TABLE.items()}
 
 # Those that make a world: the commands. Those that end a session or all.

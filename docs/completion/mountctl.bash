@@ -42,13 +42,14 @@ _mountctl_words()
 {
     local count=$#
     case $1:$count in
-        :0) echo mkfs mkdir newns copyns dropns mount bind rbind move pivot umount detach setattr opentree newtree movetree show locks find watch take follow close quit stop - monitor mirror tree dot spaces what-if reach origin holders page ;;
+        :0) echo mkfs mkdir newns copyns dropns mount bind rbind move pivot umount detach setattr opentree newtree movetree show locks find journal watch take follow close quit stop - monitor mirror tree dot spaces what-if reach origin holders save page ;;
         copyns:2) echo less ;;
         copyns:3) echo lock ;;
         opentree:3) echo rec ;;
         mount:4) echo set={ro,nosuid,nodev,noexec,nosymfollow,nodiratime,relatime,noatime,strictatime} ;;
         watch:1) echo all ;;
         show:2 | find:3 | reach:3 | origin:3 | holders:[23]) echo --json ;;
+        page:[12]) echo --journal ;;
         tree:[1-9] | dot:[1-9] | spaces:[1-9] | monitor:[1-9]) _mountctl_options "$@" ;;
         setattr:[3-9])
             # Each option may be there once.
@@ -116,17 +117,28 @@ _mountctl()
     if ((${#words[@]} == 0)); then
         mapfile -t COMPREPLY < <(
             _mountctl_sockets "$current"
-            compgen -W "-e -h --help -q -V --version --wait what-if import explain help reach origin holders page ${MOUNTD_SOCKET:+$(_mountctl_words)}" -- "$current"
+            compgen -W "-e -h --help -q -V --version --wait what-if import explain help reach origin holders page session play ${MOUNTD_SOCKET:+$(_mountctl_words)}" -- "$current"
         )
         compopt -o filenames 2> /dev/null
         return
     fi
     if [[ ${words[0]} == help ]]; then
-        mapfile -t COMPREPLY < <(((${#words[@]} == 1)) && compgen -W "$(_mountctl_words) import explain help" -- "$current")
+        mapfile -t COMPREPLY < <(((${#words[@]} == 1)) && compgen -W "$(_mountctl_words) import explain help session play" -- "$current")
         return
     fi
     if [[ ${words[0]} == explain ]]; then
         mapfile -t COMPREPLY < <(((${#words[@]} == 1)) && compgen -W "$_mountctl_refusals $_mountctl_errnos" -- "$current")
+        return
+    fi
+    if [[ ${words[0]} == session ]]; then
+        return
+    fi
+    if [[ ${words[0]} == play ]]; then
+        # A file stands here, which readline completes itself, or a dash.
+        if ((${#words[@]} == 1)); then
+            [[ $current == -* ]] && COMPREPLY=(-)
+            compopt -o default 2> /dev/null
+        fi
         return
     fi
     # Tables are asked where files come first, and a namespace of a server else.
@@ -137,7 +149,7 @@ _mountctl()
     fi
     if [[ ${words[0]} == what-if && " ${words[*]} " != *" -- "* ]]; then
         # Tables stand here: files, which readline completes itself.
-        [[ $current == -* ]] && mapfile -t COMPREPLY < <(compgen -W "-- --all --each --fail-if-elsewhere --json --pid" -- "$current")
+        [[ $current == -* ]] && mapfile -t COMPREPLY < <(compgen -W "-- --all --each --fail-if-elsewhere --json --page --pid" -- "$current")
         compopt -o default 2> /dev/null
         return
     fi

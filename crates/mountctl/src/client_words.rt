@@ -3,7 +3,7 @@
 use mt_help::page::Usage;
 
 /// What may stand in the place of a line.
-pub(crate) const IN_PLACE_OF_LINES: [Usage; 13] = [
+pub(crate) const IN_PLACE_OF_LINES: [Usage; 14] = [
     Usage {
         words: "-",
         says: "sends the lines of standard input, one after another, but for comments",
@@ -53,16 +53,20 @@ pub(crate) const IN_PLACE_OF_LINES: [Usage; 13] = [
         says: "names the mounts that still show a filesystem, or the directory there",
     },
     Usage {
-        words: "page [TITLE]",
-        says: "plays the lines of standard input, and prints what they do as a page for a browser;\nwithout SOCKET, also where MOUNTD_SOCKET is set, in a new server of its own",
+        words: "save",
+        says: "prints the session that makes what is there: the commands that were accepted, as lines for a new server",
+    },
+    Usage {
+        words: "page [--journal] [TITLE]",
+        says: "plays the lines of standard input, and prints what they do as a page for a browser;\nwithout SOCKET, also where MOUNTD_SOCKET is set, in a new server of its own;\nwith --journal plays what the server has accepted since its start, and sends it nothing",
     },
 ];
 
 /// What may stand in the place of a socket and a line.
-pub(crate) const IN_PLACE_OF_SOCKETS: [Usage; 9] = [
+pub(crate) const IN_PLACE_OF_SOCKETS: [Usage; 11] = [
     Usage {
         words: "what-if [OPTION].. TABLE.. -- LINE [-- LINE]..",
-        says: "tells what lines would change in the namespaces of tables, with no server: each TABLE is a file, or\nwith --pid a process; --all stands for each mount namespace of this machine. A LINE is one of\nmount, umount, unshare, nsenter, pivot_root or of a session; - stands for those of standard input.\n--each tells what each line changes, --json prints objects, and with --fail-if-elsewhere the\nstatus is 4 where a namespace changes that no line names",
+        says: "tells what lines would change in the namespaces of tables, with no server: each TABLE is a file, or\nwith --pid a process; --all stands for each mount namespace of this machine. A LINE is one of\nmount, umount, unshare, nsenter, pivot_root or of a session; - stands for those of standard input.\n--each tells what each line changes, --json prints objects, and --page a page for a browser that plays\nthe lines; with --fail-if-elsewhere the status is 4 where a namespace changes that no line names",
     },
     Usage {
         words: "import",
@@ -87,6 +91,14 @@ pub(crate) const IN_PLACE_OF_SOCKETS: [Usage; 9] = [
     Usage {
         words: "holders TABLE.. -- SOURCE|MAJ:MIN|NS PATH [--json]",
         says: "what still shows it",
+    },
+    Usage {
+        words: "session",
+        says: "answers the lines of standard input in a new server of its own; it also knows help [WORD] and\ntree [NS [PATH]|all], says why a line is refused, and has a prompt at a terminal",
+    },
+    Usage {
+        words: "play FILE|-",
+        says: "plays a transcript, line by line, in such a server, and says how many lines are answered as it tells",
     },
     Usage {
         words: "explain REFUSAL|ERRNO",

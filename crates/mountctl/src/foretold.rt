@@ -2,6 +2,7 @@
 
 use crate::PROGRAM;
 use crate::fault::Fault;
+use crate::foretold_page::print_foretold_page;
 use crate::messages::{NAME, tell_reason, tell_refused};
 use crate::missed::tell_missed;
 use crate::namespaces::{Namespaces, named_tables};
@@ -20,6 +21,7 @@ use mt_terminal::message::Shown;
 use mt_what_if::asked::{AskedLine, SpaceWord, WrongLine, read_asked};
 use mt_what_if::foretelling::{Foretold, Manner, Question, foretell};
 use mt_what_if::scene::{Scene, begin};
+use mt_what_if::steps::foretell_steps;
 use mt_what_if::trying::Outcome;
 use std::alloc::{AllocError, AllocFailed, Global};
 use std::process::ExitCode;
@@ -37,6 +39,8 @@ struct Options {
     each: bool,
     /// Whether the answer is JSON.
     json: bool,
+    /// Whether the answer is a page.
+    page: bool,
     /// Whether a change in a namespace that no line names makes the status 4.
     fails: bool,
 }
@@ -61,12 +65,14 @@ fn options_of<'a>(alloc: Global, words: &[&'a str]) -> Result<(Vec<&'a str>, Opt
     let mut options = Options {
         each: false,
         json: false,
+        page: false,
         fails: false,
     };
     for word in words {
         match *word {
             "--each" => options.each = true,
             "--json" => options.json = true,
+            "--page" => options.page = true,
             "--fail-if-elsewhere" => options.fails = true,
             other => others.push(other)?,
         }
@@ -265,11 +271,11 @@ fn read_all<'a>(
     Ok(asked)
 }
 
-/// The status of an answer.
-fn status_of_answer(answer: &Foretold, options: Options) -> ExitCode {
-    if matches!(answer.outcome, Outcome::Refused(_)) {
+/// The status of an answer: what came of the last line, and whether something changes in a namespace that no line names.
+fn status_of_answer(outcome: Outcome, leaks: bool, options: Options) -> ExitCode {
+    if matches!(outcome, Outcome::Refused(_)) {
         ExitCode::from(1)
-    } else if answer.leaks && options.fails {
+    } else if leaks && options.fails {
         ExitCode::from(LEAKS)
     } else {
         ExitCode::SUCCESS
@@ -280,8 +286,41 @@ fn status_of_answer(answer: &Foretold, options: Options) -> ExitCode {
 fn print_answer(rt: &HostRuntime, answer: &Foretold, options: Options) -> ExitCode {
     let mut out = standard_output(rt);
     match send(&mut out, answer.text.as_slice()) {
-        Ok(()) => status_of_answer(answer, options),
+        Ok(()) => status_of_answer(answer.outcome, answer.leaks, options),
         Err(_) => PROGRAM.fail(rt, Fault::Output.message()),
+    }
+}
+
+/// Prints what lines change in the namespaces of tables as a page, on which each is a step.
+fn answer_by_page(
+    rt: &HostRuntime,
+    scene: &mut Scene,
+    question: &Question<'_, '_>,
+    options: Options,
+) -> ExitCode {
+    let Ok(page) = foretell_steps(rt.alloc(), scene, question) else {
+        return PROGRAM.fail(rt, Fault::NoMemory.message());
+    };
+    let status = status_of_answer(page.outcome, page.leaks, options);
+    match print_foretold_page(rt, page) {
+        Ok(()) => status,
+        Err(fault) => PROGRAM.fail(rt, fault.message()),
+    }
+}
+
+/// Prints what lines change in the namespaces of tables, in words, as JSON, or as a page.
+fn answer_lines(
+    rt: &HostRuntime,
+    scene: &mut Scene,
+    question: &Question<'_, '_>,
+    options: Options,
+) -> ExitCode {
+    if options.page {
+        return answer_by_page(rt, scene, question, options);
+    }
+    match foretell(rt.alloc(), scene, question) {
+        Ok(answer) => print_answer(rt, &answer, options),
+        Err(_) => PROGRAM.fail(rt, Fault::NoMemory.message()),
     }
 }
 
@@ -307,10 +346,7 @@ fn ask(
         lines: &asked,
         manner: options.manner(asked.len()),
     };
-    match foretell(alloc, &mut begun.scene, &question) {
-        Ok(answer) => Ok(print_answer(rt, &answer, options)),
-        Err(_) => Err(PROGRAM.fail(rt, Fault::NoMemory.message())),
-    }
+    Ok(answer_lines(rt, &mut begun.scene, &question, options))
 }
 
 /// Answers what lines would change in the namespaces of tables: what the words behind `what-if` ask for.
@@ -321,6 +357,9 @@ fn answer_question(rt: &HostRuntime, words: &[&str]) -> Result<ExitCode, ExitCod
     let Ok((named, options)) = options_of(rt.alloc(), front) else {
         return Err(PROGRAM.fail(rt, Fault::NoMemory.message()));
     };
+    if options.page && options.json {
+        return Err(PROGRAM.refuse(rt, WordFault::Form.message()));
+    }
     let names = named_tables(rt, named.as_slice(), WordFault::Question)?;
     match lines_of(rt, behind) {
         Ok(lines) => ask(rt, &names, lines.as_slice(), options),

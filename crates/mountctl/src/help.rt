@@ -14,7 +14,11 @@ use mt_reasons::nearest::nearest_word;
 use mt_skel::fault::Fault as Refusal;
 use mt_terminal::message::Shown;
 use std::alloc::{AllocError, Global};
+use std::io::Eprint;
 use std::process::ExitCode;
+
+/// What a session answers beside the lines of a server.
+const IN_SESSIONS: &[&[u8]] = &[b"help", b"tree"];
 
 /// What is said behind the list of words.
 const BEHIND_LIST: &[u8] = b"
@@ -34,8 +38,11 @@ fn example_of(word: &str) -> &'static str {
         "reach" => "mountctl reach host container -- host /media/usb",
         "origin" => "mountctl origin host container -- container /media",
         "holders" => "mountctl holders host container -- host /media",
+        "save" => "mountctl mounts.sock save > saved",
         "page" => "mountctl page < session > page.html",
         "import" => "mountctl import host container > script",
+        "session" => "mountctl session < session",
+        "play" => "mountctl play transcript",
         "explain" => "mountctl explain Busy",
         "help" => "mountctl help mount",
         _ => "",
@@ -201,24 +208,64 @@ fn all_words(alloc: Global) -> Result<Vec<&'static [u8]>, AllocError> {
     Ok(words)
 }
 
-/// Says that there is no page of a word, and which one is nearest, if one is near.
-fn refuse_word(rt: &HostRuntime, word: &str) -> ExitCode {
+/// Says that there is no page of a word, and which one is nearest, if one is near. Fails for want of memory alone.
+fn tell_no_word<E: Eprint>(rt: &E, alloc: Global, word: &str) -> Result<(), AllocError> {
     let shown = Shown(word.as_bytes());
-    let Ok(words) = all_words(rt.alloc()) else {
-        return PROGRAM.fail(rt, Fault::NoMemory.message());
-    };
-    match nearest_word(rt.alloc(), words.as_slice(), word.as_bytes()) {
-        Ok(Some(nearest)) => {
+    let words = all_words(alloc)?;
+    match nearest_word(alloc, words.as_slice(), word.as_bytes())? {
+        Some(nearest) => {
             let nearest = Shown(nearest);
             let _ = eprintln!(rt; "{NAME}: {shown}: no word of the help; the nearest is {nearest}");
-            ExitCode::from(2)
         }
-        Ok(None) => {
+        None => {
             let _ = eprintln!(rt; "{NAME}: {shown}: no word of the help");
-            ExitCode::from(2)
         }
+    }
+    Ok(())
+}
+
+/// Says that there is no page of a word, and which one is nearest, if one is near.
+fn refuse_word(rt: &HostRuntime, word: &str) -> ExitCode {
+    match tell_no_word(rt, rt.alloc(), word) {
+        Ok(()) => ExitCode::from(2),
         Err(_) => PROGRAM.fail(rt, Fault::NoMemory.message()),
     }
+}
+
+/// The words of a session, under their kinds.
+fn list_in_session(alloc: Global) -> Result<Vec<u8>, AllocError> {
+    let changing = words_of_lines(alloc, true)?;
+    let asking = words_of_lines(alloc, false)?;
+    let mut text = Vec::new(alloc);
+    push_list(&mut text, b"Lines that change tables:", changing.as_slice())?;
+    push_list(&mut text, b"Other lines:", asking.as_slice())?;
+    push_list(&mut text, b"In their place:", IN_SESSIONS)?;
+    text.extend_from_slice(b"\nhelp WORD has the page of a word.\n")?;
+    Ok(text)
+}
+
+/// What a session is told behind `help`: the page of a word, or without a word the words of a session. None where there is no such
+/// page. Fails for want of memory alone.
+pub(crate) fn session_page(alloc: Global, words: &[&str]) -> Result<Option<Vec<u8>>, AllocError> {
+    match words {
+        [] => Ok(Some(list_in_session(alloc)?)),
+        [word] if has_page(word) => Ok(Some(page_of(alloc, word)?)),
+        _ => Ok(None),
+    }
+}
+
+/// Says why a session is told nothing behind `help`. Fails for want of memory alone.
+pub(crate) fn tell_no_page<E: Eprint>(
+    rt: &E,
+    alloc: Global,
+    words: &[&str],
+) -> Result<(), AllocError> {
+    let [word] = words else {
+        let said = WordFault::Help.message();
+        let _ = eprintln!(rt; "{NAME}: {said}");
+        return Ok(());
+    };
+    tell_no_word(rt, alloc, word)
 }
 
 /// Prints a text, unless there was no memory for it.

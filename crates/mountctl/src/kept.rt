@@ -1,6 +1,7 @@
 //! An output that keeps what it takes.
-ghost use Rattle.std.specs.Prelude.{◌≡◌, None, OnOk};
+ghost use Rattle.std.specs.Prelude.{◌≡◌, [], None, OnOk};
 ghost use Rattle.mt_lines.specs.Reading.{fault_of};
+ghost use Rattle.mountctl.specs.Played.{kept_text};
 
 use crate::fault::Fault;
 use mt_client::ask::ask_line;
@@ -17,7 +18,9 @@ pub(crate) struct Kept {
 
 impl Kept {
     /// No text yet.
-    pub(crate) fn new(alloc: Global) -> Kept {
+    pub(crate) fn new(alloc: Global) -> Kept
+        ensures { kept_text result ≡ [] }
+    {
         Kept {
             text: Vec::new(alloc),
         }
@@ -29,7 +32,9 @@ impl Kept {
     }
 
     /// The text itself.
-    pub(crate) fn into_text(self) -> Vec<u8> {
+    pub(crate) fn into_text(self) -> Vec<u8>
+        ensures { result.items ≡ kept_text self }
+    {
         self.text
     }
 }

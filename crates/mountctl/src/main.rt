@@ -11,6 +11,7 @@ mod connection;
 mod explain;
 mod fault;
 mod foretold;
+mod foretold_page;
 mod found;
 mod help;
 mod import;
@@ -24,9 +25,11 @@ mod namespaces;
 mod naming;
 mod newness;
 mod options;
+mod own_session;
 mod page;
 mod page_task;
 mod part;
+mod play;
 mod played;
 mod process_tables;
 mod processes;
@@ -34,9 +37,11 @@ mod provide;
 mod questions;
 mod quiet;
 mod refusals;
+mod save;
 mod screen;
 mod script;
 mod server_tables;
+mod session;
 mod sources;
 mod spaces;
 mod tables;
@@ -56,12 +61,15 @@ use crate::lines::run_line;
 use crate::marked::Marked;
 use crate::messages::NAME;
 use crate::naming::named_words;
-use crate::page_task::run_page;
+use crate::page_task::{JOURNAL, run_page};
 use crate::part::{Part, draw_part};
+use crate::play::run_play;
 use crate::questions::{Question, form_of_words, run_question};
 use crate::quiet::Quiet;
+use crate::save::print_saved;
 use crate::screen::standard_output;
 use crate::script::{SCRIPT_LIMIT, run_script};
+use crate::session::run_session;
 use crate::spaces::list_spaces;
 use crate::tables::import_files;
 use crate::task::{Task, WordFault, found_words, part_words, task_of};
@@ -168,6 +176,7 @@ fn run_on<R: Input + Drop, W: Output, O: Output>(
             None => Ok(false),
         },
         Task::List { telling } => list_spaces(alloc, telling, names, lines, writer, out),
+        Task::Save => print_saved(alloc, lines, writer, out),
         Task::WhatIf | Task::Page => Ok(false),
         Task::Question(question) => match asked_by(question, words) {
             Some(asked) => {
@@ -269,7 +278,7 @@ fn run_import(rt: &HostRuntime) -> ExitCode {
 fn run_matches(rt: &HostRuntime, matches: &ArgMatches<'_>) -> Result<ExitCode, AllocError> {
     let first = matches.get_str("SOCKET");
     let behind = matches.get_strs("WORD").unwrap_or(&[]);
-    if first == Some(PAGE) {
+    if first == Some(PAGE) && !behind.contains(&JOURNAL) {
         return Ok(run_page(rt, None, behind, 0));
     }
     if first == Some(HELP) {
@@ -315,6 +324,8 @@ fn run(rt: &HostRuntime) -> io::Result<ExitCode> {
         [_, "import", words @ ..] => import_files(rt, words),
         [_, "what-if", words @ ..] => run_foretold(rt, words),
         [_, "explain", words @ ..] => explain(rt, words),
+        [_, "play", words @ ..] => run_play(rt, words),
+        [_, "session", words @ ..] => run_session(rt, words),
         [_, "reach", words @ ..] if words.contains(&"--") => {
             run_question(rt, Question::Reach, words)
         }

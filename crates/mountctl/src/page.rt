@@ -121,7 +121,7 @@ fn take_changes<R: Input + Drop, W: Output>(
 }
 
 /// A step with what the refusal says that its answer is, if it is one. Fails for want of memory alone.
-fn with_reason(step: Step) -> Result<Step, Unplayed> {
+pub(crate) fn step_with_reason(step: Step) -> Result<Step, AllocError> {
     let mut step = step;
     step.reason
         .extend_from_slice(reason_of(step.answer.as_slice()))?;
@@ -173,10 +173,10 @@ fn play_step<R: Input + Drop, W: Output>(
     ensures rising { OnOk result (IsTrue (rises mirror_space mirrors.new.items)) }
 {
     if !step.answer.is_empty() {
-        return with_reason(step);
+        return Ok(step_with_reason(step)?);
     }
     let sent = send_step(alloc, step, mirrors, lines, writer)?;
-    with_reason(sent)
+    Ok(step_with_reason(sent)?)
 }
 
 /// Plays the steps of a session, one after another.

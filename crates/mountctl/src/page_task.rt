@@ -4,24 +4,28 @@ use crate::connection::{connected, status_of};
 use crate::fault::Fault;
 use crate::kept::Kept;
 use crate::messages::NAME;
+use crate::own_session::answers_to;
 use crate::page::{PageData, Unplayed, play};
 use crate::played::{Played, PlayedFault, read_played};
 use crate::quiet::Quiet;
+use crate::save::save;
 use crate::screen::standard_output;
 use crate::script::SCRIPT_LIMIT;
 use crate::task::WordFault;
 use crate::{LINE_LIMIT, PROGRAM};
 use mt_client::relay::print_text;
 use mt_floor::floor::Floor;
-use mt_lines::line::{LineReader, ReadFault};
+use mt_lines::line::LineReader;
 use mt_lines::stream::{Reading, Writing};
 use mt_page::data::Step;
 use mt_page::template::{BEFORE, BEHIND};
-use mt_session::serving::{End, LINE_LIMIT as SESSION_LIMIT, serve_plain};
 use mt_terminal::message::Shown;
 use std::alloc::{AllocError, Global};
 use std::os::unix::net::UnixStream;
 use std::process::ExitCode;
+
+/// The word that asks for what a server has accepted.
+pub(crate) const JOURNAL: &str = "--journal";
 
 /// How many posts the queue of a watcher holds, the most that one may.
 const QUEUE: usize = 1_024;
@@ -39,22 +43,12 @@ fn requests_of(alloc: Global, steps: &[Step]) -> Result<Vec<u8>, AllocError> {
     Ok(requests)
 }
 
-/// The answers of a new server to requests: a session of its own, as `mountd -` serves one.
-fn answers_to(alloc: Global, requests: &[u8]) -> Result<Kept, Fault> {
-    let mut input = LineReader::new(alloc, Reading::new(requests), SESSION_LIMIT)?;
-    let mut answers = Kept::new(alloc);
-    let mut floor = Floor::new(alloc, QUEUE);
-    match serve_plain(alloc, &mut input, &mut answers, &mut floor) {
-        End::Cut(_) | End::Read(ReadFault::NoMemory) | End::Memory => Err(Fault::NoMemory),
-        End::Read(_) | End::Quit | End::Stop | End::Input | End::Spent => Ok(answers),
-    }
-}
-
 /// The data of a session's page, which a new server of its own answers.
 fn play_alone(rt: &HostRuntime, session: Played, title: &[u8]) -> Result<PageData, Unplayed> {
     let alloc = rt.alloc();
     let requests = requests_of(alloc, session.steps.as_slice())?;
-    let answers = answers_to(alloc, requests.as_slice())?;
+    let mut floor = Floor::new(alloc, QUEUE);
+    let answers = answers_to(alloc, &mut floor, requests.as_slice())?;
     let mut lines = LineReader::new(alloc, Reading::new(answers.text()), LINE_LIMIT)?;
     play(alloc, session, title, &mut lines, &mut Quiet)
 }
@@ -72,8 +66,31 @@ fn play_over(
     play(alloc, session, title, &mut lines, &mut writer)
 }
 
+/// The session of the commands that a server has accepted, as it tells them over a connection.
+fn read_journal(rt: &HostRuntime, stream: &UnixStream) -> Result<Played, Unplayed> {
+    let alloc = rt.alloc();
+    let mut lines = LineReader::new(alloc, Reading::new(stream), LINE_LIMIT)?;
+    let mut writer = Writing::new(stream);
+    let mut saved = Kept::new(alloc);
+    if let Some(refusal) = save(alloc, &mut lines, &mut writer, &mut saved)? {
+        return Err(Unplayed::Refused(refusal));
+    }
+    let mut input = LineReader::new(alloc, Reading::new(saved.text()), SCRIPT_LIMIT)?;
+    match read_played(alloc, &mut input) {
+        Ok(played) => Ok(played),
+        Err(PlayedFault::Failed(fault)) => Err(Unplayed::Failed(fault)),
+        Err(PlayedFault::Watcher(_)) => Err(Unplayed::Failed(Fault::Connection)),
+    }
+}
+
+/// The data of the page of a server's journal, which a new server of its own answers.
+fn play_journal(rt: &HostRuntime, stream: &UnixStream, title: &[u8]) -> Result<PageData, Unplayed> {
+    let session = read_journal(rt, stream)?;
+    play_alone(rt, session, title)
+}
+
 /// Prints the page of these data.
-fn print_page(rt: &HostRuntime, data: &PageData) -> Result<bool, Fault> {
+pub(crate) fn print_page(rt: &HostRuntime, data: &PageData) -> Result<bool, Fault> {
     let mut out = standard_output(rt);
     print_text(&mut out, BEFORE.as_bytes())?;
     print_text(&mut out, data.opening.as_slice())?;
@@ -137,20 +154,52 @@ fn make_page(
     }
 }
 
+/// Prints the page of what a server at a socket has accepted, or says why not.
+fn make_journal_page(
+    rt: &HostRuntime,
+    socket: &str,
+    title: &str,
+    wait: u64,
+) -> Result<ExitCode, ExitCode> {
+    let stream = connected(rt, socket, wait)?;
+    Ok(end_page(rt, socket, play_journal(rt, &stream, title.as_bytes())))
+}
+
+/// The words without `--journal`, where it stands first or last among them. None where it does not.
+fn without_journal<'a, 'w>(words: &'w [&'a str]) -> Option<&'w [&'a str]> {
+    match words {
+        [others @ .., JOURNAL] | [JOURNAL, others @ ..] => Some(others),
+        _ => None,
+    }
+}
+
+/// The title that words are, or none.
+fn title_of<'a>(words: &[&'a str]) -> Option<&'a str> {
+    match words {
+        [] => Some(""),
+        [title] => Some(*title),
+        _ => None,
+    }
+}
+
 /// Prints the page of the session on standard input: the lines are sent to the server at a socket, or where none is given to
-/// a new one of their own. The words are the title, or none.
+/// a new one of their own. With `--journal` the session is what the server at the socket has accepted. The other words are the
+/// title, or none.
 pub(crate) fn run_page(
     rt: &HostRuntime,
     socket: Option<&str>,
     words: &[&str],
     wait: u64,
 ) -> ExitCode {
-    let title = match words {
-        [] => "",
-        [title] => *title,
-        _ => return PROGRAM.refuse(rt, WordFault::Page.message()),
+    let journal = without_journal(words);
+    let Some(title) = title_of(journal.unwrap_or(words)) else {
+        return PROGRAM.refuse(rt, WordFault::Page.message());
     };
-    match make_page(rt, socket, title, wait) {
+    let made = match (journal, socket) {
+        (Some(_), Some(socket)) => make_journal_page(rt, socket, title, wait),
+        (_, socket) => make_page(rt, socket, title, wait),
+    };
+    match made {
         Ok(status) => status,
         Err(status) => status,
     }

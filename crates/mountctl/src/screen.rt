@@ -29,6 +29,11 @@ pub(crate) fn standard_output(rt: &HostRuntime) -> Screen<Writing<Printer<'_, Ho
     }
 }
 
+/// Whether standard input and output are a terminal.
+pub(crate) fn is_at_terminal(rt: &HostRuntime) -> bool {
+    rt.stdin().is_terminal() && rt.stdout().is_terminal()
+}
+
 /// Prints a text, and answers a status, or says that the text did not go out.
 pub(crate) fn print_out(rt: &HostRuntime, text: &[u8], status: u8) -> ExitCode {
     let mut out = standard_output(rt);

@@ -36,9 +36,11 @@ pub(crate) enum Task {
     Tell { scope: Scope, marks: Marks },
     /// The namespaces, with the number of their mounts.
     List { telling: Telling },
+    /// The session that makes what is there.
+    Save,
     /// What lines change in the namespaces of tables.
     WhatIf,
-    /// The page of the session on standard input.
+    /// The page of the session on standard input, or of the server's journal.
     Page,
     /// The answer to a question about the tables of all namespaces.
     Question(Question),
@@ -94,10 +96,18 @@ pub(crate) enum WordFault {
     WhatIf,
     /// Behind `what-if`, without a server.
     Question,
+    /// Two forms of an answer, which has one.
+    Form,
     /// More tables than a server has namespaces.
     TooMany,
+    /// Behind `save`.
+    Save,
     /// Behind `page`.
     Page,
+    /// Behind `play`.
+    Play,
+    /// Behind `session`.
+    Session,
     /// Behind `explain`, which stands in the place of a socket.
     Explain,
     /// Behind `help`.
@@ -127,8 +137,10 @@ impl WordFault {
             WordFault::Question => {
                 "what-if takes files, --pid and processes or --all, and lines behind --, or - for those of standard input"
             }
+            WordFault::Form => "what-if prints a page or JSON",
             WordFault::TooMany => "more than 64 tables",
-            WordFault::Page => "page takes a title, or no words",
+            WordFault::Save => "save takes no words",
+            WordFault::Page => "page takes --journal and a title, or one of them, or no words",
             WordFault::Reach =>
                 "reach takes tables, and behind -- a namespace and a path; behind a socket those alone",
             WordFault::Origin =>
@@ -136,6 +148,8 @@ impl WordFault {
             WordFault::Holders => {
                 "holders takes tables, and behind -- a source, a device, or a namespace and a path; behind a socket those alone"
             }
+            WordFault::Play => "play takes a file, or - for standard input",
+            WordFault::Session => "session takes no words",
             WordFault::Explain => "explain takes the name of a refusal, or an errno",
             WordFault::Help => "help takes a word, or none",
         }
@@ -365,6 +379,8 @@ pub(crate) fn task_of(words: &[&str]) -> Result<Task, WordFault> {
         ["spaces", behind @ ..] => list_of(behind).ok_or(WordFault::Spaces),
         ["what-if", behind @ ..] if is_what_if(behind) => Ok(Task::WhatIf),
         ["what-if", ..] => Err(WordFault::WhatIf),
+        ["save"] => Ok(Task::Save),
+        ["save", ..] => Err(WordFault::Save),
         ["page", ..] => Ok(Task::Page),
         ["reach", ..] => question_of(Question::Reach, words),
         ["origin", ..] => question_of(Question::Origin, words),

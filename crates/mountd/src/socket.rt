@@ -4,7 +4,7 @@ ghost use Rattle.std.specs.Prelude.{◌≡◌, ◌<◌};
 use crate::listening::{ListenFault, Listening, Paths};
 use mt_desk::desk::Desk;
 use mt_desk::lines::{Host, Lines, Naming};
-use mt_server::server::{Premises, ServerFault, run_server};
+use mt_server::server::{ServerFault, ServerSetup, run_server};
 use mt_session::bell::Bell;
 use mt_session::gate::OpenGate;
 use std::alloc::Global;
@@ -61,7 +61,7 @@ where
     let host: Host<J> = lines.host();
     let desk: Mutex<Desk<J>> = Mutex::new(Desk::new(lines));
     let bell = Bell::new();
-    let premises = Premises {
+    let setup = ServerSetup {
         listener,
         path: path.as_str(),
         desk: &desk,
@@ -71,7 +71,7 @@ where
         idle: limits.idle,
         gate: &OpenGate,
     };
-    let (_, ended) = run_server(rt, alloc, listener, premises);
+    let (_, ended) = run_server(rt, alloc, listener, setup);
     match ended {
         Ok(()) => Served::Stopped,
         Err(ServerFault::Accept) => Served::NotAccepting,

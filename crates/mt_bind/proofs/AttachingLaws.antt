@@ -1,14 +1,15 @@
--- A detached tree that comes to stand at a place: it is a source tree, the world stays well-formed, and contained namespaces stay so.
+-- A detached tree that comes to stand at a place: it is a source tree, the world stays well-formed, and contained families of namespaces stay so.
 use Rattle.std.proofs.Common.{◌≡◌, ◌≢◌, ℕ, Bool, true, false, cond, not, ◌&&◌, ◌==◌, eqb-true, eq-eqb, List, [], ◌∷◌, map, Option, Some, None, Result, Ok, refl, sym, ap, ◌∙◌, subst, inl, inr, IsTrue}
 use Rattle.std.specs.Prelude.{is_none, is_some, unwrap_or}
 use Rattle.std.specs.List.{list_any}
-use Rattle.std.proofs.lemmas.Bool.{ne_eqb, false_from_ne_true}
+use Rattle.std.proofs.lemmas.Bool.{false_from_ne_true, true≢false}
 use Rattle.mt_skel.specs.declared.fault.Fault.{Fault}
 use Rattle.mt_skel.specs.declared.fault.Fault.TheVariants.{NoNamespace, NotDetached, RootPlace, IntoItself, UnbindableInside}
 use Rattle.mt_skel.specs.Outcome.{refusal_of, refuse_if, outcome}
 use Rattle.mt_skel.specs.Skeleton.{directory, holds}
 use Rattle.mt_skel.proofs.OutcomeLaws.{passed}
-use Rattle.mt_skel.proofs.KeyedLaws.{rises-filter}
+use Rattle.mt_skel.proofs.KeyedLaws.{rises-filter, row_at-key}
+use Rattle.mt_skel.proofs.MiddleLaws.{and-true}
 use Rattle.mt_skel.proofs.ElementLaws.{In, in_filter, in_row}
 use Rattle.mt_mounts.specs.declared.mount.Mount.{Mount}
 use Rattle.mt_mounts.specs.declared.mount.Place.{Place}
@@ -22,16 +23,16 @@ use Rattle.mt_propagate.specs.WellFormed.{IsWellFormed, fs_at}
 use Rattle.mt_propagate.specs.Copies.{Source, is_whole}
 use Rattle.mt_propagate.specs.Plans.{member_of, top_of, copied_source}
 use Rattle.mt_propagate.specs.Sound.{IsTree, IsSource, IsDestination}
-use Rattle.mt_propagate.specs.Contained.{IsContained, CrossesNoBorder}
+use Rattle.mt_propagate.specs.Contained.{IsContained, IsSameOutside, CrossesNoBorder, IsFromInside, is_linked, may_cross}
 use Rattle.mt_propagate.proofs.CopyRowLaws.{root_is, space_is}
-use Rattle.mt_propagate.proofs.RowLaws.{picked-row, row-picked}
+use Rattle.mt_propagate.proofs.RowLaws.{picked-row, row-picked, any-row}
 use Rattle.mt_propagate.proofs.DetachedTreeLaws.{no_place}
 use Rattle.mt_propagate.proofs.WalkLaws.{root_here, walked}
 use Rattle.mt_propagate.proofs.ContainedLaws.{below-space}
 use Rattle.mt_propagate.proofs.MovedLaws.{source_kept}
-use Rattle.mt_propagate.proofs.CopiedInsideLaws.{copied-contained}
+use Rattle.mt_propagate.proofs.CopiedInsideLaws.{copied-contained, copied-outside}
 use Rattle.mt_bind.specs.Mounting.{too_many}
-use Rattle.mt_bind.specs.Attaching.{whole_tree, has_unbindable, with_attached, attached}
+use Rattle.mt_bind.specs.Attaching.{whole_tree, has_unbindable, has_linked, with_attached, attached}
 use Rattle.mt_bind.proofs.AcceptedLaws.{path_end, IsLate, attached_accepted}
 use Rattle.mt_bind.proofs.TreeOfLaws.{part_tree}
 use Rattle.mt_bind.proofs.MemberLaws.{any_ids}
@@ -202,13 +203,35 @@ module _ (w : WorldView) (tree n : ℕ) (path : List (List ℕ)) (v : WorldView)
   pub attached_keeps : IsWellFormed v
   attached_keeps = subst IsWellFormed (attached_accepted w tree n path v e).world (source_kept w h (whole_tree w tree) (path_end w n path) source goes)
 
--- and a namespace contained that is neither the tree nor that of the place
-pub attached_contained : (k : ℕ) (w : WorldView) (tree n : ℕ) (path : List (List ℕ)) (v : WorldView) → IsWellFormed w → IsContained k w → k ≢ tree → k ≢ n → attached w tree n path ≡ Ok v → IsContained k v
-attached_contained k w tree n path v h c off_tree off_place e =
+  -- a mount of the tree is of the namespace that the tree is
+  whole_space_of : (i : ℕ) (m q : Mount) → mount_at (whole_tree w tree).mounts i ≡ Some m → mount_at w.forest i ≡ Some q → q.space ≡ tree
+  whole_space_of i m q at row =
+      let r = picked-row id_of (in_space tree) w.forest h.forest.rising i m at in
+      ap (λ (m : Mount). m.space) (some-is q m (sym row ∙ r.0)) ∙ eqb-true m.space tree r.1
+
+-- where no mount of the tree has a group or a master, each may cross
+alone_crosses : (w : WorldView) (tree : ℕ) → has_linked w tree ≡ false → (i : ℕ) (m : Mount) → mount_at (whole_tree w tree).mounts i ≡ Some m → may_cross w (whole_tree w tree) i ≡ true
+alone_crosses w tree none i m at =
+    let key = row_at-key id_of i (mounts_in w.forest tree) m at in
+    let off : is_linked w i ≡ false = ap (is_linked w) (sym key) ∙ any-row id_of (λ (m : Mount). is_linked w m.id) (mounts_in w.forest tree) i m none at in
+    and-true (is_whole (whole_tree w tree)) (not (is_linked w i)) (whole_moves w tree) (ap not off)
+
+-- and a family contained, if the tree comes from the side on which the place is, or has no group and no master
+pub attached_contained : (family : ℕ → Bool) (w : WorldView) (tree n : ℕ) (path : List (List ℕ)) (v : WorldView) → IsWellFormed w → IsContained family w → (has_linked w tree ≡ true → family tree ≡ family n) → attached w tree n path ≡ Ok v → IsContained family v
+attached_contained family w tree n path v h c beside e =
     let p = path_end w n path in
-    let beside : CrossesNoBorder k w (whole_tree w tree) p = λ i m q at row.
-    let space = eqb-true m.space tree (picked-row id_of (in_space tree) w.forest h.forest.rising i m at).1 in
-    let same = some-is q m (sym row ∙ (picked-row id_of (in_space tree) w.forest h.forest.rising i m at).0) in
-    ne_eqb q.space k (λ here. off_tree (sym here ∙ ap (λ (m : Mount). m.space) same ∙ space))
-    ∙ sym (ne_eqb (space_of w p.mount) k (λ here. off_place (sym here ∙ place_space w tree n path v h e))) in
-    subst (IsContained k) (attached_accepted w tree n path v e).world (copied-contained w h (whole_tree w tree) p (source w tree n path v h e) (goes w tree n path v h e) k beside c)
+    subst (IsContained family) (attached_accepted w tree n path v e).world
+    (copied-contained w h (whole_tree w tree) p (source w tree n path v h e) (goes w tree n path v h e) family (by (has_linked w tree) refl) c)
+  where
+    by : (b : Bool) → has_linked w tree ≡ b → CrossesNoBorder family w (whole_tree w tree) (path_end w n path)
+    by true linked i m q at row stays = ap family (whole_space_of w tree n path v h e i m q at row) ∙ beside linked ∙ sym (ap family (place_space w tree n path v h e))
+    by false none i m q at row stays = absurd (true≢false (sym (alone_crosses w tree none i m at) ∙ stays))
+
+-- nothing changes outside a family that the tree and the namespace of the place are of
+pub attached_outside : (family : ℕ → Bool) (w : WorldView) (tree n : ℕ) (path : List (List ℕ)) (v : WorldView) → IsWellFormed w → IsContained family w → family tree ≡ true → family n ≡ true → attached w tree n path ≡ Ok v → IsSameOutside family w v
+attached_outside family w tree n path v h c of_tree here e =
+    let p = path_end w n path in
+    let at_place = ap family (place_space w tree n path v h e) ∙ here in
+    let within : IsFromInside family w (whole_tree w tree) = λ i m q at row. ap family (whole_space_of w tree n path v h e i m q at row) ∙ of_tree in
+    subst (IsSameOutside family w) (attached_accepted w tree n path v e).world
+    (copied-outside w h (whole_tree w tree) p (source w tree n path v h e) (goes w tree n path v h e) family (λ i m q at row _. within i m q at row ∙ sym at_place) c within at_place)

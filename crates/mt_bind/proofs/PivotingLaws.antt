@@ -1,6 +1,6 @@
 -- The mounts of each namespace stay one tree where another mount of one becomes its root mount, even where that is done mount by
 -- mount; so a pivot that is accepted keeps worlds well-formed and namespaces contained, and changes nothing outside its namespace.
-use Rattle.std.proofs.Common.{◌≡◌, ℕ, true, false, List, Option, Some, None, Ok, Err, refl, sym, ap, ◌∙◌, subst, ◌≢◌, ◌⊎◌, suc, ◌+◌, ◌<◌, cond, ◌||◌, eq-eqb, map, length, inl, inr, arith, IsTrue, eqb-true, not, ◌==◌}
+use Rattle.std.proofs.Common.{◌≡◌, ℕ, Bool, true, false, List, Option, Some, None, Ok, Err, refl, sym, ap, ◌∙◌, subst, ◌≢◌, ◌⊎◌, suc, ◌+◌, ◌<◌, cond, ◌||◌, eq-eqb, map, length, inl, inr, arith, IsTrue, eqb-true, not, ◌==◌}
 use Rattle.std.specs.Prelude.{unwrap_or, is_none}
 use Rattle.std.specs.Option.{option_map, option_map_or, ok_or}
 use Rattle.std.proofs.lemmas.Bool.{true≢false, cases_eq, ne_eqb}
@@ -248,12 +248,12 @@ module _ (w : WorldView) (i j : ℕ) (p : Place) where
   unfolding with_pivot
   same_fs k = ap (λ d. (directory w.skel d).fs) (same_root k)
 
-  -- a contained namespace stays so, in whichever namespace the pivot is
-  pub pivot_contained : (n : ℕ) → IsContained n w → IsContained n (with_pivot w i j p)
+  -- a contained family stays so, in whichever namespace the pivot is
+  pub pivot_contained : (family : ℕ → Bool) → IsContained family w → IsContained family (with_pivot w i j p)
   unfolding with_pivot
-  pivot_contained n c = record {
-    groups = λ x y g ex ey q. same_space y ∙ c.groups x y g ex ey (sym (same_space x) ∙ q);
-    chains = λ x y m g ex ey q far. same_space x ∙ c.chains x y m g ex ey (sym (same_space y) ∙ q) far;
+  pivot_contained family c = record {
+    groups = λ x y g ex ey q. ap family (same_space y) ∙ c.groups x y g ex ey (ap family (sym (same_space x)) ∙ q);
+    chains = λ x y m g ex ey q far. ap family (same_space x) ∙ c.chains x y m g ex ey (ap family (sym (same_space y)) ∙ q) far;
   }
 
   module _ (h : IsWellFormed w) (a : MayPivot w i j p) where
@@ -272,25 +272,25 @@ module _ (w : WorldView) (i j : ℕ) (p : Place) where
       trees = trees_stay w.skel w.forest (map pivoting w.forest) h.forest.rising (pivot_forest w h i j p a) (λ k m e root. (k, pivoting m, row-mapped id_of pivoting (λ m. refl) w.forest k m e, refl)) w.trees h.trees;
     }
 
-    module _ (n : ℕ) (here : space_of w i ≡ n) where
-      top_here : a.top.space ≡ n
-      top_here = sym (space_is w i a.top a.top_there) ∙ here
+    module _ (family : ℕ → Bool) (here : family (space_of w i) ≡ true) where
+      top_here : family a.top.space ≡ true
+      top_here = ap family (sym (space_is w i a.top a.top_there)) ∙ here
 
-      -- a mount of another namespace keeps its place
-      unchanged : (m : Mount) → mount_at w.forest m.id ≡ Some m → m.space ≢ n → pivoting m ≡ m
+      -- a mount outside keeps its place
+      unchanged : (m : Mount) → mount_at w.forest m.id ≡ Some m → family m.space ≡ false → pivoting m ≡ m
       unchanged m e off =
-          pivot_cases w h i j p a (λ o. let y : Mount = record m { place = o } in y ≡ m) m.id m e (λ _ is. absurd (off (ap (λ (y : Mount). y.space) is ∙ top_here)))
-          (λ _ is. absurd (off (ap (λ (y : Mount). y.space) is ∙ a.same_space ∙ top_here))) (λ _ _. refl)
+          pivot_cases w h i j p a (λ o. let y : Mount = record m { place = o } in y ≡ m) m.id m e (λ _ is. absurd (true≢false (sym (ap (λ (y : Mount). family y.space) is ∙ top_here) ∙ off)))
+          (λ _ is. absurd (true≢false (sym (ap (λ (y : Mount). family y.space) is ∙ ap family a.same_space ∙ top_here) ∙ off))) (λ _ _. refl)
 
-      -- nothing changes outside the namespace
-      pub pivot_outside : IsSameOutside n w (with_pivot w i j p)
+      -- nothing changes outside the family
+      pub pivot_outside : IsSameOutside family w (with_pivot w i j p)
       unfolding with_pivot
       pivot_outside = record {
         skel = refl;
         mounts = λ k off.
             part-mapped (in_space k) pivoting w.forest
             (each_still (λ m. mount_at w.forest m.id ≡ Some m) (λ m. (in_space k (pivoting m) ≡ in_space k m) × (in_space k m ≡ true → pivoting m ≡ m))
-            (λ m e. (refl, λ is. unchanged m e (λ same. off (sym (eqb-true m.space k is) ∙ same)))) w.forest (found-each id_of w.forest h.forest.rising));
+            (λ m e. (refl, λ is. unchanged m e (ap family (eqb-true m.space k is) ∙ off))) w.forest (found-each id_of w.forest h.forest.rising));
         states = λ k m e off. refl;
       }
 
@@ -336,18 +336,18 @@ pivots w n new old v h e =
     let p = path_end w n old in
     record { new = s.mount; old = root_id w n; dest = p; made = a.world; may = may_pivot w n new old s p h a.begun a.placed a.ended a.off_root a.inside; here = ended-inside w h n new (ap refusal_of a.begun) }
 
--- a pivot keeps a world well-formed and contained namespaces contained, and made in one it changes nothing outside it
+-- a pivot keeps a world well-formed and contained families of namespaces contained, and made in one it changes nothing outside it
 pub pivoted_keeps : (w : WorldView) (n : ℕ) (new old : List (List ℕ)) (v : WorldView) → IsWellFormed w → pivoted w n new old ≡ Ok v → IsWellFormed v
 pivoted_keeps w n new old v h e =
     let a = pivots w n new old v h e in
     subst IsWellFormed a.made (pivot_kept w a.new a.old a.dest h a.may)
 
-pub pivoted_contained : (k : ℕ) (w : WorldView) (n : ℕ) (new old : List (List ℕ)) (v : WorldView) → IsWellFormed w → IsContained k w → pivoted w n new old ≡ Ok v → IsContained k v
-pivoted_contained k w n new old v h c e =
+pub pivoted_contained : (family : ℕ → Bool) (w : WorldView) (n : ℕ) (new old : List (List ℕ)) (v : WorldView) → IsWellFormed w → IsContained family w → pivoted w n new old ≡ Ok v → IsContained family v
+pivoted_contained family w n new old v h c e =
     let a = pivots w n new old v h e in
-    subst (IsContained k) a.made (pivot_contained w a.new a.old a.dest k c)
+    subst (IsContained family) a.made (pivot_contained w a.new a.old a.dest family c)
 
-pub pivoted_outside : (w : WorldView) (n : ℕ) (new old : List (List ℕ)) (v : WorldView) → IsWellFormed w → IsContained n w → pivoted w n new old ≡ Ok v → IsSameOutside n w v
-pivoted_outside w n new old v h c e =
+pub pivoted_outside : (family : ℕ → Bool) (w : WorldView) (n : ℕ) (new old : List (List ℕ)) (v : WorldView) → IsWellFormed w → IsContained family w → family n ≡ true → pivoted w n new old ≡ Ok v → IsSameOutside family w v
+pivoted_outside family w n new old v h c here e =
     let a = pivots w n new old v h e in
-    subst (IsSameOutside n w) a.made (pivot_outside w a.new a.old a.dest h a.may n a.here)
+    subst (IsSameOutside family w) a.made (pivot_outside w a.new a.old a.dest h a.may family (ap family a.here ∙ here))

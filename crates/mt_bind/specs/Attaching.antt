@@ -14,6 +14,7 @@ use Rattle.mt_propagate.specs.World.{WorldView, is_space, is_tree, state_of, gro
 use Rattle.mt_propagate.specs.Named.{unknown, place_or_nowhere, is_root_place}
 use Rattle.mt_propagate.specs.Copies.{Source}
 use Rattle.mt_propagate.specs.Copied.{copied}
+use Rattle.mt_propagate.specs.Contained.{is_linked}
 use Rattle.mt_bind.specs.Mounting.{too_many}
 
 module _ (w : WorldView) (tree : ℕ) where
@@ -24,6 +25,10 @@ module _ (w : WorldView) (tree : ℕ) where
   -- one of them is unbindable
   abbrev pub has_unbindable : Bool
   has_unbindable = list_any (λ (m : Mount). (state_of w m.id).unbindable) (mounts_in w.forest tree)
+
+  -- one of them has a group or a master
+  abbrev pub has_linked : Bool
+  has_linked = list_any (λ (m : Mount). is_linked w m.id) (mounts_in w.forest tree)
 
   -- the mounts of the tree stand at the place and are of its namespace, and copies of them at the targets; the tree is no namespace any
   -- more (move_mount(2); `sharedsubtree`, move semantics)

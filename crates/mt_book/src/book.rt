@@ -166,7 +166,7 @@ impl Book {
 
     /// Shows what was prepared, and answers the command's reply and its posts, by rising namespace. It cannot be
     /// refused, and takes no memory: what is shown was prepared for the commands that the book has now, and there is
-    /// room for one more. What was issued in a less privileged copy stays in it, as `apply` has it (`inside`).
+    /// room for one more. What was issued in the family of a less privileged copy stays in it, as `apply` has it (`inside`).
     pub fn commit(&mut self, prepared: Prepared) -> (Reply, SharedPosts)
         requires prepared { IsPrepared self.old.journal prepared }
         requires room { 0 < self.old.room }
@@ -195,9 +195,10 @@ impl Book {
     /// Refused as `JournalFull` after 1,048,576 accepted commands, otherwise with the first of the command's own
     /// refusals that holds, and as `NoMemory`; then nothing has changed.
     ///
-    /// If it is issued in a namespace that was made by `copyns` with `less` and over whose border no later command has
-    /// brought mounts, by a copy or by a tree, it leaves the table and the number of every other namespace as they were
-    /// (`inside`).
+    /// If it is issued in the family of a namespace that was made by `copyns` with `less`, and no later command has
+    /// attached a tree with a group or a master over the family's border, it leaves the table and the number of every
+    /// namespace outside as they were (`inside`). The family is that namespace, what is copied from one of the family,
+    /// and the trees that are opened in one.
     pub fn apply(&mut self, command: &Command) -> Result<(Reply, SharedPosts), Fault>
         ensures done { IfOk result (λ done. answer self.old.journal command.now ≡ Ok done.0) }
         ensures posts { IfOk result (λ done. done.1 ≡ posts_of self.old.journal command.now) }
@@ -285,9 +286,9 @@ impl Book {
     /// Does commands one after another, and answers each as `apply` does, including those that it refuses. The call
     /// itself is refused only where there is no room for the answers.
     ///
-    /// Each command of the journal that was issued in a namespace made by `copyns` with `less`, over whose border no
-    /// command had brought mounts since, by a copy or by a tree, has left the table and the number of every other
-    /// namespace as they were (`inside`).
+    /// Each command of the journal that was issued in the family of a namespace made by `copyns` with `less`, over whose
+    /// border no command had attached a tree with a group or a master since, has left the table and the number of every
+    /// namespace outside as they were (`inside`).
     pub fn run(
         &mut self,
         commands: &[Command],

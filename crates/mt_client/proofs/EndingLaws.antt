@@ -13,14 +13,14 @@ use Rattle.mt_info.specs.RowLine.{line}
 use Rattle.mt_events.specs.Posts.{PostView, post_text, ended}
 use Rattle.mt_protocol.specs.declared.form.Form.{Form}
 use Rattle.mt_client.specs.declared.block.Block.{Block}
-use Rattle.mt_client.specs.declared.block.Block.TheVariants.{Namespace, Post}
+use Rattle.mt_client.specs.declared.block.Block.TheVariants.{Namespace, Post, Command}
 use Rattle.mt_client.specs.declared.opening.Heading.{Heading}
 use Rattle.mt_client.specs.Limits.{most_rows}
 use Rattle.mt_client.specs.Requests.{verdict, lines_behind, event_count, refuses, is_refusal}
 use Rattle.mt_client.specs.Reading.{texts, printed, ComeFirst, prepend_lines, HasRead, NoneFirst, AreSoMany, HasPassed, IsSentPart}
 use Rattle.mt_client.specs.Mirroring.{IsSentPost, heading_words, HasRefused}
 use Rattle.mt_client.specs.Awaited.{AreRowLines, IsPostBehind}
-use Rattle.mt_client.specs.Replies.{IsPartLines, IsPostLines, IsBlock, IsBlockOf, AreBlocks, AreBlockLines, AreBehind, IsHeaded, most_posts, IsEnding, IsFollowAnswer, IsAnswer}
+use Rattle.mt_client.specs.Replies.{IsPartLines, IsPostLines, IsCommandLines, IsBlock, IsBlockOf, AreBlocks, AreBlockLines, AreBehind, IsHeaded, most_posts, IsEnding, IsFollowAnswer, IsAnswer}
 use Rattle.mt_client.proofs.FollowLaws.{post_counted, printed_post, HasReadMore}
 use Rattle.mt_client.proofs.OpeningLaws.{first_taken, needs_line, heading_tells, few}
 use Rattle.mt_client.proofs.RowLaws.{no_rows}
@@ -28,8 +28,8 @@ use Rattle.mt_client.proofs.SeriesLaws.{Series, IsSeries, Came, came_cut, in_lin
 use Rattle.mt_client.proofs.RelayLaws.{come_prepended, none_from, first_alike, sent_whole, lines_alike}
 use Rattle.std.specs.Str.{bytes_eq}
 use Rattle.std.proofs.lemmas.Slice.Eq.{bytes_eq-Decides}
-use Rattle.mt_protocol.specs.declared.form.Form.TheVariants.{Done, Number, Place, Table, Opening, Posts, Followed, Never}
-use Rattle.mt_protocol.specs.Verbs.{first_of}
+use Rattle.mt_protocol.specs.declared.form.Form.TheVariants.{Done, Number, Place, Table, Opening, Posts, Commands, Followed, Never}
+use Rattle.mt_protocol.specs.Verbs.{first_of, has_command_verb}
 use Rattle.mt_lines.specs.declared.stream.Cut.{Cut}
 use Rattle.mt_lines.specs.declared.stream.Output.{Ghosts as OutputGhosts}
 use Rattle.mt_client.specs.Calls.{IsOut, IsOutInPart}
@@ -106,6 +106,16 @@ pub post_behind : (seen : List ℕ) (middle : Option (List Item)) → NoneFirst 
 post_behind seen middle none lines later k e =
     none (seen ∷ lines) later (record { first = seen; others = lines; post = k.0; all = refl; counted = post_counted seen lines k.0 k.1 k.2; valid = k.1; text = printed_post (seen ∷ lines) k.0 k.2 }) (ap (prepend_lines (seen ∷ [])) e)
 
+-- the line of a command, alone and behind none
+pub command_made : (seen : List ℕ) → has_command_verb seen ≡ true → (ls : List (List ℕ)) → ls ≡ seen ∷ [] → IsBlockOf Command 0 ls
+command_made seen is ls one = ((seen, is, one), ap length one)
+
+pub no_command : (seen : List ℕ) (middle : Option (List Item)) → has_command_verb seen ≡ false → NoneFirst IsCommandLines (prepend_lines (seen ∷ []) middle)
+no_command seen middle is lines later k e =
+    let t = first_taken later (come_prepended (seen ∷ []) middle) k.2 e in
+    let both : true ≡ false = sym k.1 ∙ ap has_command_verb t.0 ∙ is in
+    cc
+
 -- two blocks that come first have as many lines
 abbrev pub Alike : (List (List ℕ) → Type 0) → Type 0
 Alike kind = (g h : List (List ℕ)) (middle later : List Item) → kind g → kind h → texts g ++ middle ≡ texts h ++ later → length g ≡ length h
@@ -134,9 +144,14 @@ posts_alike g h middle later p q e =
     let second = ap length q.all in
     omega (arith, first, second, m)
 
+-- and so have two commands
+commands_alike : Alike IsCommandLines
+commands_alike g h middle later p q e = ap length p.2 ∙ sym (ap length q.2)
+
 pub blocks_alike : (block : Block) → Alike (IsBlock block)
 blocks_alike Namespace = parts_alike
 blocks_alike Post = posts_alike
+blocks_alike Command = commands_alike
 
 -- no block of a kind comes first where none does in the same lines
 pub block_read : (block read : Block) {xs : List (List ℕ)} {before middle : Option (List Item)} → read ≡ block → ComeFirst before xs middle → NoneFirst (IsBlock read) (prepend_lines xs middle) → NoneFirst (IsBlock block) before
@@ -146,6 +161,7 @@ block_read block read {xs} {before} is came none = subst (λ b. NoneFirst (IsBlo
 pub block_needs_line : (block : Block) (before : Option (List Item)) → NoneFirst (AreSoMany 1) before → NoneFirst (IsBlock block) before
 block_needs_line Namespace before none = needs_line (λ _ k. (_, _, k.all)) none
 block_needs_line Post before none = needs_line (λ _ k. (_, _, k.all)) none
+block_needs_line Command before none = needs_line (λ _ k. (_, _, k.2)) none
 
 -- blocks, and one more
 pub flat_more : (ls ms : List (List ℕ)) (blocks : List (List (List ℕ))) → ls ≡ flat_map (λ block. block) blocks → ls ++ ms ≡ flat_map (λ block. block) (blocks ++ ms ∷ [])
@@ -268,13 +284,14 @@ behind_none : (form : Form) → ((form ≡ Done) ⊎ ((form ≡ Number) ⊎ ((fo
 behind_none Table is count lines k = grind (arith, is)
 behind_none Opening is count lines k = grind (arith, is)
 behind_none Posts is count lines k = grind (arith, is)
+behind_none Commands is count lines k = grind (arith, is)
 behind_none form is count lines k = k.1
 
 pub behind_needs_none : (form : Form) → ((form ≡ Done) ⊎ ((form ≡ Number) ⊎ ((form ≡ Place) ⊎ ((form ≡ Followed) ⊎ (form ≡ Never))))) → (count : ℕ) (before : Option (List Item)) → count ≢ 0 → NoneFirst (AreBehind form count) before
 behind_needs_none form is count before other lines later k e = other (behind_none form is count lines k)
 
 -- every answer but that of posts that are followed is known by its first line
-pub heads : (form : Form) → ((form ≡ Done) ⊎ ((form ≡ Number) ⊎ ((form ≡ Place) ⊎ ((form ≡ Table) ⊎ ((form ≡ Opening) ⊎ ((form ≡ Posts) ⊎ (form ≡ Never))))))) → ◌≡◌ {A = List (List ℕ) → Bool → Type 0} (IsHeaded form) (IsAnswer form)
+pub heads : (form : Form) → ((form ≡ Done) ⊎ ((form ≡ Number) ⊎ ((form ≡ Place) ⊎ ((form ≡ Table) ⊎ ((form ≡ Opening) ⊎ ((form ≡ Posts) ⊎ ((form ≡ Commands) ⊎ (form ≡ Never)))))))) → ◌≡◌ {A = List (List ℕ) → Bool → Type 0} (IsHeaded form) (IsAnswer form)
 heads form is = grind (arith, is)
 
 -- a line that refuses tells `no`
@@ -298,6 +315,7 @@ refusal_answers Place line e = headed_refusal Place line (refl, refl) e
 refusal_answers Table line e = headed_refusal Table line no_rows.0 e
 refusal_answers Opening line e = headed_refusal Opening line (record { blocks = []; each = tt; all = refl }, refl) e
 refusal_answers Posts line e = headed_refusal Posts line (record { blocks = []; each = tt; all = refl }, refl) e
+refusal_answers Commands line e = headed_refusal Commands line (record { blocks = []; each = tt; all = refl }, refl) e
 refusal_answers Followed line e = record { posts = []; last = line; each = tt; all = refl; tells = refusal_tells line e; ends = e; bounded = omega arith }
 refusal_answers Never line e = headed_refusal Never line (refl, refl) e
 

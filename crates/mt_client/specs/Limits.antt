@@ -18,6 +18,10 @@ most_post_lines = 8192
 abbrev pub most_waiting_lines : ℕ
 most_waiting_lines = 8389632
 
+-- the commands that are listed
+abbrev pub most_listed : ℕ
+most_listed = 1024
+
 -- the namespaces
 abbrev pub most_spaces : ℕ
 most_spaces = 64

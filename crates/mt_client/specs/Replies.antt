@@ -1,4 +1,4 @@
--- Whole answers: a first line of the request's form or a refusal, and the rows, namespaces and posts that come with it.
+-- Whole answers: a first line of the request's form or a refusal, and the rows, namespaces, posts and commands that come with it.
 -- A word with no source is this project's rule.
 use Rattle.std.specs.Prelude.{◌≡◌, ℕ, ◌+◌, ◌<◌, ◌≤◌, ◌^◌, Bool, true, false, List, [], ◌∷◌, ◌++◌, length, Option, Some}
 use Rattle.std.specs.List.{flat_map, join_with_byte, AllByRecursion}
@@ -8,10 +8,11 @@ use Rattle.mt_info.specs.Laws.{IsRow}
 use Rattle.mt_info.specs.RowLine.{line}
 use Rattle.mt_info.specs.declared.row.Row.{Row}
 use Rattle.mt_events.specs.Posts.{PostView, post_text}
+use Rattle.mt_protocol.specs.Verbs.{has_command_verb}
 use Rattle.mt_protocol.specs.declared.form.Form.{Form}
-use Rattle.mt_protocol.specs.declared.form.Form.TheVariants.{Table, Locks, Opening, Posts, Followed}
+use Rattle.mt_protocol.specs.declared.form.Form.TheVariants.{Table, Locks, Opening, Posts, Commands, Followed}
 use Rattle.mt_client.specs.declared.block.Block.{Block}
-use Rattle.mt_client.specs.declared.block.Block.TheVariants.{Namespace, Post}
+use Rattle.mt_client.specs.declared.block.Block.TheVariants.{Namespace, Post, Command}
 use Rattle.mt_client.specs.Limits.{most_rows}
 use Rattle.mt_client.specs.Requests.{verdict, is_refusal, lines_behind, event_count}
 use Rattle.mt_client.specs.Reading.{printed}
@@ -43,9 +44,14 @@ pub record IsPostLines (lines : List (List ℕ)) : Type 0 where
   pub valid : IsSentPost post
   pub text : printed lines ≡ post_text post
 
+-- the line of a command
+abbrev pub IsCommandLines : List (List ℕ) → Type 0
+IsCommandLines lines = (line : List ℕ) × (has_command_verb line ≡ true) × (lines ≡ line ∷ [])
+
 abbrev pub IsBlock : Block → List (List ℕ) → Type 0
 IsBlock Namespace lines = IsPartLines lines
 IsBlock Post lines = IsPostLines lines
+IsBlock Command lines = IsCommandLines lines
 
 -- such lines, and how many stand behind the first
 abbrev pub IsBlockOf : Block → ℕ → List (List ℕ) → Type 0
@@ -57,7 +63,7 @@ pub record AreBlocks (kind : List (List ℕ) → Type 0) (lines : List (List ℕ
   pub each : AllByRecursion kind blocks
   pub all : lines ≡ flat_map (λ block. block) blocks
 
--- so many lines of namespaces, or of posts
+-- so many lines of namespaces, of posts, or of commands
 abbrev pub AreBlockLines : Block → ℕ → List (List ℕ) → Type 0
 AreBlockLines block count lines = AreBlocks (IsBlock block) lines × (length lines ≡ count)
 
@@ -67,6 +73,7 @@ AreBehind Table count lines = AreRowLines count lines
 AreBehind Locks count lines = AreLockLines count lines
 AreBehind Opening count lines = AreBlockLines Namespace count lines
 AreBehind Posts count lines = AreBlockLines Post count lines
+AreBehind Commands count lines = AreBlockLines Command count lines
 AreBehind form count lines = (lines ≡ []) × (count ≡ 0)
 
 -- a first line of this form, or a refusal, and the lines that come behind it

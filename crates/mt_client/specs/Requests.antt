@@ -6,11 +6,11 @@ use Rattle.std.specs.Option.{option_and_then}
 use Rattle.std.specs.Str.{bytes_eq}
 use Rattle.mt_skel.specs.Escapes.{escaped}
 use Rattle.mt_lines.specs.Words.{words, number_in_text}
-use Rattle.mt_client.specs.Limits.{most_rows, most_opening_lines, most_post_lines, most_waiting_lines, at_most}
+use Rattle.mt_client.specs.Limits.{most_rows, most_opening_lines, most_post_lines, most_waiting_lines, most_listed, at_most}
 use Rattle.mt_protocol.specs.Refusals.{refusal_named}
 use Rattle.mt_protocol.specs.Verbs.{first_of}
 use Rattle.mt_protocol.specs.declared.form.Form.{Form}
-use Rattle.mt_protocol.specs.declared.form.Form.TheVariants.{Done, Number, Place, Table, Locks, Opening, Posts, Followed, Never}
+use Rattle.mt_protocol.specs.declared.form.Form.TheVariants.{Done, Number, Place, Table, Locks, Opening, Posts, Commands, Followed, Never}
 
 -- the line of a request: its words with their escapes, between single spaces
 abbrev pub request_text : List (List ℕ) → List ℕ
@@ -70,6 +70,7 @@ lines_said Table words = table_count words
 lines_said Locks words = at_most most_rows (lone_number words)
 lines_said Opening words = at_most most_opening_lines (lone_number words)
 lines_said Posts words = at_most most_waiting_lines (lone_number words)
+lines_said Commands words = at_most most_listed (lone_number words)
 lines_said Followed words = None
 lines_said Never words = None
 

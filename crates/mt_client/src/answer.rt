@@ -3,7 +3,7 @@ ghost use Rattle.std.specs.Prelude.{◌≡◌};
 ghost use Rattle.mt_client.specs.Limits.{at_most};
 ghost use Rattle.mt_client.specs.Requests.{verdict, is_refusal, lone_number, placed_number, table_count, lines_said, lines_behind, waiting_count};
 
-use crate::opening::{MOST_LINES, MOST_ROWS, MOST_WAITING_LINES};
+use crate::opening::{MOST_LINES, MOST_LISTED, MOST_ROWS, MOST_WAITING_LINES};
 use mt_lines::words::{Words, number, words};
 use mt_protocol::form::{Form, first_word};
 use mt_protocol::refusal::refusal_named;
@@ -99,6 +99,7 @@ fn lines_said(form: Form, words: &mut Words<'_>) -> Option<u64>
         Form::Locks => at_most(MOST_ROWS, lone_number(words)),
         Form::Opening => at_most(MOST_LINES, lone_number(words)),
         Form::Posts => at_most(MOST_WAITING_LINES, lone_number(words)),
+        Form::Commands => at_most(MOST_LISTED, lone_number(words)),
         Form::Followed | Form::Never => None,
     }
 }

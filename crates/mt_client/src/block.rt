@@ -1,10 +1,10 @@
-//! The rows, namespaces and posts of an answer, which are printed once they are known for such.
+//! The rows, namespaces, posts and commands of an answer, which are printed once they are known for such.
 ghost use Rattle.std.specs.Prelude.{◌≡◌, ◌≢◌, [], ◌∷◌, None, Err, IfOk, IfErr, OnOk};
 ghost use Rattle.mt_lines.specs.Reading.{fault_of, last_line};
 ghost use Rattle.mt_client.specs.Calls.{IsPassFault, PassesOn};
 ghost use Rattle.mt_client.specs.Awaited.{IsRowAbove, AreRowLines};
 ghost use Rattle.mt_client.specs.Locked.{IsLockOf, IsLockAbove, AreLockLines};
-ghost use Rattle.mt_client.specs.Replies.{IsRowOf, IsPartLines, IsPostLines, IsBlock, IsBlockOf, AreBlockLines, AreBehind};
+ghost use Rattle.mt_client.specs.Replies.{IsRowOf, IsPartLines, IsPostLines, IsCommandLines, IsBlock, IsBlockOf, AreBlockLines, AreBehind};
 
 use crate::fault::ClientFault;
 use crate::opening::{MOST_ROWS, is_beyond, read_heading, row_above};
@@ -14,7 +14,7 @@ use mt_info::lock_line::read_lock_line;
 use mt_lines::line::LineReader;
 use mt_lines::stream::{Input, Output};
 use mt_mounts::mount::MountId;
-use mt_protocol::form::Form;
+use mt_protocol::form::{Form, has_command_verb};
 use mt_skel::list::is_above;
 use std::alloc::Global;
 
@@ -25,6 +25,8 @@ pub enum Block {
     Namespace,
     /// A line that begins a post, and the lines of the post.
     Post,
+    /// The line of a command.
+    Command,
 }
 
 /// The ID of the row of which a text is the line, where it is above the last one: refused as `Connection` where the text
@@ -162,7 +164,23 @@ pub(crate) fn pass_post<R: Input + Drop, O: Output>(
     Ok(count)
 }
 
-/// Reads a namespace or a post and prints its lines: how many stand behind its first one.
+/// Prints the line of a command, which the reader lends: none stands behind it.
+fn pass_command<R: Input + Drop, O: Output>(
+    lines: &mut LineReader<R>,
+    out: &mut O,
+) -> Result<u64, ClientFault>
+    requires fresh { fault_of lines.old ≡ None }
+    ensures passed { IfOk result (λ behind. PassesOn O.Output (last_line lines.old ∷ []) (IsBlockOf Block.Command behind) lines.old lines.new out.old out.new) }
+    ensures fault { IfErr result (λ fault. IsPassFault O.Output fault IsCommandLines (last_line lines.old ∷ []) lines.old lines.new out.old out.new) }
+{
+    if !has_command_verb(lines.line()) {
+        return Err(ClientFault::Connection);
+    }
+    print_line(out, lines.line())?;
+    Ok(0)
+}
+
+/// Reads a namespace, a post or a command and prints its lines: how many stand behind its first one.
 fn pass_block<R: Input + Drop, O: Output>(
     alloc: Global,
     lines: &mut LineReader<R>,
@@ -177,10 +195,11 @@ fn pass_block<R: Input + Drop, O: Output>(
     match block {
         Block::Namespace => pass_part(alloc, lines, out),
         Block::Post => pass_post(alloc, lines, out),
+        Block::Command => pass_command(lines, out),
     }
 }
 
-/// Reads so many lines of namespaces or of posts, and prints them.
+/// Reads so many lines of namespaces, of posts or of commands, and prints them.
 fn pass_blocks<R: Input + Drop, O: Output>(
     alloc: Global,
     lines: &mut LineReader<R>,
@@ -220,6 +239,7 @@ pub(crate) fn pass_behind<R: Input + Drop, O: Output>(
         Form::Locks => pass_locks(lines, count, out),
         Form::Opening => pass_blocks(alloc, lines, Block::Namespace, count, out),
         Form::Posts => pass_blocks(alloc, lines, Block::Post, count, out),
+        Form::Commands => pass_blocks(alloc, lines, Block::Command, count, out),
         Form::Done | Form::Number | Form::Place | Form::Followed | Form::Never => {
             if count == 0 {
                 Ok(())

@@ -36,6 +36,9 @@ pub(crate) const MOST_POST_LINES: u64 = 8_192;
 /// How many lines the posts have at most that wait: 1,024 posts, which is all that a queue holds, each with its first line.
 pub(crate) const MOST_WAITING_LINES: u64 = 8_389_632;
 
+/// How many commands are listed at once at most.
+pub(crate) const MOST_LISTED: u64 = 1_024;
+
 /// How many lines an opening has at most behind its first one: these rows, and one line for each of 64 namespaces.
 pub(crate) const MOST_LINES: u64 = 4_160;
 

@@ -167,6 +167,7 @@ pub(crate) fn pass_answer<R: Input + Drop, O: Output>(
         | Form::Locks
         | Form::Opening
         | Form::Posts
+        | Form::Commands
         | Form::Never => pass_headed(alloc, lines, form, out),
     }
 }

@@ -15,18 +15,21 @@ use Rattle.mt_info.proofs.WordLaws.{lacks, lacks_space, decimal-lacks, path-bare
 use Rattle.mt_events.specs.Mirrors.{MirrorView}
 use Rattle.mt_events.specs.Posts.{PostView, ended, post_lines, post_text}
 use Rattle.mt_events.specs.Texts.{count_text, table_text, posts_text, followed_text, lines_of_posts}
-use Rattle.mt_protocol.specs.Verbs.{first_of}
+use Rattle.mt_protocol.specs.Verbs.{first_of, verb_of, has_command_verb}
 use Rattle.mt_protocol.specs.declared.form.Form.{Form}
-use Rattle.mt_protocol.specs.declared.form.Form.TheVariants.{Done, Number, Place, Table, Opening, Posts, Followed, Never}
-use Rattle.mt_session.specs.Answers.{place_text}
+use Rattle.mt_protocol.specs.declared.form.Form.TheVariants.{Done, Number, Place, Table, Opening, Posts, Commands, Followed, Never}
+use Rattle.mt_book.specs.declared.command.Command.{Command}
+use Rattle.mt_book.specs.declared.command.Command.TheVariants.{MakeFs, MakeDir, NewSpace, CopySpace, DropSpace, Mount, MountWith, Bind, Move, Pivot, Unmount, Detach, SetAttr, OpenTree, NewTree, MoveTree}
+use Rattle.mt_requests.specs.Printed.{line_of_command, commands_text}
+use Rattle.mt_session.specs.Answers.{place_text, listed_text}
 use Rattle.mt_session.specs.Forms.{Refuses, HasForm}
-use Rattle.mt_client.specs.Limits.{most_rows, most_opening_lines, most_waiting_lines, at_most}
+use Rattle.mt_client.specs.Limits.{most_rows, most_opening_lines, most_waiting_lines, most_listed, at_most}
 use Rattle.mt_client.specs.Requests.{verdict, none_behind, behind_first, lines_said}
 use Rattle.mt_client.specs.Reading.{printed}
 use Rattle.mt_client.specs.Mirroring.{IsShown, IsSentPost, counted_line, part_lines}
 use Rattle.mt_client.specs.Finding.{parts_lines, found_lines, opening_found}
 use Rattle.mt_client.specs.Awaited.{AreRowLines}
-use Rattle.mt_client.specs.Replies.{IsPartLines, IsPostLines, AreBehind, IsHeaded, most_posts}
+use Rattle.mt_client.specs.Replies.{IsPartLines, IsPostLines, IsCommandLines, AreBehind, IsHeaded, most_posts}
 use Rattle.mt_client.proofs.RelayLaws.{printed-append}
 use Rattle.mt_client.proofs.OpeningLaws.{few, rows_text, found_is}
 use Rattle.mt_client.proofs.FollowLaws.{event_line, behind_lines, post_counted, printed_post}
@@ -160,6 +163,53 @@ taken_read posts s le =
       ap (λ k. count_text k ++ flat_map post_text posts) same ∙ ap (λ x. ended (counted_line n) ++ x) (sym (posts_printed posts)),
     )
 
+-- commands
+command_begins : (c : Command) → has_command_verb (line_of_command c) ≡ true
+unfolding line_of_command verb_of
+command_begins (Bind n src dst true) = refl
+command_begins (Bind n src dst false) = refl
+command_begins (MakeFs name kind source) = refl
+command_begins (MakeDir fs path) = refl
+command_begins (NewSpace fs) = refl
+command_begins (CopySpace n less) = refl
+command_begins (DropSpace n) = refl
+command_begins (Mount n fs path) = refl
+command_begins (MountWith n fs path set) = refl
+command_begins (Move n src dst) = refl
+command_begins (Pivot n new old) = refl
+command_begins (Unmount n path) = refl
+command_begins (Detach n path) = refl
+command_begins (SetAttr n path change) = refl
+command_begins (OpenTree n path recursive) = refl
+command_begins (NewTree fs) = refl
+command_begins (MoveTree tree n path) = refl
+
+abbrev alone : Command → List (List ℕ)
+alone c = line_of_command c ∷ []
+
+each_command : (cs : List Command) → AllByRecursion IsCommandLines (map alone cs)
+each_command [] = tt
+each_command (c ∷ cs) = ((line_of_command c, command_begins c, refl), each_command cs)
+
+commands_printed : (cs : List Command) → commands_text cs ≡ printed (flat_map alone cs)
+commands_printed [] = refl
+commands_printed (c ∷ cs) = ap (λ t. ended (line_of_command c) ++ t) (commands_printed cs)
+
+commands_many : (cs : List Command) → length (flat_map alone cs) ≡ length cs
+commands_many [] = refl
+commands_many (c ∷ cs) = ap (λ n. 1 + n) (commands_many cs)
+
+commands_read : (cs : List Command) → length cs ≤ most_listed → IsRead Commands (listed_text cs)
+commands_read cs le =
+    let n : ℕ = length cs in
+    let lt : n < 2 ^ 64 = omega (arith, le) in (
+      counted_line n ∷ flat_map alone cs,
+      true,
+      headed Commands (counted_line n) (decimal n ∷ []) (flat_map alone cs) n (counted_words n lt) (ap (at_most most_listed) (number_decimal n lt) ∙ within most_listed n le)
+          (record { blocks = map alone cs; each = each_command cs; all = groups alone cs }, commands_many cs),
+      ap (λ t. count_text n ++ t) (commands_printed cs),
+    )
+
 -- posts that are followed, and the line that ends them
 ended_by : (posts : List PostView) (last end : List ℕ) → end ≡ ended last → followed_text posts end ≡ printed (flat_map post_lines posts ++ last ∷ [])
 ended_by posts last end e = (λ i. sym (posts_printed posts) i ++ one_line end last e i) ∙ sym (printed-append (flat_map post_lines posts) (last ∷ []))
@@ -214,6 +264,7 @@ form_read Place text k = ((k.0, k.1, k.3), read_as Place k.3 (place_read k.0 k.1
 form_read Table text k = ((k.0.number, k.0.rows, k.2), read_as Table k.2 (table_read k.0 k.1))
 form_read Opening text k = ((opening_found k.0 k.1, k.4), (found_lines k.1, true, opening_read k.1 k.2 k.3, k.4 ∙ sym (found_is k.0 k.1)))
 form_read Posts text k = ((k.0, k.3), read_as Posts k.3 (taken_read k.0 k.1 k.2))
+form_read Commands text k = ((k.0, k.2), read_as Commands k.2 (commands_read k.0 k.1))
 form_read Followed text k = ((k.0, k.1, k.4, k.5), read_as Followed k.5 (followed_read k.0 k.1 k.2 k.3 k.4))
 form_read Never text k = absurd k
 

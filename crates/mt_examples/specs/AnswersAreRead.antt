@@ -3,20 +3,21 @@
 use Rattle.std.specs.Prelude.{◌≡◌, ◌⊎◌, ℕ, ◌<◌, ◌≤◌, ◌^◌, Bool, List, length}
 use Rattle.std.specs.List.{AllByRecursion}
 use Rattle.mt_protocol.specs.declared.form.Form.{Form}
-use Rattle.mt_protocol.specs.declared.form.Form.TheVariants.{Done, Number, Place, Table, Opening, Posts, Followed, Never}
+use Rattle.mt_protocol.specs.declared.form.Form.TheVariants.{Done, Number, Place, Table, Opening, Posts, Commands, Followed, Never}
 use Rattle.mt_events.specs.Mirrors.{MirrorView}
 use Rattle.mt_events.specs.Posts.{PostView}
 use Rattle.mt_events.specs.Texts.{count_text, table_text, opening_text, posts_text, followed_text, lines_of_posts}
 use Rattle.mt_events.specs.declared.opening.Scope.{Scope}
-use Rattle.mt_session.specs.Answers.{done_text, place_text}
+use Rattle.mt_book.specs.declared.command.Command.{Command}
+use Rattle.mt_session.specs.Answers.{done_text, place_text, listed_text}
 use Rattle.mt_session.specs.Forms.{Refuses, HasForm}
-use Rattle.mt_client.specs.Limits.{most_opening_lines, most_waiting_lines}
+use Rattle.mt_client.specs.Limits.{most_opening_lines, most_waiting_lines, most_listed}
 use Rattle.mt_client.specs.Reading.{printed}
 use Rattle.mt_client.specs.Mirroring.{IsShown, IsSentPost}
 use Rattle.mt_client.specs.Finding.{parts_lines, opening_found}
 use Rattle.mt_client.specs.Replies.{most_posts, IsAnswer}
 
--- the text of an answer of this form, of numbers of 64 bits, and of no more rows and posts than a server has
+-- the text of an answer of this form, of numbers of 64 bits, and of no more rows, posts and commands than a server tells at once
 abbrev pub IsOfServer : Form → List ℕ → Type 0
 IsOfServer Done text = text ≡ done_text
 IsOfServer Number text = (n : ℕ) × (n < 2 ^ 64) × (text ≡ count_text n)
@@ -24,6 +25,7 @@ IsOfServer Place text = (mount : ℕ) × (names : List (List ℕ)) × (mount < 2
 IsOfServer Table text = (m : MirrorView) × IsShown m × (text ≡ table_text m.number m.rows)
 IsOfServer Opening text = (scope : Scope) × (parts : List MirrorView) × AllByRecursion IsShown parts × (length (parts_lines parts) ≤ most_opening_lines) × (text ≡ opening_text (opening_found scope parts))
 IsOfServer Posts text = (posts : List PostView) × AllByRecursion IsSentPost posts × (lines_of_posts posts ≤ most_waiting_lines) × (text ≡ posts_text posts)
+IsOfServer Commands text = (commands : List Command) × (length commands ≤ most_listed) × (text ≡ listed_text commands)
 IsOfServer Followed text =
     (posts : List PostView) × (end : List ℕ) × AllByRecursion IsSentPost posts × (length posts < most_posts) × ((end ≡ count_text (length posts)) ⊎ Refuses end) × (text ≡ followed_text posts end)
 IsOfServer Never text = ⊥

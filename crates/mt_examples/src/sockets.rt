@@ -9,7 +9,7 @@ use mt_lines::line::LineReader;
 use mt_lines::memory::Sink;
 use mt_lines::stream::{Input, Reading, Writing};
 use mt_lines::words::{Pieces, words};
-use mt_server::server::{Door, Premises, ServerFault, run_server};
+use mt_server::server::{Door, ServerFault, ServerSetup, run_server};
 use mt_session::bell::Bell;
 use mt_session::gate::Gate;
 use mt_skel::fault::Fault;
@@ -116,7 +116,7 @@ where
     }
     let desk: Mutex<Desk<J>> = Mutex::new(desk);
     let bell = Bell::new();
-    let premises = Premises {
+    let setup = ServerSetup {
         listener,
         path: path.as_str(),
         desk: &desk,
@@ -127,10 +127,10 @@ where
         gate,
     };
     if plan.fails {
-        let (_, answer) = run_server(rt, alloc, Failing, premises);
+        let (_, answer) = run_server(rt, alloc, Failing, setup);
         return ended_by(answer);
     }
-    let (_, answer) = run_server(rt, alloc, listener, premises);
+    let (_, answer) = run_server(rt, alloc, listener, setup);
     ended_by(answer)
 }
 

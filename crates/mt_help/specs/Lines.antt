@@ -5,7 +5,7 @@ use Rattle.mt_skel.specs.declared.fault.Fault.{Fault}
 use Rattle.mt_skel.specs.declared.fault.Fault.TheVariants.{BadAttr, Busy, Detached, EntryExists, FilesystemExists, IntoItself, Lagged, Locked, LockedAttr, LockedInside, NoEntry, NoFilesystem, NoNamespace, NoWatcher, NotDetached, NotMountRoot, RootPlace, SharedParent, Stopped, TooMany, TooManyWatchers, Unbindable, UnbindableInside, WatcherOpen}
 use Rattle.mt_protocol.specs.Verbs.{verb_form, is_command}
 use Rattle.mt_protocol.specs.declared.form.Form.{Form}
-use Rattle.mt_protocol.specs.declared.form.Form.TheVariants.{Done, Number, Place, Table, Locks, Opening, Posts, Followed, Never}
+use Rattle.mt_protocol.specs.declared.form.Form.TheVariants.{Done, Number, Place, Table, Locks, Opening, Posts, Commands, Followed, Never}
 use Rattle.mt_protocol.specs.declared.verb.Verb.{Verb}
 use Rattle.mt_protocol.specs.declared.verb.Verb.TheVariants as verb
 use Rattle.mt_help.specs.declared.page.RefusalSaid.{RefusalSaid}
@@ -33,6 +33,7 @@ example_of verb.Movetree = codes "movetree 2 1 /mnt"
 example_of verb.Show = codes "show 1"
 example_of verb.Locks = codes "locks 2"
 example_of verb.Find = codes "find 1 /media/old"
+example_of verb.Journal = codes "journal 1 8"
 example_of verb.Watch = codes "watch all"
 example_of verb.Take = codes "take 8"
 example_of verb.Follow = codes "follow 1"
@@ -61,6 +62,7 @@ refusals_of verb.Movetree = NoNamespace ∷ NotDetached ∷ NoEntry ∷ RootPlac
 refusals_of verb.Show = NoNamespace ∷ []
 refusals_of verb.Locks = NoNamespace ∷ []
 refusals_of verb.Find = NoNamespace ∷ NoEntry ∷ []
+refusals_of verb.Journal = []
 refusals_of verb.Watch = WatcherOpen ∷ NoNamespace ∷ TooManyWatchers ∷ Stopped ∷ []
 refusals_of verb.Take = NoWatcher ∷ Lagged ∷ Stopped ∷ []
 refusals_of verb.Follow = NoWatcher ∷ Lagged ∷ Stopped ∷ []
@@ -77,6 +79,7 @@ answer_said Table = codes "ok, the count of the rows and the number of the last 
 answer_said Locks = codes "ok and a count of mounts, and of each its ID and what is locked of it"
 answer_said Opening = codes "ok and a count of lines, and as many: of each namespace a heading and its rows"
 answer_said Posts = codes "ok and a count of posts, and their lines"
+answer_said Commands = codes "ok and a count of commands, and the line of each"
 answer_said Followed = codes "the lines of posts as they come, and then ok and how many posts they are"
 answer_said Never = []
 

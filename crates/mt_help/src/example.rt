@@ -28,6 +28,7 @@ pub fn example_of(verb: Verb) -> &'static str
         Verb::Show => "show 1",
         Verb::Locks => "locks 2",
         Verb::Find => "find 1 /media/old",
+        Verb::Journal => "journal 1 8",
         Verb::Watch => "watch all",
         Verb::Take => "take 8",
         Verb::Follow => "follow 1",

@@ -22,6 +22,7 @@ pub fn answer_said(form: Form) -> &'static str
         Form::Opening =>
             "ok and a count of lines, and as many: of each namespace a heading and its rows",
         Form::Posts => "ok and a count of posts, and their lines",
+        Form::Commands => "ok and a count of commands, and the line of each",
         Form::Followed =>
             "the lines of posts as they come, and then ok and how many posts they are",
         Form::Never => "",
@@ -37,6 +38,7 @@ pub fn note_of(verb: Verb) -> &'static str
         Verb::Show
         | Verb::Locks
         | Verb::Find
+        | Verb::Journal
         | Verb::Watch
         | Verb::Take
         | Verb::Follow

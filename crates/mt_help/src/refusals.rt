@@ -113,7 +113,7 @@ pub fn refusals_of(verb: Verb) -> &'static [Fault]
         ],
         Verb::Take | Verb::Follow => &[Fault::NoWatcher, Fault::Lagged, Fault::Stopped],
         Verb::Close => &[Fault::NoWatcher],
-        Verb::Quit | Verb::Stop => &[],
+        Verb::Journal | Verb::Quit | Verb::Stop => &[],
     }
 }
 

@@ -1,5 +1,5 @@
--- Where nothing changes outside a namespace, the tables of all others stay.
-use Rattle.std.proofs.Common.{◌≡◌, ◌≢◌, ℕ, eqb-true, eq-eqb, map, Some, refl, sym, ap, ◌∙◌}
+-- Where nothing changes outside a family of namespaces, the tables of all others stay.
+use Rattle.std.proofs.Common.{◌≡◌, ℕ, Bool, false, eqb-true, eq-eqb, map, Some, refl, ap, ◌∙◌}
 use Rattle.mt_skel.specs.Skeleton.{directory, filesystem}
 use Rattle.mt_skel.proofs.ElementLaws.{in_filter, in_row}
 use Rattle.mt_mounts.specs.declared.mount.Mount.{Mount}
@@ -15,7 +15,7 @@ use Rattle.mt_info.proofs.RowPaths.{row_alike}
 use Rattle.mt_info.proofs.PointLaws.{parent_there}
 use Rattle.mt_info.proofs.AlikeLaws.{same_point}
 
-module _ (n : ℕ) (w v : WorldView) (h : IsWellFormed w) (g : IsWellFormed v) (c : IsContained n w) (o : IsSameOutside n w v) (k : ℕ) (off : k ≢ n) where
+module _ (family : ℕ → Bool) (w v : WorldView) (h : IsWellFormed w) (g : IsWellFormed v) (c : IsContained family w) (o : IsSameOutside family w v) (k : ℕ) (off : family k ≡ false) where
   -- a mount of the namespace, in both worlds
   abbrev Here : ℕ → Type 0
   Here i = (m : Mount) × (mount_at w.forest i ≡ Some m) × (mount_at v.forest i ≡ Some m) × (m.space ≡ k)
@@ -26,11 +26,11 @@ module _ (n : ℕ) (w v : WorldView) (h : IsWellFormed w) (g : IsWellFormed v) (
 
   same_row : (m : Mount) → mount_at w.forest m.id ≡ Some m → m.space ≡ k → row_of v m ≡ row_of w m
   same_row m e space =
-      let out = λ (same : m.space ≡ n). off (sym space ∙ same) in
+      let out : family m.space ≡ false = ap family space ∙ off in
       row_alike v w m (λ i. directory (o.skel i) m.root) (λ i. filesystem (o.skel i) (directory (o.skel i) m.root).fs)
       (same_point v w g h o.skel Here (λ i x. (x.0, x.0, x.2, x.1, refl, refl))
       (λ i j x up. let q = parent_there w h i j x.0 x.1 up in here j q.0 q.1 (q.2 ∙ x.3)) m.id (here m.id m e space))
-      (o.states m.id m e out) (tag-outside n w v h g c o m.id m e out)
+      (o.states m.id m e out) (tag-outside family w v h g c o m.id m e out)
 
   pub same_table : table_of v k ≡ table_of w k
   same_table =

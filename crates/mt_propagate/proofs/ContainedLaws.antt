@@ -1,6 +1,8 @@
--- A contained namespace is one whose mounts are with all that receive from them.
-use Rattle.std.proofs.Common.{◌≡◌, ◌≢◌, ℕ, Bool, true, List, Some, None, Result, Ok, Err, refl, sym, ap, ◌∙◌, subst, length}
+-- A contained family of namespaces is one whose mounts are with all that receive from them.
+use Rattle.std.proofs.Common.{◌≡◌, ℕ, ◌<◌, Bool, true, false, List, Option, Some, None, Result, Ok, Err, refl, sym, ap, ◌∙◌, subst, length, arith}
 use Rattle.std.specs.Prelude.{unwrap_or}
+use Rattle.std.specs.Option.{option_map}
+use Rattle.std.proofs.lemmas.Bool.{true≢false}
 use Rattle.mt_skel.specs.Keyed.{rises}
 use Rattle.mt_skel.specs.declared.fault.Fault.{Fault}
 use Rattle.mt_skel.specs.Outcome.{refusal_of}
@@ -29,15 +31,15 @@ use Rattle.mt_propagate.proofs.ShownLaws.{grouped-state, slave-state, mount-stat
 pub master-is : (w : WorldView) (i g : ℕ) (s : State) → state_at w.peering.peers i ≡ Some s → s.master ≡ Some g → (state_of w i).master ≡ Some g
 master-is w i g s e is = ap (λ o. (unwrap_or o private).master) e ∙ is
 
--- a namespace is contained where its mounts are with all that receive from them, and only there
-pub closed : (n : ℕ) (w : WorldView) → IsContained n w → IsClosed (λ i. space_of w i ≡ n) w.peering.peers
-closed n w c = record {
+-- a family is contained where its mounts are with all that receive from them, and only there
+pub closed : (family : ℕ → Bool) (w : WorldView) → IsContained family w → IsClosed (λ i. family (space_of w i) ≡ true) w.peering.peers
+closed family w c = record {
   groups = λ i j s t g es et gs gt q. c.groups j i g (state-group w j g t et gt) (state-group w i g s es gs) q;
   masters = λ i j s t g es et ms gt q. c.chains i j g g (master-is w i g s es ms) (state-group w j g t et gt) q (reaches-self w.peering.peers g);
 }
 
-pub contained : (n : ℕ) (w : WorldView) → rises mount_of w.peering.peers ≡ true → IsClosed (λ i. space_of w i ≡ n) w.peering.peers → IsContained n w
-contained n w r a = record {
+pub contained : (family : ℕ → Bool) (w : WorldView) → rises mount_of w.peering.peers ≡ true → IsClosed (λ i. family (space_of w i) ≡ true) w.peering.peers → IsContained family w
+contained family w r a = record {
   groups = λ i j g ei ej q.
       let s = grouped-state w i g ei in
       let t = grouped-state w j g ej in
@@ -45,33 +47,54 @@ contained n w r a = record {
   chains = λ i j m g ei ej q far.
       let s = slave-state w i m ei in
       let t = grouped-state w j g ej in
-      reached (λ i. space_of w i ≡ n) w.peering.peers r a i j m g s.0 t.0 s.1 t.1 s.2 t.2 q far;
+      reached (λ i. family (space_of w i) ≡ true) w.peering.peers r a i j m g s.0 t.0 s.1 t.1 s.2 t.2 q far;
+}
+
+-- each namespace that a mount is in was given out
+pub space_low : (w : WorldView) → IsWellFormed w → (i : ℕ) → space_of w i < w.next_space
+space_low w h i = go (mount_at w.forest i) refl
+  where
+    go : (o : Option Mount) → mount_at w.forest i ≡ o → space_of w i < w.next_space
+    go None e =
+        let zero : space_of w i ≡ 0 = ap (λ (o : Option Mount). unwrap_or (option_map (λ (m : Mount). m.space) o) 0) e in
+        let one = h.from_one in
+        omega (arith, zero, one.1)
+    go (Some m) e =
+        let low = h.below i m e in
+        let is = space_is w i m e in
+        omega (arith, low.3, is)
+
+-- of two families that agree on the namespaces of all mounts, one is contained where the other is
+pub alike_contained : (f g : ℕ → Bool) (w : WorldView) → ((i : ℕ) → f (space_of w i) ≡ g (space_of w i)) → IsContained f w → IsContained g w
+alike_contained f g w same c = record {
+  groups = λ i j x ei ej q. sym (same j) ∙ c.groups i j x ei ej (same i ∙ q);
+  chains = λ i j m x ei ej q far. sym (same i) ∙ c.chains i j m x ei ej (same j ∙ q) far;
 }
 
 -- where mounts leave, and the others stay in their namespaces
-pub left-contained : (n : ℕ) (w v : WorldView) → IsWellFormed w → IsContained n w → (gone : ℕ → Bool) → v.peering ≡ left gone w.peering → ((i : ℕ) (s : State) → state_at v.peering.peers i ≡ Some s → space_of v i ≡ space_of w i)
-    → rises mount_of v.peering.peers ≡ true → IsContained n v
-left-contained n w v h c gone is spaces rising =
-    contained n v rising
-    (same-IsClosed (λ i. space_of w i ≡ n) (λ i. space_of v i ≡ n) v.peering.peers (λ i s e. let same = spaces i s e in (λ q. same ∙ q, λ q. sym same ∙ q))
-    (subst (λ (p : Peering). IsClosed (λ i. space_of w i ≡ n) p.peers) (sym is) (left-IsClosed (λ i. space_of w i ≡ n) w.peering h.peering (closed n w c) gone)))
+pub left-contained : (family : ℕ → Bool) (w v : WorldView) → IsWellFormed w → IsContained family w → (gone : ℕ → Bool) → v.peering ≡ left gone w.peering → ((i : ℕ) (s : State) → state_at v.peering.peers i ≡ Some s → space_of v i ≡ space_of w i)
+    → rises mount_of v.peering.peers ≡ true → IsContained family v
+left-contained family w v h c gone is spaces rising =
+    contained family v rising
+    (same-IsClosed (λ i. family (space_of w i) ≡ true) (λ i. family (space_of v i) ≡ true) v.peering.peers (λ i s e. let same = spaces i s e in (λ q. ap family same ∙ q, λ q. ap family (sym same) ∙ q))
+    (subst (λ (p : Peering). IsClosed (λ i. family (space_of w i) ≡ true) p.peers) (sym is) (left-IsClosed (λ i. family (space_of w i) ≡ true) w.peering h.peering (closed family w c) gone)))
 
--- the state of a mount outside stays where mounts of the namespace alone leave
-pub left-state : (n : ℕ) (w : WorldView) → IsWellFormed w → IsContained n w → (gone : ℕ → Bool) → ((i : ℕ) → gone i ≡ true → space_of w i ≡ n)
-    → (i : ℕ) (m : Mount) → mount_at w.forest i ≡ Some m → m.space ≢ n → unwrap_or (state_at (left gone w.peering).peers i) private ≡ state_of w i
-left-state n w h c gone within i m e off =
+-- the state of a mount outside stays where mounts of the family alone leave
+pub left-state : (family : ℕ → Bool) (w : WorldView) → IsWellFormed w → IsContained family w → (gone : ℕ → Bool) → ((i : ℕ) → gone i ≡ true → family (space_of w i) ≡ true)
+    → (i : ℕ) (m : Mount) → mount_at w.forest i ≡ Some m → family m.space ≡ false → unwrap_or (state_at (left gone w.peering).peers i) private ≡ state_of w i
+left-state family w h c gone within i m e off =
     let s = mount-state w.forest w.peering.peers i m h.same_mounts e in
-    ap (λ o. unwrap_or o private) (left-outside (λ i. space_of w i ≡ n) w.peering h.peering (closed n w c) gone within i s.0 s.1 (λ q. off (sym (space_is w i m e) ∙ q)) ∙ sym s.1)
+    ap (λ o. unwrap_or o private) (left-outside (λ i. family (space_of w i) ≡ true) w.peering h.peering (closed family w c) gone within i s.0 s.1 (λ q. true≢false (sym q ∙ ap family (space_is w i m e) ∙ off)) ∙ sym s.1)
 
 -- and where they alone are made of a kind
-pub made-contained : (n : ℕ) (w : WorldView) → IsWellFormed w → IsContained n w → (k : Kind) (chosen : ℕ → Bool) → IsClosed (λ i. space_of w i ≡ n) (made k chosen w.peering).peers
-made-contained n w h c k chosen = made-IsClosed (λ i. space_of w i ≡ n) w.peering h.peering (closed n w c) k chosen
+pub made-contained : (family : ℕ → Bool) (w : WorldView) → IsWellFormed w → IsContained family w → (k : Kind) (chosen : ℕ → Bool) → IsClosed (λ i. family (space_of w i) ≡ true) (made k chosen w.peering).peers
+made-contained family w h c k chosen = made-IsClosed (λ i. family (space_of w i) ≡ true) w.peering h.peering (closed family w c) k chosen
 
-pub made-state : (n : ℕ) (w : WorldView) → IsWellFormed w → IsContained n w → (k : Kind) (chosen : ℕ → Bool) → ((i : ℕ) → chosen i ≡ true → space_of w i ≡ n)
-    → (i : ℕ) (m : Mount) → mount_at w.forest i ≡ Some m → m.space ≢ n → unwrap_or (state_at (made k chosen w.peering).peers i) private ≡ state_of w i
-made-state n w h c k chosen within i m e off =
+pub made-state : (family : ℕ → Bool) (w : WorldView) → IsWellFormed w → IsContained family w → (k : Kind) (chosen : ℕ → Bool) → ((i : ℕ) → chosen i ≡ true → family (space_of w i) ≡ true)
+    → (i : ℕ) (m : Mount) → mount_at w.forest i ≡ Some m → family m.space ≡ false → unwrap_or (state_at (made k chosen w.peering).peers i) private ≡ state_of w i
+made-state family w h c k chosen within i m e off =
     let s = mount-state w.forest w.peering.peers i m h.same_mounts e in
-    ap (λ o. unwrap_or o private) (made-outside (λ i. space_of w i ≡ n) w.peering h.peering (closed n w c) chosen within k i s.0 s.1 (λ q. off (sym (space_is w i m e) ∙ q)) ∙ sym s.1)
+    ap (λ o. unwrap_or o private) (made-outside (λ i. family (space_of w i) ≡ true) w.peering h.peering (closed family w c) chosen within k i s.0 s.1 (λ q. true≢false (sym q ∙ ap family (space_is w i m e) ∙ off)) ∙ sym s.1)
 
 -- what is below a mount is in its namespace
 pub below-space : (w : WorldView) → IsWellFormed w → (i j : ℕ) (m : Mount) → mount_at w.forest j ≡ Some m → is_below w.forest i j ≡ true → space_of w i ≡ m.space

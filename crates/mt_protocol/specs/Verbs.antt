@@ -8,12 +8,12 @@ use Rattle.mt_lines.specs.Words.{words}
 use Rattle.mt_protocol.specs.declared.argument.Argument.{Argument}
 use Rattle.mt_protocol.specs.declared.argument.Argument.TheVariants.{Space, Scope, Count, Label, Path, Less, Lock, Recursive, Attributes, Setting}
 use Rattle.mt_protocol.specs.declared.form.Form.{Form}
-use Rattle.mt_protocol.specs.declared.form.Form.TheVariants.{Done, Number, Place, Table, Locks as LocksForm, Opening, Posts, Followed, Never}
+use Rattle.mt_protocol.specs.declared.form.Form.TheVariants.{Done, Number, Place, Table, Locks as LocksForm, Opening, Posts, Commands, Followed, Never}
 use Rattle.mt_protocol.specs.declared.verb.Verb.{Verb}
-use Rattle.mt_protocol.specs.declared.verb.Verb.TheVariants.{Mkfs, Mkdir, Newns, Copyns, Dropns, Mount, Bind, Rbind, Move, Pivot, Umount, Detach, Setattr, Opentree, Newtree, Movetree, Show, Locks, Find, Watch, Take, Follow, Close, Quit, Stop}
+use Rattle.mt_protocol.specs.declared.verb.Verb.TheVariants.{Mkfs, Mkdir, Newns, Copyns, Dropns, Mount, Bind, Rbind, Move, Pivot, Umount, Detach, Setattr, Opentree, Newtree, Movetree, Show, Locks, Find, Journal, Watch, Take, Follow, Close, Quit, Stop}
 use Rattle.mt_protocol.specs.Rows.{VerbRow}
 
--- the most posts of one `take`, and of one `follow`
+-- the most posts of one `take`, and commands of one `journal`; and the most posts of one `follow`
 abbrev pub most_taken : ℕ
 most_taken = 1024
 
@@ -27,7 +27,7 @@ command word arguments form = record { word = word; arguments = arguments; form 
 abbrev other : List ℕ → List Argument → Form → VerbRow
 other word arguments form = record { word = word; arguments = arguments; form = form; command = false }
 
--- the table; arguments that may be left out are the last
+-- the table; arguments that may be left out are the last, and a `journal` begins at any number but 0
 abbrev pub verb_row : Verb → VerbRow
 verb_row Mkfs = command (codes "mkfs") (Label ∷ Label ∷ Label ∷ []) Number
 verb_row Mkdir = command (codes "mkdir") (Label ∷ Path ∷ []) Done
@@ -48,6 +48,7 @@ verb_row Movetree = command (codes "movetree") (Space ∷ Space ∷ Path ∷ [])
 verb_row Show = other (codes "show") (Space ∷ []) Table
 verb_row Locks = other (codes "locks") (Space ∷ []) LocksForm
 verb_row Find = other (codes "find") (Space ∷ Path ∷ []) Place
+verb_row Journal = other (codes "journal") (Count 18446744073709551615 ∷ Count most_taken ∷ []) Commands
 verb_row Watch = other (codes "watch") (Scope ∷ []) Opening
 verb_row Take = other (codes "take") (Count most_taken ∷ []) Posts
 verb_row Follow = other (codes "follow") (Count most_followed ∷ []) Followed
@@ -82,7 +83,7 @@ is_optional argument = false
 
 -- every verb
 abbrev pub verbs : List Verb
-verbs = Mkfs ∷ Mkdir ∷ Newns ∷ Copyns ∷ Dropns ∷ Mount ∷ Bind ∷ Rbind ∷ Move ∷ Pivot ∷ Umount ∷ Detach ∷ Setattr ∷ Opentree ∷ Newtree ∷ Movetree ∷ Show ∷ Locks ∷ Find ∷ Watch ∷ Take ∷ Follow ∷ Close ∷ Quit ∷ Stop ∷ []
+verbs = Mkfs ∷ Mkdir ∷ Newns ∷ Copyns ∷ Dropns ∷ Mount ∷ Bind ∷ Rbind ∷ Move ∷ Pivot ∷ Umount ∷ Detach ∷ Setattr ∷ Opentree ∷ Newtree ∷ Movetree ∷ Show ∷ Locks ∷ Find ∷ Journal ∷ Watch ∷ Take ∷ Follow ∷ Close ∷ Quit ∷ Stop ∷ []
 
 -- the verb of a word, if it is that of one
 unfoldable pub verb_of : List ℕ → Option Verb
@@ -96,3 +97,7 @@ first_of (word ∷ words) = word
 -- which lines answer a line that is not refused, by its first word
 abbrev pub form_of : List ℕ → Form
 form_of line = option_map_or verb_form (verb_of (first_of (words line))) Never
+
+-- the first word of a line is that of a command
+abbrev pub has_command_verb : List ℕ → Bool
+has_command_verb line = option_map_or is_command (verb_of (first_of (words line))) false

@@ -9,7 +9,7 @@ pub enum Argument {
     Space,
     /// The number of a namespace, or `all`.
     Scope,
-    /// How many posts, from 1 to so many.
+    /// How many posts or commands, or the number of a command, from 1 to so many.
     Count(u64),
     /// The name, the type or the source of a filesystem.
     Label,

@@ -1,7 +1,7 @@
 //! The forms of answers.
 ghost use Rattle.std.specs.Prelude.{◌≡◌};
 ghost use Rattle.mt_lines.specs.Words.{words};
-ghost use Rattle.mt_protocol.specs.Verbs.{first_of, form_of};
+ghost use Rattle.mt_protocol.specs.Verbs.{first_of, form_of, has_command_verb};
 
 use crate::verb::Verb;
 use mt_lines::words::words;
@@ -23,6 +23,8 @@ pub enum Form {
     Opening,
     /// `ok` and a count, and as many lines as it says, of posts.
     Posts,
+    /// `ok` and a count, and as many lines as it says, of commands.
+    Commands,
     /// Posts, and behind them `ok` and how many they are, or a refusal.
     Followed,
     /// None: what has no verb is refused.
@@ -46,5 +48,15 @@ pub fn form_of(line: &[u8]) -> Form
     match Verb::of(first_word(line)) {
         Some(verb) => verb.form(),
         None => Form::Never,
+    }
+}
+
+/// Whether the first word of a line is that of a command.
+pub fn has_command_verb(line: &[u8]) -> bool
+    ensures { result ≡ has_command_verb line.now }
+{
+    match Verb::of(first_word(line)) {
+        Some(verb) => verb.is_command(),
+        None => false,
     }
 }

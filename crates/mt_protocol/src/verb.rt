@@ -9,7 +9,7 @@ use crate::argument::Argument::{
     Attributes, Count, Label, Less, Lock, Path, Recursive, Scope, Setting, Space,
 };
 use crate::form::Form;
-use crate::form::Form::{Done, Followed, Locks, Number, Opening, Place, Posts, Table};
+use crate::form::Form::{Commands, Done, Followed, Locks, Number, Opening, Place, Posts, Table};
 use std::marker::Model;
 
 /// What the first word of a line asks for.
@@ -53,6 +53,8 @@ pub enum Verb {
     Locks,
     /// `find` says where a path ends.
     Find,
+    /// `journal` lists accepted commands.
+    Journal,
     /// `watch` begins a watcher.
     Watch,
     /// `take` takes posts that wait.
@@ -88,6 +90,7 @@ pub const VERBS: [Verb; 25] = [
     Verb::Show,
     Verb::Locks,
     Verb::Find,
+    Verb::Journal,
     Verb::Watch,
     Verb::Take,
     Verb::Follow,
@@ -260,6 +263,10 @@ impl Verb {
             Verb::Find => other(b"find", &[Space, Path], Place).says(
                 "find NS PATH",
                 "says on which mount and directory a path ends",
+            ),
+            Verb::Journal => other(b"journal", &[Count(u64::MAX), Count(1_024)], Commands).says(
+                "journal FROM K",
+                "lists at most K commands that were accepted, from that number on, as lines that can be sent again",
             ),
             Verb::Watch => other(b"watch", &[Scope], Opening).says(
                 "watch NS, watch all",

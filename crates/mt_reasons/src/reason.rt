@@ -35,7 +35,7 @@ pub enum Reason<'a> {
     Scope {
         word: &'a [u8],
     },
-    /// A count is not within its bounds.
+    /// A count, or the number of a command, is not within its bounds.
     Range {
         word: &'a [u8],
         most: u64,
@@ -135,6 +135,14 @@ impl<'a> Reason<'a> {
             Reason::Scope { word } => write!(
                 f,
                 "{}: NS is all, or a number, digits without a leading zero, below 18446744073709551616",
+                Shown(*word)
+            ),
+            Reason::Range {
+                word,
+                most: u64::MAX,
+            } => write!(
+                f,
+                "{}: FROM is a number from 1 on, below 18446744073709551616",
                 Shown(*word)
             ),
             Reason::Range { word, most } => {

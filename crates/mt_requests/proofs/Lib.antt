@@ -1,5 +1,10 @@
 pub mod CountLaws
 pub mod FaultLaws
+pub mod ListingLaws
 pub mod OptionLaws
 pub mod PathLaws
+pub mod PrintLaws
+pub mod SaidLaws
+pub mod SentLaws
+pub mod SentWordLaws
 pub mod TextLaws

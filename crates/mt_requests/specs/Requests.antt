@@ -176,6 +176,7 @@ request_with verb.Movetree w = request.Run (command.MoveTree (number_said (first
 request_with verb.Show w = request.Ask (query.Show (number_said (first_of w)))
 request_with verb.Locks w = request.Ask (query.Locks (number_said (first_of w)))
 request_with verb.Find w = request.Ask (query.Find (number_said (first_of w)) (path_names (second_of w)))
+request_with verb.Journal w = request.Ask (query.Journal (number_said (first_of w)) (number_said (second_of w)))
 request_with verb.Watch w = request.Watch (scope_said (first_of w))
 request_with verb.Take w = request.Take (number_said (first_of w))
 request_with verb.Follow w = request.Follow (number_said (first_of w))
@@ -239,6 +240,7 @@ abbrev pub query_verb : Query → Verb
 query_verb (query.Show n) = verb.Show
 query_verb (query.Locks n) = verb.Locks
 query_verb (query.Find n path) = verb.Find
+query_verb (query.Journal from most) = verb.Journal
 
 abbrev pub request_verb : Request → Verb
 request_verb (request.Run c) = command_verb c

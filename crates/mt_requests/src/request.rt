@@ -25,6 +25,9 @@ pub enum Query {
     Locks(u64),
     /// `find NS PATH` says where a path ends in a namespace.
     Find { space: u64, path: Names },
+    /// `journal FROM K` lists up to so many accepted commands, 1 to 1,024, from the one of a number on. The first has
+    /// number 1.
+    Journal { from: u64, most: u64 },
 }
 
 /// What a line asks for.
@@ -171,6 +174,10 @@ fn request_with(alloc: Global, verb: Verb, words: Words<'_>) -> Result<Request, 
         Verb::Find => Ok(Request::Ask(Query::Find {
             space,
             path: path_of(alloc, second)?,
+        })),
+        Verb::Journal => Ok(Request::Ask(Query::Journal {
+            from: space,
+            most: number_said(second),
         })),
         Verb::Watch => Ok(Request::Watch(scope_said(first))),
         Verb::Take => Ok(Request::Take(number_said(first))),

@@ -4,9 +4,9 @@ ghost use Rattle.mt_server.specs.Accepting.{most_failures};
 
 pub use crate::accepting::Door;
 use crate::accepting::{Lookout, Round, accept_one};
-use crate::house::House;
-pub use crate::house::Premises;
 use crate::parting::turn_away_now;
+use crate::running_server::RunningServer;
+pub use crate::running_server::ServerSetup;
 use crate::spare::Spare;
 use mt_desk::lines::Naming;
 use mt_session::gate::Gate;
@@ -54,7 +54,7 @@ impl<'a> Door for &'a UnixListener {
 fn refuse<'s, E, Name, Moments, Runtime>(
     scope: &Scope<'s, E>,
     rt: &'s Runtime,
-    house: &'s House<'s, Name, Moments>,
+    server: &'s RunningServer<'s, Name, Moments>,
     stream: UnixStream,
     fault: Fault,
 )
@@ -63,18 +63,18 @@ where
     Moments: Gate + Sync,
     Runtime: Wait + Sync,
 {
-    if !house.connections.begin_parting(rt) {
+    if !server.connections.begin_parting(rt) {
         turn_away_now(&stream, fault);
         return;
     }
     let again = stream.try_clone();
     if scope
-        .spawn(move || house.dismiss(rt, stream, fault))
+        .spawn(move || server.dismiss(rt, stream, fault))
         .is_ok()
     {
         return;
     }
-    house.connections.end_parting(rt);
+    server.connections.end_parting(rt);
     if let Ok(stream) = again {
         turn_away_now(&stream, fault);
     }
@@ -86,7 +86,7 @@ fn receive<'s, E, Name, Moments, Runtime>(
     scope: &Scope<'s, E>,
     rt: &'s Runtime,
     alloc: Global,
-    house: &'s House<'s, Name, Moments>,
+    server: &'s RunningServer<'s, Name, Moments>,
     spare: &mut Spare<'s>,
     stream: UnixStream,
 )
@@ -98,27 +98,27 @@ where
     let Some(stream) = spare.admit(stream) else {
         return;
     };
-    let number = match house.connections.enter(rt, &stream) {
+    let number = match server.connections.enter(rt, &stream) {
         Ok(number) => number,
-        Err(fault) => return refuse(scope, rt, house, stream, fault),
+        Err(fault) => return refuse(scope, rt, server, stream, fault),
     };
     if scope
-        .spawn(move || house.serve(rt, alloc, number, stream))
+        .spawn(move || server.serve(rt, alloc, number, stream))
         .is_ok()
     {
         return;
     }
-    if let Some(stream) = house.connections.leave(rt, number) {
-        refuse(scope, rt, house, stream, Fault::NoMemory);
+    if let Some(stream) = server.connections.leave(rt, number) {
+        refuse(scope, rt, server, stream, Fault::NoMemory);
     }
 }
 
-/// The desk of a house as a `Lookout`. It notes nothing: the threads of the sessions share the desk under a lock, and a
+/// The desk of a server as a `Lookout`. It notes nothing: the threads of the sessions share the desk under a lock, and a
 /// value under a lock has no name outside.
 #[derive(Drop)]
 struct Watchman<'s, Name: Naming, Moments, Runtime> {
     rt: &'s Runtime,
-    house: &'s House<'s, Name, Moments>,
+    server: &'s RunningServer<'s, Name, Moments>,
 }
 
 impl<'s, Name: Naming, Moments: Gate, Runtime: Wait> Lookout
@@ -131,8 +131,8 @@ impl<'s, Name: Naming, Moments: Gate, Runtime: Wait> Lookout
 
     /// Whether the desk is stopped.
     fn is_over(&mut self) -> bool {
-        let house = self.house;
-        house.is_over(self.rt)
+        let server = self.server;
+        server.is_over(self.rt)
     }
 }
 
@@ -144,7 +144,7 @@ fn accept_all<'s, E, D, L, Name, Moments, Runtime>(
     alloc: Global,
     door: &mut D,
     lookout: &mut L,
-    house: &'s House<'s, Name, Moments>,
+    server: &'s RunningServer<'s, Name, Moments>,
 ) -> bool
 where
     D: Door,
@@ -159,12 +159,12 @@ where
     ensures looked { IsTrue L.notes → (n : ℕ) × (L.looks lookout.new ≡ result ∷ replicate n false ++ L.looks lookout.old) }
 {
     let mut failures = 0u32;
-    let mut spare = Spare::new(house.listener());
+    let mut spare = Spare::new(server.listener());
     'accepting: for _accept in rt.forever() {
         match accept_one(door, lookout, &mut failures) {
             Round::Over => return true,
             Round::GivesUp => return false,
-            Round::Arrived(stream) => receive(scope, rt, alloc, house, &mut spare, stream),
+            Round::Arrived(stream) => receive(scope, rt, alloc, server, &mut spare, stream),
             Round::Missed => {
                 spare.give_up();
                 thread::sleep(rt, Duration::from_millis(REST));
@@ -176,12 +176,12 @@ where
 
 /// Accepts the connections of a door and serves each in a thread of its own, until a session stops the desk. From then on
 /// none is accepted, whether that session's answer goes out or not. The door is answered as it has been left. A listener is
-/// a door; that of the premises is where the door's connections come from.
+/// a door; that of the setup is where the door's connections come from.
 ///
-/// At most `premises.sessions` have a session at once; the next one reads `no TooMany` and its end. One for
+/// At most `setup.sessions` have a session at once; the next one reads `no TooMany` and its end. One for
 /// which there is no thread or no descriptor, or of which the system bounds no read, reads
 /// `no NoMemory` and its end. Sessions are numbered from 1. When a session ends, its connection is
-/// counted no longer before its client reads the end. One that has sent nothing for `premises.idle` seconds while
+/// counted no longer before its client reads the end. One that has sent nothing for `setup.idle` seconds while
 /// it follows nothing, if that is not 0, ends as at the end of its input, and so does one whose client has taken nothing
 /// for so long of what it is sent, which is cut then.
 ///
@@ -200,7 +200,7 @@ pub fn run_server<'a, D, Name, Moments, Runtime>(
     rt: &Runtime,
     alloc: Global,
     door: D,
-    premises: Premises<'a, Name, Moments>,
+    setup: ServerSetup<'a, Name, Moments>,
 ) -> (D, Result<(), ServerFault>)
 where
     D: Door + Drop,
@@ -212,15 +212,15 @@ where
     ensures asked { IsTrue D.counts → IsOk result.1 → D.asked door < D.asked result.0 }
     ensures memory { result.1 ≡ Err ServerFault.NoMemory → result.0 ≡ door }
 {
-    let Ok(house) = House::new(alloc, premises) else {
+    let Ok(server) = RunningServer::new(alloc, setup) else {
         return (door, Err(ServerFault::NoMemory));
     };
-    let house = &house;
+    let server = &server;
     let (stopped, door) = thread::scope(thread::scope_env(), rt, move |scope| {
         let mut door = door;
-        let mut watchman = Watchman { rt, house };
-        let stopped = accept_all(scope, rt, alloc, &mut door, &mut watchman, house);
-        house.end_all(rt);
+        let mut watchman = Watchman { rt, server };
+        let stopped = accept_all(scope, rt, alloc, &mut door, &mut watchman, server);
+        server.end_all(rt);
         (stopped, door)
     });
     if stopped {

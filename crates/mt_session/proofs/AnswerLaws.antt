@@ -27,10 +27,10 @@ use Rattle.mt_floor.specs.Schedule.{FloorView, command_refusal, opening_refusal,
 use Rattle.mt_requests.specs.declared.request.Request.{Request}
 use Rattle.mt_requests.specs.declared.request.Request.TheVariants.{Run, Ask, Watch, Take, Follow, Close, Quit, Stop}
 use Rattle.mt_requests.specs.declared.request.Query.{Query}
-use Rattle.mt_requests.specs.declared.request.Query.TheVariants.{Show, Locks, Find}
+use Rattle.mt_requests.specs.declared.request.Query.TheVariants.{Show, Locks, Find, Journal}
 use Rattle.mt_requests.specs.Requests.{command_verb, query_verb, request_verb}
 use Rattle.mt_requests.proofs.CountLaws.{lines_tell}
-use Rattle.mt_session.specs.Answers.{refusal, found_text, shown_text, lock_lines_text, locks_text, query_text, reply_text}
+use Rattle.mt_session.specs.Answers.{refusal, found_text, shown_text, commands_from, lock_lines_text, locks_text, query_text, reply_text}
 use Rattle.mt_session.specs.Requests.{SessionState, stepped_text, by_phase, rest_text, taken_text, end_of_followed, closed_text, next_posts, answer_to}
 use Rattle.mt_session.specs.Forms.{Refuses, HasForm, AnswersHaveForms}
 use Rattle.mt_session.specs.Session.{Growth, Granted, Refused, Unshown, request_of_line, may_fail, may_be_unshown, answer_of, answer_with, answer_to_turn}
@@ -117,6 +117,7 @@ query_answer : (journal : List Command) (q : Query) → IsAnswerOf (verb_form (q
 query_answer journal (Show n) = table_answer journal n
 query_answer journal (Locks n) = locks_answer journal n
 query_answer journal (Find n path) = place_answer (found_at (after journal) n path)
+query_answer journal (Journal from most) = inr (commands_from from most journal, refl)
 
 -- posts, and what is told where none wait
 abbrev IsAtRest : List ℕ → List ℕ → Type 0

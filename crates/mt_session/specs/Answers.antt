@@ -1,6 +1,6 @@
 -- The texts of answers: a refusal, what a command answers, a table, the place where a path ends. Those of what a watcher found and of posts are in mt_events.
 -- A word with no source is this project's rule.
-use Rattle.std.specs.Prelude.{ℕ, List, [], ◌∷◌, ◌++◌, length, Result, Ok, Err, codes, decimal, cond}
+use Rattle.std.specs.Prelude.{ℕ, ◌-◌, List, [], ◌∷◌, ◌++◌, length, take, drop, Result, Ok, Err, codes, decimal, cond}
 use Rattle.std.specs.List.{flat_map}
 use Rattle.mt_skel.specs.declared.fault.Fault.{Fault}
 use Rattle.mt_skel.specs.declared.fault.Fault.TheVariants.{NoNamespace}
@@ -18,7 +18,8 @@ use Rattle.mt_locks.specs.declared.mount_locks.MountLocks.{MountLocks}
 use Rattle.mt_info.specs.LockLine.{whole_lock_line}
 use Rattle.mt_book.specs.History.{space_number}
 use Rattle.mt_requests.specs.declared.request.Query.{Query}
-use Rattle.mt_requests.specs.declared.request.Query.TheVariants.{Show, Locks, Find}
+use Rattle.mt_requests.specs.declared.request.Query.TheVariants.{Show, Locks, Find, Journal}
+use Rattle.mt_requests.specs.Printed.{commands_text}
 
 -- the line of a refusal
 abbrev pub refusal : Fault → List ℕ
@@ -51,8 +52,17 @@ abbrev pub found_text : Result (ℕ × List (List ℕ)) Fault → List ℕ
 found_text (Ok p) = place_text p.0 p.1
 found_text (Err f) = refusal f
 
+-- the commands from the one of a number on, up to so many; the first has number 1
+abbrev pub commands_from : ℕ → ℕ → List Command → List Command
+commands_from from most journal = take most (drop (from - 1) journal)
+
+-- `ok`, how many commands there are, and the line of each
+abbrev pub listed_text : List Command → List ℕ
+listed_text cs = count_text (length cs) ++ commands_text cs
+
 -- what a query is answered after these commands
 abbrev pub query_text : List Command → Query → List ℕ
 query_text journal (Show n) = shown_text journal n
 query_text journal (Locks n) = locks_text journal n
 query_text journal (Find n path) = found_text (found_at (after journal) n path)
+query_text journal (Journal from most) = listed_text (commands_from from most journal)

@@ -1,13 +1,15 @@
 //! What a book shows, and why it shows nothing.
-ghost use Rattle.std.specs.Prelude.{◌≡◌, ◌≢◌, IfOk, IfErr};
+ghost use Rattle.std.specs.Prelude.{◌≡◌, ◌≢◌, take, drop, IfOk, IfErr};
 ghost use Rattle.mt_book.specs.Step.{after};
 ghost use Rattle.mt_book.specs.Book.{found_at};
-ghost use Rattle.mt_session.specs.Answers.{refusal, shown_text, locks_text, found_text, query_text};
+ghost use Rattle.mt_session.specs.Answers.{refusal, shown_text, locks_text, found_text, commands_from, listed_text, query_text};
 
 use crate::text::Text;
 use mt_book::book::Book;
+use mt_book::command::Command;
 use mt_events::texts::push_heading;
 use mt_info::lock_line::push_lock_lines;
+use mt_requests::print::push_commands;
 use mt_requests::request::Query;
 use mt_skel::fault::Fault;
 use mt_skel::names::Names;
@@ -66,6 +68,47 @@ fn locks(alloc: Global, book: &Book, space: u64) -> Result<Text, Fault>
     Ok(Text::counted(alloc, rows.len() as u64, &lines)?)
 }
 
+/// The first commands, this many at most.
+fn first_commands(commands: &[Command], most: usize) -> &[Command]
+    ensures { result.now ≡ take most commands.now }
+{
+    if commands.len() > most {
+        &commands[..most]
+    } else {
+        commands
+    }
+}
+
+/// The commands behind the first ones, which are this many.
+fn commands_behind(commands: &[Command], count: usize) -> &[Command]
+    ensures { result.now ≡ drop count commands.now }
+{
+    if commands.len() <= count {
+        &[]
+    } else {
+        &commands[count..]
+    }
+}
+
+/// The commands from the one of a number on, up to so many. The first has number 1.
+fn commands_from(commands: &[Command], from: u64, most: u64) -> &[Command]
+    ensures { result.now ≡ commands_from from most commands.now }
+{
+    let later = commands_behind(commands, from.saturating_sub(1) as usize);
+    first_commands(later, most as usize)
+}
+
+/// The lines that list accepted commands.
+fn list_commands(alloc: Global, book: &Book, from: u64, most: u64) -> Result<Text, Fault>
+    ensures ok { IfOk result (λ text. text ≡ listed_text (commands_from from most book.now.journal)) }
+    ensures memory { IfErr result (λ fault. fault ≡ Fault.NoMemory) }
+{
+    let commands = commands_from(book.journal(), from, most);
+    let mut lines = Vec::new(alloc);
+    push_commands(&mut lines, commands)?;
+    Ok(Text::counted(alloc, commands.len() as u64, &lines)?)
+}
+
 /// What a query is answered.
 pub(crate) fn asked(alloc: Global, book: &Book, query: &Query) -> Result<Text, Fault>
     ensures ok { IfOk result (λ text. text ≡ query_text book.now.journal query.now) }
@@ -75,5 +118,6 @@ pub(crate) fn asked(alloc: Global, book: &Book, query: &Query) -> Result<Text, F
         Query::Show(space) => show(alloc, book, *space),
         Query::Locks(space) => locks(alloc, book, *space),
         Query::Find { space, path } => find(alloc, book, *space, path),
+        Query::Journal { from, most } => list_commands(alloc, book, *from, *most),
     }
 }

@@ -9,7 +9,7 @@ pub fn changing_keeps_worlds()
     ensures { ChangingKeeps }
 {}
 
-/// A contained namespace stays contained when mounts are changed, in whichever namespace (`kept`). A change in it
+/// A contained family of namespaces stays contained when mounts are changed, in whichever namespace (`kept`). A change in it
 /// changes nothing outside: the mounts to which it applies are in it, and so is each mount that loses a master by it
 /// (`inside`).
 pub fn changing_stays_inside()

@@ -73,15 +73,15 @@ module _ (w : WorldView) (h : IsWellFormed w) where
             let t = in_filter_map (λ t. option_map id_of (on w.forest (record { mount = t; dir = p.dir }))) j (hits w p) e in
             map_some id_of (on w.forest (record { mount = t.0; dir = p.dir })) j t.2 (λ m at id. subst (IsReceived w h k) id (received-at w h k t.0 p m own t.1 at))
 
-    -- so all that goes is in a contained namespace, if the mount is
-    pub detached-inside : (n : ℕ) → IsContained n w → space_of w i ≡ n → (j : ℕ) → is_detached w i j ≡ true → space_of w j ≡ n
-    detached-inside n c here j e = elim (candidate-cases j (and_parts (is_candidate w i j) (list_all (is_candidate w i) (inside w j)) e).0) [
+    -- so all that goes is in a contained family of namespaces, if the mount is
+    pub detached-inside : (family : ℕ → Bool) → IsContained family w → family (space_of w i) ≡ true → (j : ℕ) → is_detached w i j ≡ true → family (space_of w j) ≡ true
+    detached-inside family c here j e = elim (candidate-cases j (and_parts (is_candidate w i j) (list_all (is_candidate w i) (inside w j)) e).0) [
       | inl tree ↦ of-tree j tree
-      | inr other ↦ received-inside w h n c other.0 j other.2 (of-tree other.0 other.1)
+      | inr other ↦ received-inside w h family c other.0 j other.2 (of-tree other.0 other.1)
     ]
       where
-        of-tree : (k : ℕ) → In k (subtree w.forest i) → space_of w k ≡ n
-        of-tree k f = let z = in-picked (is_below w.forest i) k f in space_is w k z.0 z.1 ∙ sym (below-space w h i k z.0 z.1 z.2) ∙ here
+        of-tree : (k : ℕ) → In k (subtree w.forest i) → family (space_of w k) ≡ true
+        of-tree k f = let z = in-picked (is_below w.forest i) k f in ap family (space_is w k z.0 z.1 ∙ sym (below-space w h i k z.0 z.1 z.2)) ∙ here
 
     module _ (rooted : is_none (place_of w i) ≡ false) where
       -- a mount of the tree has a place

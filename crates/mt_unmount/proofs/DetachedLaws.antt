@@ -58,7 +58,7 @@ detached-takes w h n path v e =
       goes = is_taken w i;
       can = taken-can-go w h i a.placed;
       world = a.world;
-      within = λ c. taken-inside w h i n c (top-space w h (path_end w n path) ∙ ended-inside w h n path a.ended);
+      within = λ family c here. taken-inside w h i family c (ap family (top-space w h (path_end w n path) ∙ ended-inside w h n path a.ended) ∙ here);
     }
 
 -- an accepted detach keeps a world well-formed

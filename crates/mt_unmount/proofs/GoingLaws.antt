@@ -47,8 +47,8 @@ module _ (w : WorldView) (h : IsWellFormed w) where
     pub taken-detached : (j : ℕ) → is_taken w i j ≡ true → is_detached w i j ≡ true
     taken-detached j e = going-may (is_detached w i) (is_free w i) j e
 
-    pub taken-inside : (n : ℕ) → IsContained n w → space_of w i ≡ n → (j : ℕ) → is_taken w i j ≡ true → space_of w j ≡ n
-    taken-inside n c here j e = detached-inside w h i n c here j (taken-detached j e)
+    pub taken-inside : (family : ℕ → Bool) → IsContained family w → family (space_of w i) ≡ true → (j : ℕ) → is_taken w i j ≡ true → family (space_of w j) ≡ true
+    taken-inside family c here j e = detached-inside w h i family c here j (taken-detached j e)
 
     -- what goes reveals nothing
     pub taken-reveals : RevealsNothing w i (is_taken w i)

@@ -1,9 +1,9 @@
--- Where mounts go, a well-formed world stays so, a contained namespace stays contained, and where all of them are in it
+-- Where mounts go, a well-formed world stays so, a contained family of namespaces stays contained, and where all of them are in it
 -- nothing changes outside. So it is of each command that takes mounts away.
-use Rattle.std.proofs.Common.{◌≡◌, ℕ, ◌<◌, ◌≤◌, Bool, not, map, length, Some, refl, sym, ap, subst, ◌∙◌, ◌≢◌, true, false, eqb-true, Option, None}
+use Rattle.std.proofs.Common.{◌≡◌, ℕ, ◌<◌, ◌≤◌, Bool, not, map, length, Some, refl, sym, ap, subst, ◌∙◌, true, false, eqb-true, Option, None}
 use Rattle.std.specs.List.{filter}
 use Rattle.std.specs.Option.{option_map}
-use Rattle.std.proofs.lemmas.Bool.{false_from_ne_true}
+use Rattle.std.proofs.lemmas.Bool.{false_from_ne_true, true≢false}
 use Rattle.mt_skel.specs.Keyed.{without}
 use Rattle.mt_skel.specs.Skeleton.{directory}
 use Rattle.mt_mounts.specs.declared.mount.Mount.{Mount}
@@ -65,62 +65,62 @@ module _ (w : WorldView) (h : IsWellFormed w) (goes : ℕ → Bool) where
         (λ i m e root. (i, moved w goes m, stays-in w h goes i m e (root-stays w h goes can i m e root), refl)) w.trees h.trees;
   }
 
-module _ (w : WorldView) (h : IsWellFormed w) (goes : ℕ → Bool) (n : ℕ) (c : IsContained n w) where
-  -- a contained namespace stays so, wherever the mounts are
-  gone-contained : IsContained n (once_gone w goes)
+module _ (w : WorldView) (h : IsWellFormed w) (goes : ℕ → Bool) (family : ℕ → Bool) (c : IsContained family w) where
+  -- a contained family stays so, wherever the mounts are
+  gone-contained : IsContained family (once_gone w goes)
   gone-contained =
-      left-contained n w (once_gone w goes) h c goes refl (λ k s e.
+      left-contained family w (once_gone w goes) h c goes refl (λ k s e.
       let y = state-stays w h goes k s e in
       space_is (once_gone w goes) k y.0 y.1 ∙ ap (λ (m : Mount). m.space) y.2.made ∙ sym (space_is w k y.2.mount y.2.there)) (left-IsPeering w.peering h.peering goes).rising
 
-  module _ (within : (j : ℕ) → goes j ≡ true → space_of w j ≡ n) where
+  module _ (within : (j : ℕ) → goes j ≡ true → family (space_of w j) ≡ true) where
     -- a mount outside stays where it is
-    stays : (j : ℕ) → space_of w j ≢ n → goes j ≡ false
-    stays j off = false_from_ne_true (goes j) (λ is. off (within j is))
+    stays : (j : ℕ) → family (space_of w j) ≡ false → goes j ≡ false
+    stays j off = false_from_ne_true (goes j) (λ is. true≢false (sym (within j is) ∙ off))
 
-    unmoved : (m : Mount) → mount_at w.forest m.id ≡ Some m → m.space ≢ n → moved w goes m ≡ m
+    unmoved : (m : Mount) → mount_at w.forest m.id ≡ Some m → family m.space ≡ false → moved w goes m ≡ m
     unmoved m e off = ap (λ (o : Option Place). let y : Mount = record m { place = o } in y) (go m.place refl)
       where
         go : (o : Option Place) → m.place ≡ o → option_map (slid w goes) o ≡ o
         go None is = refl
         go (Some p) is =
-            let on = stays p.mount (λ same. off (sym (space_is w m.id m e) ∙ sym (under-space w h m.id m p e is) ∙ same)) in
+            let on = stays p.mount (ap family (under-space w h m.id m p e is ∙ space_is w m.id m e) ∙ off) in
             ap (λ q. Some q) (slid-here w h goes p on)
 
-    same-mounts : (k : ℕ) → k ≢ n → filter (in_space k) (left_mounts w goes) ≡ filter (in_space k) w.forest
+    same-mounts : (k : ℕ) → family k ≡ false → filter (in_space k) (left_mounts w goes) ≡ filter (in_space k) w.forest
     same-mounts k off =
         part-kept (in_space k) (λ m. not (leaves w goes m)) (moved w goes) w.forest
         (each_still (λ m. mount_at w.forest m.id ≡ Some m) (λ m. (in_space k (moved w goes m) ≡ in_space k m) × (in_space k m ≡ true → (not (leaves w goes m) ≡ true) × (moved w goes m ≡ m)))
         (λ m e. (
           refl,
           λ is.
-              let apart : m.space ≢ n = (λ same. off (sym (eqb-true m.space k is) ∙ same)) in
-              (ap not (stays m.id (λ same. apart (sym (space_is w m.id m e) ∙ same))), unmoved m e apart),
+              let apart : family m.space ≡ false = ap family (eqb-true m.space k is) ∙ off in
+              (ap not (stays m.id (ap family (space_is w m.id m e) ∙ apart)), unmoved m e apart),
         )) w.forest (found-each id_of w.forest h.forest.rising))
 
     -- nothing changes outside
-    gone-outside : IsSameOutside n w (once_gone w goes)
+    gone-outside : IsSameOutside family w (once_gone w goes)
     gone-outside = record {
       skel = refl;
       mounts = same-mounts;
-      states = left-state n w h c goes within;
+      states = left-state family w h c goes within;
     }
 
--- a command in a namespace takes mounts away that can go, and that are in the namespace if it is contained
+-- a command in a namespace takes mounts away that can go, and that are in each contained family that the namespace is of
 pub record Takes (w : WorldView) (n : ℕ) (v : WorldView) : Type 0 where
   pub goes : ℕ → Bool
   pub can : CanGo w goes
   pub world : once_gone w goes ≡ v
-  pub within : IsContained n w → (j : ℕ) → goes j ≡ true → space_of w j ≡ n
+  pub within : (family : ℕ → Bool) → IsContained family w → family n ≡ true → (j : ℕ) → goes j ≡ true → family (space_of w j) ≡ true
 
 module _ (w : WorldView) (h : IsWellFormed w) (n : ℕ) (v : WorldView) (t : Takes w n v) where
-  -- the world stays well-formed and a contained namespace contained, and outside the command's own, if contained,
+  -- the world stays well-formed and a contained family contained, and outside one that the command's own is of,
   -- nothing changes
   pub takes-kept : IsWellFormed v
   takes-kept = subst IsWellFormed t.world (gone-kept w h t.goes t.can)
 
-  pub takes-contained : (k : ℕ) → IsContained k w → IsContained k v
-  takes-contained k c = subst (IsContained k) t.world (gone-contained w h t.goes k c)
+  pub takes-contained : (family : ℕ → Bool) → IsContained family w → IsContained family v
+  takes-contained family c = subst (IsContained family) t.world (gone-contained w h t.goes family c)
 
-  pub takes-outside : IsContained n w → IsSameOutside n w v
-  takes-outside c = subst (IsSameOutside n w) t.world (gone-outside w h t.goes n c (t.within c))
+  pub takes-outside : (family : ℕ → Bool) → IsContained family w → family n ≡ true → IsSameOutside family w v
+  takes-outside family c here = subst (IsSameOutside family w) t.world (gone-outside w h t.goes family c (t.within family c here))

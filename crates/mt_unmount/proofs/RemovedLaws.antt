@@ -1,5 +1,5 @@
 -- Which mounts an unmount takes away, and that their children stand at their root directories.
-use Rattle.std.proofs.Common.{◌≡◌, ◌⊎◌, ℕ, true, false, ◌==◌, eqb-true, eq-eqb, [], Option, Some, None, refl, sym, ap, ◌∙◌, subst, inl, inr}
+use Rattle.std.proofs.Common.{◌≡◌, ◌⊎◌, ℕ, Bool, true, false, ◌==◌, eqb-true, eq-eqb, [], Option, Some, None, refl, sym, ap, ◌∙◌, subst, inl, inr}
 use Rattle.std.specs.List.{filter, filter_map, list_any}
 use Rattle.std.specs.Option.{option_map_or, is_none}
 use Rattle.std.proofs.lemmas.Bool.{true≢false}
@@ -38,9 +38,9 @@ module _ (w : WorldView) (h : IsWellFormed w) (i : ℕ) where
           let t = in_filter_map at m.0 (hits w p) f.0 in
           subst GoesToo m.2 (received-at w h i t.0 p m.0 own t.1 t.2, f.1)
 
-  -- so all of it is in a contained namespace, if the mount is
-  pub removed-inside : (n : ℕ) → IsContained n w → space_of w i ≡ n → (j : ℕ) → is_removed w i j ≡ true → space_of w j ≡ n
-  removed-inside n c here j e = elim (removed-cases j e) [ inl same ↦ ap (space_of w) (sym same) ∙ here | inr too ↦ received-inside w h n c i j too.0 here ]
+  -- so all of it is in a contained family of namespaces, if the mount is
+  pub removed-inside : (family : ℕ → Bool) → IsContained family w → family (space_of w i) ≡ true → (j : ℕ) → is_removed w i j ≡ true → family (space_of w j) ≡ true
+  removed-inside family c here j e = elim (removed-cases j e) [ inl same ↦ ap (λ k. family (space_of w k)) (sym same) ∙ here | inr too ↦ received-inside w h family c i j too.0 here ]
 
   child-stands : (m : Mount) (p : Place) (j : ℕ) → m.place ≡ Some p → p.mount ≡ j → stands_on j m ≡ true
   child-stands m p j at on = ap (λ o. option_map_or (λ (p : Place). p.mount == j) o false) at ∙ eq-eqb p.mount j on

@@ -147,9 +147,9 @@ module _ (w : WorldView) (h : IsWellFormed w) where
   pub received-placed : (from j : ℕ) (m : Mount) → IsReceived from j → mount_at w.forest j ≡ Some m → (p : Place) × (m.place ≡ Some p)
   received-placed from j m r e = (record { mount = r.target; dir = r.place.dir }, ap (λ (m : Mount). m.place) (some-is m r.mount (sym e ∙ r.there)) ∙ r.at)
 
-  -- it is in a contained namespace, if the other one is
-  pub received-inside : (n : ℕ) → IsContained n w → (from j : ℕ) → IsReceived from j → space_of w from ≡ n → space_of w j ≡ n
-  received-inside n c from j r here =
+  -- it is in a contained family of namespaces, if the other one is
+  pub received-inside : (family : ℕ → Bool) → IsContained family w → (from j : ℕ) → IsReceived from j → family (space_of w from) ≡ true → family (space_of w j) ≡ true
+  received-inside family c from j r here =
       let m = placed-mount w from r.place r.stands in
-      sym (under-space j r.mount (record { mount = r.target; dir = r.place.dir }) r.there r.at)
-      ∙ hit_contained n w c h.peering.rising r.place r.target r.hit (under-space from m.0 r.place m.1 m.2 ∙ here)
+      ap family (sym (under-space j r.mount (record { mount = r.target; dir = r.place.dir }) r.there r.at))
+      ∙ hit_contained family w c h.peering.rising r.place r.target r.hit (ap family (under-space from m.0 r.place m.1 m.2) ∙ here)

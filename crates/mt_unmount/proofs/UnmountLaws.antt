@@ -53,7 +53,7 @@ unmounted-takes w h n path v e =
       goes = is_removed w i;
       can = removed-can-go w h i a.placed a.bare;
       world = a.world;
-      within = λ c. removed-inside w h i n c (ended-inside w h n path a.ended);
+      within = λ family c here. removed-inside w h i family c (ap family (ended-inside w h n path a.ended) ∙ here);
     }
 
 -- an accepted unmount keeps a world well-formed

@@ -13,25 +13,27 @@ use Rattle.mt_unmount.specs.Detaching.{is_candidate, is_free, is_taken, detached
 abbrev pub UnmountingKeeps : Type 0
 UnmountingKeeps = (w : WorldView) → IsWellFormed w → (n : ℕ) (path : List (List ℕ)) (v : WorldView) → unmounted w n path ≡ Ok v → IsWellFormed v
 
--- a contained namespace stays so through an unmount that is accepted, in whichever namespace
+-- a contained family of namespaces stays so through an unmount that is accepted, in whichever namespace
 abbrev pub UnmountingKeepsContained : Type 0
-UnmountingKeepsContained = (k : ℕ) (w : WorldView) (n : ℕ) (path : List (List ℕ)) (v : WorldView) → IsWellFormed w → IsContained k w → unmounted w n path ≡ Ok v → IsContained k v
+UnmountingKeepsContained = (family : ℕ → Bool) (w : WorldView) (n : ℕ) (path : List (List ℕ)) (v : WorldView) → IsWellFormed w → IsContained family w → unmounted w n path ≡ Ok v → IsContained family v
 
 -- and one in it changes nothing outside
 abbrev pub UnmountingStaysInside : Type 0
-UnmountingStaysInside = (w : WorldView) (n : ℕ) (path : List (List ℕ)) (v : WorldView) → IsWellFormed w → IsContained n w → unmounted w n path ≡ Ok v → IsSameOutside n w v
+UnmountingStaysInside =
+    (family : ℕ → Bool) (w : WorldView) (n : ℕ) (path : List (List ℕ)) (v : WorldView) → IsWellFormed w → IsContained family w → IsTrue (family n) → unmounted w n path ≡ Ok v → IsSameOutside family w v
 
 -- a world stays well-formed when a detach is accepted: each mount that stays stands on one that stays
 abbrev pub DetachingKeeps : Type 0
 DetachingKeeps = (w : WorldView) → IsWellFormed w → (n : ℕ) (path : List (List ℕ)) (v : WorldView) → detached w n path ≡ Ok v → IsWellFormed v
 
--- a contained namespace stays so through a detach that is accepted, in whichever namespace
+-- a contained family of namespaces stays so through a detach that is accepted, in whichever namespace
 abbrev pub DetachingKeepsContained : Type 0
-DetachingKeepsContained = (k : ℕ) (w : WorldView) (n : ℕ) (path : List (List ℕ)) (v : WorldView) → IsWellFormed w → IsContained k w → detached w n path ≡ Ok v → IsContained k v
+DetachingKeepsContained = (family : ℕ → Bool) (w : WorldView) (n : ℕ) (path : List (List ℕ)) (v : WorldView) → IsWellFormed w → IsContained family w → detached w n path ≡ Ok v → IsContained family v
 
 -- and one in it changes nothing outside
 abbrev pub DetachingStaysInside : Type 0
-DetachingStaysInside = (w : WorldView) (n : ℕ) (path : List (List ℕ)) (v : WorldView) → IsWellFormed w → IsContained n w → detached w n path ≡ Ok v → IsSameOutside n w v
+DetachingStaysInside =
+    (family : ℕ → Bool) (w : WorldView) (n : ℕ) (path : List (List ℕ)) (v : WorldView) → IsWellFormed w → IsContained family w → IsTrue (family n) → detached w n path ≡ Ok v → IsSameOutside family w v
 
 -- all that goes can go if the mount is not a root mount
 abbrev pub DetachingTakesWhole : Type 0

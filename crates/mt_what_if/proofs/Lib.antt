@@ -6,3 +6,4 @@ pub mod TriedLaws
 pub mod AbridgedLaws
 pub mod EndLaws
 pub mod ForetellLaws
+pub mod StepLaws

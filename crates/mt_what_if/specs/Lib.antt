@@ -25,3 +25,4 @@ pub mod Tried
 pub mod LinesTold
 pub mod Reasons
 pub mod Foretelling
+pub mod Steps

@@ -20,6 +20,7 @@ pub mod scene;
 mod script;
 mod sources;
 mod space;
+pub mod steps;
 mod table_row;
 mod taken;
 pub mod told;

@@ -47,7 +47,7 @@ fn push_later_words(line: &mut Vec<u8>, words: Words<'_>) -> Result<(), AllocErr
 }
 
 /// Appends words that have a zero byte between two, with spaces between them.
-fn push_words(line: &mut Vec<u8>, words: &[u8]) -> Result<(), AllocError>
+pub(crate) fn push_words(line: &mut Vec<u8>, words: &[u8]) -> Result<(), AllocError>
     ensures { OnOk result (line.new.items ≡ line.old.items ++ asked_words words.now) }
 {
     let mut words = Pieces::new(0, words);

@@ -23,13 +23,13 @@ use std::sync::{Mutex, Wait};
 use std::time::Clock;
 
 /// The socket of a listener, a second time. Refused as the system refuses it.
-fn latch(listener: &UnixListener) -> io::Result<UnixStream> {
+fn listening_socket(listener: &UnixListener) -> io::Result<UnixStream> {
     Ok(UnixStream::from(OwnedFd::from(listener.try_clone()?)))
 }
 
 /// Where a server listens, and what its sessions share.
 #[derive(Drop)]
-pub struct Premises<'a, Name: Naming, Moments> {
+pub struct ServerSetup<'a, Name: Naming, Moments> {
     /// Where connections come from. A session that stops the desk shuts it down.
     pub listener: &'a UnixListener,
     /// The path of the listener, to which the server connects itself where the system does not shut it down.
@@ -51,56 +51,56 @@ pub struct Premises<'a, Name: Naming, Moments> {
 
 /// What the threads of a server share.
 #[derive(Drop)]
-pub(crate) struct House<'a, Name: Naming, Moments> {
-    premises: Premises<'a, Name, Moments>,
+pub(crate) struct RunningServer<'a, Name: Naming, Moments> {
+    setup: ServerSetup<'a, Name, Moments>,
     /// Those that are open.
     pub(crate) connections: Connections,
     /// The socket of the listener, by which it is shut down also where no descriptor is left; none where there was
     /// none at the start.
-    latch: Option<UnixStream>,
+    listening_socket: Option<UnixStream>,
 }
 
 /// It hears of a stop before the answer is sent.
-impl<'a, Name: Naming, Moments: Gate> Doorkeeper for House<'a, Name, Moments> {
+impl<'a, Name: Naming, Moments: Gate> Doorkeeper for RunningServer<'a, Name, Moments> {
     fn close<R: Wait>(&self, rt: &R) {
         self.connections.stop(rt);
         self.shut();
     }
 }
 
-impl<'a, Name: Naming, Moments: Gate> House<'a, Name, Moments> {
+impl<'a, Name: Naming, Moments: Gate> RunningServer<'a, Name, Moments> {
     /// Nobody is connected yet. Refused for want of memory alone.
     pub(crate) fn new(
         alloc: Global,
-        premises: Premises<'a, Name, Moments>,
-    ) -> Result<House<'a, Name, Moments>, AllocError> {
-        let connections = Connections::new(alloc, premises.sessions)?;
-        let latch = latch(premises.listener).ok();
-        Ok(House {
-            premises,
+        setup: ServerSetup<'a, Name, Moments>,
+    ) -> Result<RunningServer<'a, Name, Moments>, AllocError> {
+        let connections = Connections::new(alloc, setup.sessions)?;
+        let listening_socket = listening_socket(setup.listener).ok();
+        Ok(RunningServer {
+            setup,
             connections,
-            latch,
+            listening_socket,
         })
     }
 
     /// Whether the desk is stopped, so that nobody is let in any more.
     pub(crate) fn is_over<Runtime: Wait>(&self, rt: &Runtime) -> bool {
-        let turns = self.premises.bell.turns();
+        let turns = self.setup.bell.turns();
         turns.begin(rt);
-        let is_stopped = self.premises.desk.lock(rt).is_stopped();
+        let is_stopped = self.setup.desk.lock(rt).is_stopped();
         turns.end(rt);
         is_stopped
     }
 
     /// Where connections come from.
     pub(crate) fn listener(&self) -> &'a UnixListener {
-        self.premises.listener
+        self.setup.listener
     }
 
     /// Lets nobody in any more: an accept of the listener that waits, and each later one, returns. Whether the
     /// system did so.
     fn shut(&self) -> bool {
-        match &self.latch {
+        match &self.listening_socket {
             Some(socket) => socket.shutdown(Shutdown::Both).is_ok(),
             None => false,
         }
@@ -108,9 +108,9 @@ impl<'a, Name: Naming, Moments: Gate> House<'a, Name, Moments> {
 
     /// Lets a session in at the desk, in a turn of its own.
     fn admit<Runtime: Wait>(&self, rt: &Runtime) -> DeskWitness<Name> {
-        let turns = self.premises.bell.turns();
+        let turns = self.setup.bell.turns();
         turns.begin(rt);
-        let witness = self.premises.desk.lock(rt).admit(self.premises.host);
+        let witness = self.setup.desk.lock(rt).admit(self.setup.host);
         turns.end(rt);
         witness
     }
@@ -120,17 +120,17 @@ impl<'a, Name: Naming, Moments: Gate> House<'a, Name, Moments> {
     where
         Runtime: Wait + Clock,
     {
-        let reader = Patient::new(rt, &self.connections, stream, self.premises.idle);
+        let reader = Patient::new(rt, &self.connections, stream, self.setup.idle);
         let Ok(mut lines) = LineReader::new(alloc, reader, LINE_LIMIT) else {
             return;
         };
-        let mut writer = PatientWriter::new(rt, stream, self.premises.idle);
+        let mut writer = PatientWriter::new(rt, stream, self.setup.idle);
         let mut session = SharedSession::new(alloc, self.admit(rt));
         let shared = Shared {
             rt,
-            desk: self.premises.desk,
-            bell: self.premises.bell,
-            gate: self.premises.gate,
+            desk: self.setup.desk,
+            bell: self.setup.bell,
+            gate: self.setup.gate,
             doorkeeper: self,
             number,
             alloc,
@@ -167,7 +167,7 @@ impl<'a, Name: Naming, Moments: Gate> House<'a, Name, Moments> {
         Runtime: Net<Listener = TcpListener, Stream = TcpStream>,
     {
         if !self.shut() {
-            let _ = UnixStream::connect(rt, self.premises.path);
+            let _ = UnixStream::connect(rt, self.setup.path);
         }
     }
 
@@ -179,10 +179,10 @@ impl<'a, Name: Naming, Moments: Gate> House<'a, Name, Moments> {
 
     /// Stops the desk, in a turn of its own.
     fn stop<Runtime: Wait>(&self, rt: &Runtime) {
-        let turns = self.premises.bell.turns();
+        let turns = self.setup.bell.turns();
         turns.begin(rt);
-        let mut desk = self.premises.desk.lock(rt);
-        let mut witness = desk.admit(self.premises.host);
+        let mut desk = self.setup.desk.lock(rt);
+        let mut witness = desk.admit(self.setup.host);
         desk.stop(&mut witness);
         drop(desk);
         turns.end(rt);
@@ -194,7 +194,7 @@ impl<'a, Name: Naming, Moments: Gate> House<'a, Name, Moments> {
     pub(crate) fn end_all<Runtime: Wait + Clock>(&self, rt: &Runtime) {
         self.connections.stop(rt);
         self.stop(rt);
-        self.premises.bell.ring(rt);
+        self.setup.bell.ring(rt);
         self.connections.wait(rt);
         self.connections.cut_off(rt);
     }

@@ -1,0 +1,6 @@
+use Rattle.std.proofs.Common.{◌≡◌, []}
+use Rattle.mountctl.proofs.session.do_lines.Given as goal
+
+-- nothing is due on the floor
+abbrev pub invariant-lines : goal.invariant-lines
+invariant-lines g l = l.floor.due ≡ []
