@@ -1,1 +1,2 @@
 mod ScreenLaws
+mod PlayLaws

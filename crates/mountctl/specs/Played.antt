@@ -17,21 +17,21 @@ abbrev pub kept_text : Kept → List ℕ
 kept_text k = k.text.items
 
 -- a plain session on a floor was served one line of these bytes: this is all that it wrote, and whether it goes on
-abbrev pub IsAnswered : List ℕ → FloorView × Option ℕ → List ℕ → Bool → FloorView × Option ℕ → Type 0
-IsAnswered sent s answer goes_on s' = (end : Option End) × (later : Option (List ℕ)) × (goes_on ≡ is_none end) × ServesNext OnFloor (Some sent) s (Some []) end later s' (Some answer)
+abbrev pub IsServedAlone : List ℕ → FloorView × Option ℕ → List ℕ → Bool → FloorView × Option ℕ → Type 0
+IsServedAlone sent s answer goes_on s' = (end : Option End) × (later : Option (List ℕ)) × (goes_on ≡ is_none end) × ServesNext OnFloor (Some sent) s (Some []) end later s' (Some answer)
 
 -- what an input line sends, if its session goes on
-abbrev pub sent_by : List ℕ → Bool → Option (List ℕ)
-sent_by line goes_on = if goes_on then bytes_sent line else None
+abbrev pub sent_while : List ℕ → Bool → Option (List ℕ)
+sent_while line goes_on = if goes_on then bytes_sent line else None
 
 -- what is sent is answered so; where nothing is, nothing is answered, and all is as it was
 abbrev pub IsSentAnswered : Option (List ℕ) → Bool → FloorView × Option ℕ → List ℕ → Bool → FloorView × Option ℕ → Type 0
-IsSentAnswered (Some sent) before s answer goes_on s' = IsAnswered sent s answer goes_on s'
+IsSentAnswered (Some sent) before s answer goes_on s' = IsServedAlone sent s answer goes_on s'
 IsSentAnswered None before s answer goes_on s' = (answer ≡ []) × (goes_on ≡ before) × (s' ≡ s)
 
 -- an input line was played, below which this answer is told: it is printed with the answer that came, and with the one that is told where
 -- that is another one
 abbrev pub IsPlayed : List ℕ → List ℕ → Bool → FloorView × Option ℕ → Option (List ℕ) → Played → FloorView × Option ℕ → Option (List ℕ) → Type 0
 IsPlayed line told before s out played s' printed =
-    (answer : List ℕ) × IsSentAnswered (sent_by line before) before s answer played.goes_on s' × (played.is_alike ≡ bytes_eq answer told)
+    (answer : List ℕ) × IsSentAnswered (sent_while line before) before s answer played.goes_on s' × (played.is_alike ≡ bytes_eq answer told)
     × Appends out printed (played_text line answer told)

@@ -1,7 +1,7 @@
 //! A session of the program's own: with a new server in its memory, and no connection.
 ghost use Rattle.std.specs.Prelude.{◌≡◌, [], IfOk};
 ghost use Rattle.std.specs.Option.{is_none};
-ghost use Rattle.mountctl.specs.Played.{IsAnswered};
+ghost use Rattle.mountctl.specs.Played.{IsServedAlone};
 
 use crate::fault::Fault;
 use crate::kept::Kept;
@@ -51,7 +51,7 @@ pub(crate) fn answer_sent(
     sent: &[u8],
 ) -> Result<Answered, Fault>
     requires idle { floor.old.due ≡ [] }
-    ensures answered { IfOk result (λ answered. IsAnswered sent.now (floor.old, session.old) answered.answer.items answered.goes_on (floor.new, session.new)) }
+    ensures answered { IfOk result (λ answered. IsServedAlone sent.now (floor.old, session.old) answered.answer.items answered.goes_on (floor.new, session.new)) }
     ensures idle { floor.new.due ≡ [] }
 {
     let mut input = LineReader::new(alloc, Reading::new(sent), LINE_LIMIT)?;

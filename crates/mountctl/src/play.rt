@@ -2,7 +2,7 @@
 ghost use Rattle.std.specs.Prelude.{◌≡◌, ◌<◌, ◌≤◌, [], IfOk};
 ghost use Rattle.std.specs.Option.{option_map};
 ghost use Rattle.mt_transcript.specs.Queue.{most_queued};
-ghost use Rattle.mountctl.specs.Played.{sent_by, IsSentAnswered, IsPlayed};
+ghost use Rattle.mountctl.specs.Played.{sent_while, IsSentAnswered, IsPlayed};
 
 use crate::PROGRAM;
 use crate::fault::Fault;
@@ -90,8 +90,8 @@ fn print_line<O: Output>(out: &mut O, line: &[u8]) -> Result<(), Fault> {
 }
 
 /// What an input line sends, if it is one, and the session goes on.
-fn sent_by(alloc: Global, line: &[u8], goes_on: bool) -> Result<Option<Vec<u8>>, AllocError>
-    ensures { IfOk result (λ sent. option_map (λ x. x.items) sent ≡ sent_by line.now goes_on) }
+fn sent_while(alloc: Global, line: &[u8], goes_on: bool) -> Result<Option<Vec<u8>>, AllocError>
+    ensures { IfOk result (λ sent. option_map (λ x. x.items) sent ≡ sent_while line.now goes_on) }
 {
     if !goes_on {
         return Ok(None);
@@ -108,10 +108,10 @@ fn answer_line(
     goes_on: bool,
 ) -> Result<Answered, Fault>
     requires idle { floor.old.due ≡ [] }
-    ensures answered { IfOk result (λ answered. IsSentAnswered (sent_by line.now goes_on) goes_on (floor.old, session.old) answered.answer.items answered.goes_on (floor.new, session.new)) }
+    ensures answered { IfOk result (λ answered. IsSentAnswered (sent_while line.now goes_on) goes_on (floor.old, session.old) answered.answer.items answered.goes_on (floor.new, session.new)) }
     ensures idle { floor.new.due ≡ [] }
 {
-    let sent = sent_by(alloc, line, goes_on)?;
+    let sent = sent_while(alloc, line, goes_on)?;
     match sent {
         Some(sent) => answer_sent(alloc, floor, session, sent.as_slice()),
         None => Ok(Answered {

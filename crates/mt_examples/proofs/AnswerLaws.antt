@@ -1,5 +1,5 @@
 -- What a session answers is read by a client: each form of an answer.
-use Rattle.std.proofs.Common.{◌≡◌, ℕ, ◌+◌, ◌<◌, ◌≤◌, ◌^◌, true, false, List, [], ◌∷◌, ◌++◌, map, length, nat_eq, fold, if◌then◌else◌, refl, sym, ap, ◌∙◌, arith, append_assoc, append-nil, length-append, codes, decimal, Some, None, ◌&&◌, ◌⊎◌, inl, inr}
+use Rattle.std.proofs.Common.{◌≡◌, ℕ, suc, ◌+◌, ◌<◌, ◌≤◌, ◌^◌, true, false, List, [], ◌∷◌, ◌++◌, map, length, nat_eq, fold, if◌then◌else◌, refl, sym, ap, ◌∙◌, arith, append_assoc, append-nil, length-append, codes, decimal, Some, None, ◌&&◌, ◌⊎◌, inl, inr}
 use Rattle.std.proofs.lemmas.List.{length-map}
 use Rattle.std.proofs.lemmas.Bool.Decides.{nat_tests}
 use Rattle.std.specs.List.{flat_map, join_with_byte, starts_with, AllByRecursion}
@@ -197,7 +197,7 @@ commands_printed (c ∷ cs) = ap (λ t. ended (line_of_command c) ++ t) (command
 
 commands_many : (cs : List Command) → length (flat_map alone cs) ≡ length cs
 commands_many [] = refl
-commands_many (c ∷ cs) = ap (λ n. 1 + n) (commands_many cs)
+commands_many (c ∷ cs) = ap (λ n. suc n) (commands_many cs)
 
 commands_read : (cs : List Command) → length cs ≤ most_listed → IsRead Commands (listed_text cs)
 commands_read cs le =
