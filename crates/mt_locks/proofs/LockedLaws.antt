@@ -1,5 +1,5 @@
 -- What is locked, by the list of it.
-use Rattle.std.proofs.Common.{◌≡◌, ℕ, Bool, true, false, cond, ◌&&◌, ◌||◌, eqb, List, [], ◌∷◌, ◌++◌, map, None, refl, ap, ◌∙◌, append-nil}
+use Rattle.std.proofs.Common.{◌≡◌, ℕ, Bool, true, false, cond, ◌&&◌, ◌||◌, eqb, List, [], ◌∷◌, map, None, refl, ap, ◌∙◌, append-nil}
 use Rattle.std.specs.List.{filter, list_any}
 use Rattle.mt_skel.specs.Keyed.{among}
 use Rattle.mt_locks.specs.declared.mount_locks.MountLocks.{MountLocks}
