@@ -15,7 +15,6 @@ use Rattle.mt_mounts.specs.Forest.{id_of, parent, subtree, top}
 use Rattle.mt_mounts.specs.Walk.{walk}
 use Rattle.mt_locks.specs.declared.mount_locks.MountLocks.{MountLocks}
 use Rattle.mt_locks.specs.Locks.{LocksView, owner_of, is_locked, locked_ids, changed_locks}
-use Rattle.mt_locks.proofs.LockedLaws.{nothing-changed}
 use Rattle.mt_propagate.specs.World.{WorldView, is_tree, state_of}
 use Rattle.mt_propagate.specs.WellFormed.{IsWellFormed}
 use Rattle.mt_propagate.specs.Named.{unknown, mount_or_unknown, place_or_nowhere, is_root_place, is_root_mount, is_mount_root}
@@ -31,7 +30,7 @@ use Rattle.mt_bind.proofs.MemberLaws.{either_is, moved_tree}
 use Rattle.mt_guard.specs.Refusals.{copy_shows, bound_ids, uncovers, unlocks_some, locked_refusal, move_guard, bind_guard, open_guard, change_guard}
 use Rattle.mt_guard.specs.Coming.{numbered_from, locks_of_copy, copies_locks, next_owner}
 use Rattle.mt_guard.specs.Changing.{keeping, next_locks, move_locking, bind_locking, unmount_locking, detach_locking, open_locking}
-use Rattle.mt_guard.specs.Judging.{unlocked_judged, unmount_judged, detach_judged, move_judged, pivot_judged, bind_judged, open_judged, change_judged}
+use Rattle.mt_guard.specs.Judging.{unlocked_judged, unmount_judged, detach_judged, move_judged, pivot_judged, bind_judged, open_judged, change_judged, keep_judged}
 use Rattle.mt_guard.proofs.ComingLaws.{members_locked, unplaced_locked, come_listed}
 
 module _ (w : WorldView) (n : ℕ) where
@@ -65,12 +64,11 @@ module _ (w : WorldView) (n : ℕ) where
         ∙ passed (is_root_place w p) RootPlace _ _ free
         ∙ passed (is_locked w.locks s.mount) Locked [] _ unlocked
 
-    pub pivot_done : pivot_judged w n new old ≡ Ok w.locks
+    pub pivot_done : pivot_judged w n new old ≡ keep_judged w
     pivot_done =
         ap (λ (at : Result Place Fault). outcome (move_guard w n at (walk w.skel w.forest n old)) (next_locks w keeping)) began
         ∙ ap (λ (at : Result Place Fault). outcome (move_guard w n (Ok s) at) (next_locks w keeping)) ended
         ∙ goes (next_locks w keeping)
-        ∙ ap (λ l. Ok l) (nothing-changed w.locks)
 
     pub move_done : IsWellFormed w → (ids : List ℕ) → ids ≡ subtree w.forest s.mount
         → move_judged w n new old ≡ Ok (changed_locks [] (numbered_from w.next_mount (copies_locks w n s.mount (map (mount_or_unknown w) ids) (targets w p))) None w.locks)
@@ -83,14 +81,13 @@ module _ (w : WorldView) (n : ℕ) where
 
   -- attributes are changed
   pub change_done : (path : List (List ℕ)) (c : Change) (p : Place) → walk w.skel w.forest n path ≡ Ok p → is_mount_root w p ≡ true → clashes c ≡ false → changes_inside w n p c ≡ false → unlocks_some w c p.mount ≡ false
-      → change_judged w n path c ≡ Ok w.locks
+      → change_judged w n path c ≡ keep_judged w
   change_done path c p ended named apart outside kept =
       ap (λ (at : Result Place Fault). outcome (change_guard w n c at) (next_locks w keeping)) ended
       ∙ passed (not (is_mount_root w p)) NotMountRoot _ _ (ap not named)
       ∙ passed (clashes c) BadAttr _ _ apart
       ∙ passed (changes_inside w n p c) Detached _ _ outside
       ∙ passed (unlocks_some w c p.mount) LockedAttr [] _ kept
-      ∙ ap (λ l. Ok l) (nothing-changed w.locks)
 
   -- mounts are copied: a bind, and a tree that is opened
   module _ (recursive : Bool) (from : List (List ℕ)) (s : Place) (began : walk w.skel w.forest n from ≡ Ok s) (bindable : (state_of w s.mount).unbindable ≡ false) where

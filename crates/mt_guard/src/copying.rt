@@ -1,5 +1,6 @@
 //! Commands that make namespaces of copies: copies of namespaces, and opened trees.
-ghost use Rattle.std.specs.Prelude.{◌≡◌, ◌≢◌, ◌<◌, ◌^◌, IfOk, IfErr, IsOkUnless, Ok, Err};
+ghost use Rattle.std.specs.Prelude.{◌≡◌, ◌≢◌, ◌<◌, ◌^◌, cond, IfOk, IfErr, IsOkUnless, Ok, Err};
+ghost use Rattle.mt_locks.specs.Locks.{owner_of};
 ghost use Rattle.mt_propagate.specs.World.{world_view};
 ghost use Rattle.mt_propagate.specs.WellFormed.{IsWellFormed};
 ghost use Rattle.mt_guard.specs.Coming.{next_owner};
@@ -22,6 +23,17 @@ fn next_owner(world: &World, owner: SpaceId) -> Option<(SpaceId, SpaceId)>
         None
     } else {
         Some((world.next_space, owner))
+    }
+}
+
+/// The owner of a copy of a namespace: where all is locked, the copy itself.
+fn owner_of_copy(world: &World, space: SpaceId, all: bool) -> SpaceId
+    ensures { result ≡ cond all world.now.next_space (owner_of world.now.locks space) }
+{
+    if all {
+        world.next_space
+    } else {
+        world.locks.owner_of(space)
     }
 }
 
@@ -66,10 +78,6 @@ pub fn copy_locks(world: &World, space: SpaceId, all: bool) -> Result<Locks, Fau
 {
     let mounts = world.forest.mounts_in(space)?;
     let rows = copied_locks(world, all, &mounts)?;
-    let owner = if all {
-        world.next_space
-    } else {
-        world.locks.owner_of(space)
-    };
+    let owner = owner_of_copy(world, space, all);
     with_coming(world, &rows, next_owner(world, owner))
 }
