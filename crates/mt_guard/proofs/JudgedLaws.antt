@@ -27,14 +27,19 @@ use Rattle.mt_setattr.specs.Change.{clashes, changes_inside}
 use Rattle.mt_bind.specs.Sources.{source_at, tree_of}
 use Rattle.mt_bind.specs.Opening.{unplaced_top}
 use Rattle.mt_bind.proofs.MemberLaws.{either_is, moved_tree}
+use Rattle.mt_unmount.specs.Detaching.{met_mounts}
 use Rattle.mt_guard.specs.Refusals.{copy_shows, bound_ids, uncovers, unlocks_some, locked_refusal, move_guard, bind_guard, open_guard, change_guard}
 use Rattle.mt_guard.specs.Coming.{numbered_from, locks_of_copy, copies_locks, next_owner}
 use Rattle.mt_guard.specs.Changing.{keeping, next_locks, move_locking, bind_locking, unmount_locking, detach_locking, open_locking}
 use Rattle.mt_guard.specs.Judging.{unlocked_judged, unmount_judged, detach_judged, move_judged, pivot_judged, bind_judged, open_judged, change_judged, keep_judged}
 use Rattle.mt_guard.proofs.ComingLaws.{members_locked, unplaced_locked, come_listed}
 
+-- the mount at a place may go
+pub unlocked_done : (w : WorldView) (p : Place) → is_mount_root w p ≡ true → is_root_mount w p ≡ false → is_locked w.locks p.mount ≡ false → unlocked_judged w p ≡ Ok (changed_locks (met_mounts w p.mount) [] None w.locks)
+unlocked_done w p named off unlocked = passed (not (is_mount_root w p)) NotMountRoot _ _ (ap not named) ∙ passed (is_root_mount w p) RootPlace _ _ off ∙ passed (is_locked w.locks p.mount) Locked [] _ unlocked
+
 module _ (w : WorldView) (n : ℕ) where
-  -- the mounts at the end of a path go
+  -- the mount at the end of a path may go
   pub unmount_at : (path : List (List ℕ)) (p : Place) → is_tree w n ≡ false → walk w.skel w.forest n path ≡ Ok p → unmount_judged w n path ≡ unlocked_judged w p
   unmount_at path p attached ended =
       passed (is_tree w n) Detached _ _ attached
