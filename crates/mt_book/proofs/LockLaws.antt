@@ -1,7 +1,8 @@
 -- Locks only refuse: an accepted command does to the mounts what it does whatever is locked. Where nothing is locked nothing is refused for a
 -- lock, and nothing comes locked.
-use Rattle.std.proofs.Common.{◌≡◌, Bool, true, false, List, [], ◌∷◌, ◌++◌, Option, Some, None, Result, Ok, Err, refl, sym, ap, ◌∙◌, subst}
+use Rattle.std.proofs.Common.{◌≡◌, ◌==◌, Bool, true, false, ◌&&◌, List, [], ◌∷◌, ◌++◌, length, Option, Some, None, Result, Ok, Err, refl, sym, ap, ◌∙◌, subst}
 use Rattle.std.specs.List.{AllByRecursion}
+use Rattle.std.proofs.lemmas.Bool.{true≢false, and_parts}
 use Rattle.mt_skel.specs.declared.fault.Fault.{Fault}
 use Rattle.mt_skel.specs.declared.fault.Fault.TheVariants.{Unbindable}
 use Rattle.mt_skel.specs.Outcome.{refuse_if, refusal_of, outcome}
@@ -109,6 +110,14 @@ free_steps u (OpenTree n path recursive) m =
 free_steps u (NewTree fs) m = free_step u (NewTree fs) [] keeping refl refl refl (λ f e. absurd (cc))
 free_steps u (MoveTree tree n path) m =
     free_step u (MoveTree tree n path) [] (attach_locking (free u) tree n (walk u.skel u.forest n path)) refl refl (led_free u (walk u.skel u.forest n path) _ (come_free u n _)) (λ f e. absurd (cc))
+
+-- nothing is locked where no row says so
+no_rows : {A : Type 0} (xs : List A) → (length xs == 0) ≡ true → xs ≡ []
+no_rows [] e = refl
+no_rows (x ∷ xs) e = absurd (true≢false (sym e))
+
+pub none_are : (l : LocksView) → ((length l.owners == 0) && (length l.mounts == 0)) ≡ true → l ≡ no_locks
+none_are l e = let p = and_parts (length l.owners == 0) (length l.mounts == 0) e in λ i. record { owners = no_rows l.owners p.0 i; mounts = no_rows l.mounts p.1 i }
 
 pub nothing_locked : NothingComesLocked
 nothing_locked w c none m =

@@ -2,7 +2,7 @@
 -- word `lock`.
 use Rattle.std.proofs.Common.{◌≡◌, ℕ, ◌+◌, ◌*◌, Bool, true, false, cond, not, ◌&&◌, ◌||◌, ◌==◌, List, [], ◌∷◌, ◌++◌, map, length, Option, Some, None, is_some, Result, Ok, Err, refl, sym, ap, ◌∙◌}
 use Rattle.std.specs.List.{filter, flat_map, list_all}
-use Rattle.std.proofs.lemmas.Bool.{and_from, and_parts}
+use Rattle.std.proofs.lemmas.Bool.{and_from, and_parts, not-true}
 use Rattle.mt_skel.specs.declared.fault.Fault.{Fault}
 use Rattle.mt_skel.specs.Outcome.{outcome}
 use Rattle.mt_mounts.specs.declared.mount.Mount.{Mount}
@@ -43,14 +43,18 @@ all_free f each [] = refl
 all_free f each (t ∷ ts) = both_free (f t) (flat_map f ts) (each t) (all_free f each ts)
 
 -- of them nothing is kept
-pub none_kept : (ms : List Mount) (n : ℕ) (ks : List MountLocks) → AreFree ks → filter (λ (k : MountLocks). is_some (mount_at ms k.mount) && locks_some k) (numbered_from n ks) ≡ []
+abbrev pub kept_of : List Mount → List MountLocks → List MountLocks
+kept_of ms ks = filter (λ (k : MountLocks). is_some (mount_at ms k.mount) && locks_some k) ks
+
+none_more : (there some : Bool) (k : MountLocks) (rest : List MountLocks) → some ≡ false → rest ≡ [] → cond (there && some) (k ∷ rest) rest ≡ []
+none_more true some k rest off none = ap (λ b. cond b (k ∷ rest) rest) off ∙ none
+none_more false some k rest off none = none
+
+pub none_kept : (ms : List Mount) (n : ℕ) (ks : List MountLocks) → AreFree ks → kept_of ms (numbered_from n ks) ≡ []
 none_kept ms n [] a = refl
-none_kept ms n (k ∷ ks) a = by (is_some (mount_at ms n)) (locks_some k) (and_parts (not (locks_some k)) (list_all (λ (k : MountLocks). not (locks_some k)) ks) a)
-  where
-    by : (there some : Bool) → (not some ≡ true) × AreFree ks → cond (there && some) (record k { mount = n } ∷ filter (λ (k : MountLocks). is_some (mount_at ms k.mount) && locks_some k) (numbered_from (n + 1) ks)) (filter (λ (k : MountLocks). is_some (mount_at ms k.mount) && locks_some k) (numbered_from (n + 1) ks)) ≡ []
-    by there true p = absurd (let bad : false ≡ true = p.0 in cc)
-    by true false p = none_kept ms (n + 1) ks p.1
-    by false false p = none_kept ms (n + 1) ks p.1
+none_kept ms n (k ∷ ks) a =
+    let p = and_parts (not (locks_some k)) (list_all (λ (k : MountLocks). not (locks_some k)) ks) a in
+    none_more (is_some (mount_at ms n)) (locks_some k) (record k { mount = n }) (kept_of ms (numbered_from (n + 1) ks)) (not-true (locks_some k) p.0) (none_kept ms (n + 1) ks p.1)
 
 module _ (u : WorldView) where
   abbrev pub free : WorldView

@@ -1,1 +1,3 @@
 pub mod FreeLaws
+pub mod ComingLaws
+pub mod JudgedLaws

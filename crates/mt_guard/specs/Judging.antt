@@ -1,15 +1,18 @@
 -- What is refused for a lock, or what will be locked: of each command that locks may refuse, or that changes what is locked.
 -- A word with no source is this project's rule.
-use Rattle.std.specs.Prelude.{ℕ, Bool, List, Result, Ok}
+use Rattle.std.specs.Prelude.{ℕ, Bool, not, List, ◌∷◌, Result, Ok}
 use Rattle.mt_skel.specs.declared.fault.Fault.{Fault}
-use Rattle.mt_skel.specs.Outcome.{outcome}
+use Rattle.mt_skel.specs.declared.fault.Fault.TheVariants.{NotMountRoot, RootPlace}
+use Rattle.mt_skel.specs.Outcome.{refuse_if, outcome}
 use Rattle.mt_mounts.specs.declared.mount.Place.{Place}
 use Rattle.mt_mounts.specs.Walk.{walk}
 use Rattle.mt_locks.specs.Locks.{LocksView}
 use Rattle.mt_propagate.specs.World.{WorldView}
+use Rattle.mt_propagate.specs.Named.{is_root_mount, is_mount_root}
 use Rattle.mt_setattr.specs.declared.change.Change.{Change}
 use Rattle.mt_setattr.specs.declared.change.SetWords.{SetWords}
-use Rattle.mt_guard.specs.Refusals.{move_guard, unmount_guard, detach_guard, bind_guard, open_guard, change_guard}
+use Rattle.mt_unmount.specs.Detaching.{met_mounts}
+use Rattle.mt_guard.specs.Refusals.{locked_refusal, move_guard, unmount_guard, detach_guard, bind_guard, open_guard, change_guard}
 use Rattle.mt_guard.specs.Changing.{keeping, next_locks, mount_locking, bind_locking, move_locking, attach_locking, unmount_locking, detach_locking, open_locking, copy_locking}
 
 module _ (w : WorldView) where
@@ -36,7 +39,11 @@ module _ (w : WorldView) where
   abbrev pub change_judged : ℕ → List (List ℕ) → Change → Result LocksView Fault
   change_judged n path c = outcome (change_guard w n c (led n path)) (next_locks w keeping)
 
-  -- they go
+  -- they go: the mount at a place is named, in a namespace that is no tree
+  abbrev pub unlocked_judged : Place → Result LocksView Fault
+  unlocked_judged p =
+      outcome (refuse_if (not (is_mount_root w p)) NotMountRoot ∷ refuse_if (is_root_mount w p) RootPlace ∷ locked_refusal w p) (next_locks w (record keeping { met = met_mounts w p.mount }))
+
   abbrev pub unmount_judged : ℕ → List (List ℕ) → Result LocksView Fault
   unmount_judged n path = outcome (unmount_guard w n (led n path)) (next_locks w (unmount_locking w (led n path)))
 

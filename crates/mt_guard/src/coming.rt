@@ -1,10 +1,12 @@
 //! What comes locked.
-ghost use Rattle.std.specs.Prelude.{◌≡◌, ◌*◌, ◌<◌, ◌^◌, ◌++◌, map, IfOk, OnOk, IsOkUnless};
+ghost use Rattle.std.specs.Prelude.{◌≡◌, ◌*◌, ◌<◌, ◌^◌, [], ◌++◌, map, IfOk, OnOk, IsOkUnless};
+ghost use Rattle.mt_locks.specs.Locks.{changed_locks};
 ghost use Rattle.mt_propagate.specs.World.{world_view};
 ghost use Rattle.mt_propagate.specs.Named.{mount_or_unknown};
 ghost use Rattle.mt_propagate.specs.Limits.{too_many_mounts};
 ghost use Rattle.mt_guard.specs.Coming.{numbered_from, is_foreign, locks_with, locks_of_copy, copies_locks, original_locks};
 
+use mt_locks::locks::Locks;
 use mt_locks::mount_locks::MountLocks;
 use mt_mounts::mount::{Mount, MountId, SpaceId};
 use mt_propagate::copies::mount_or_unknown;
@@ -13,7 +15,7 @@ use mt_propagate::world::{World, space_of};
 use mt_skel::fault::Fault;
 
 /// The same locks, each of the next mount.
-pub(crate) fn numbered(world: &World, rows: &[MountLocks]) -> Result<Vec<MountLocks>, Fault>
+fn numbered(world: &World, rows: &[MountLocks]) -> Result<Vec<MountLocks>, Fault>
     requires numbers { world.now.next_mount < 2 ^ 63 }
     ensures numbered { IfOk result (λ all. all.items ≡ numbered_from world.now.next_mount rows.now) }
     ensures memory { IsOkUnless result Fault.NoMemory }
@@ -28,6 +30,20 @@ pub(crate) fn numbered(world: &World, rows: &[MountLocks]) -> Result<Vec<MountLo
         next += 1;
     }
     Ok(all)
+}
+
+/// What will be locked where mounts come with these locks, and maybe a namespace with this owner.
+pub(crate) fn with_coming(
+    world: &World,
+    rows: &[MountLocks],
+    owner: Option<(SpaceId, SpaceId)>,
+) -> Result<Locks, Fault>
+    requires numbers { world.now.next_mount < 2 ^ 63 }
+    ensures locks { IfOk result (λ locks. locks ≡ changed_locks [] (numbered_from world.now.next_mount rows.now) owner world.now.locks) }
+    ensures memory { IsOkUnless result Fault.NoMemory }
+{
+    let came = numbered(world, rows)?;
+    world.locks.changed(&[], &came, owner)
 }
 
 /// Whether a namespace belongs to another user namespace than one in which a command is done.
@@ -81,10 +97,10 @@ pub(crate) fn push_copies(
 fn are_too_many(world: &World, targets: usize, mounts: usize) -> bool
     ensures { result ≡ too_many_mounts (world_view world.now) (targets * mounts) }
 {
-    match targets.checked_mul(mounts) {
-        Some(more) => too_many_mounts(world, more),
-        None => true,
-    }
+    let Some(more) = targets.checked_mul(mounts) else {
+        return true;
+    };
+    too_many_mounts(world, more)
 }
 
 /// What is locked of copies of these mounts at each of these targets, of what is done in a namespace; none if they are

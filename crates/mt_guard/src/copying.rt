@@ -1,11 +1,12 @@
 //! Commands that make namespaces of copies: copies of namespaces, and opened trees.
-ghost use Rattle.std.specs.Prelude.{◌≡◌, ◌≢◌, ◌<◌, ◌^◌, IfOk, IfErr, IsOkUnless, Ok, Err};
+ghost use Rattle.std.specs.Prelude.{◌≡◌, ◌≢◌, ◌<◌, ◌^◌, cond, IfOk, IfErr, IsOkUnless, Ok, Err};
+ghost use Rattle.mt_locks.specs.Locks.{owner_of};
 ghost use Rattle.mt_propagate.specs.World.{world_view};
 ghost use Rattle.mt_propagate.specs.WellFormed.{IsWellFormed};
 ghost use Rattle.mt_guard.specs.Coming.{next_owner};
 ghost use Rattle.mt_guard.specs.Judging.{open_judged, copy_judged};
 
-use crate::coming::{copied_locks, mounts_with, numbered, push_copies};
+use crate::coming::{copied_locks, mounts_with, push_copies, with_coming};
 use crate::refusing::uncovers;
 use mt_bind::binding::{is_unbindable, members_at};
 use mt_locks::locks::Locks;
@@ -22,6 +23,17 @@ fn next_owner(world: &World, owner: SpaceId) -> Option<(SpaceId, SpaceId)>
         None
     } else {
         Some((world.next_space, owner))
+    }
+}
+
+/// The owner of a copy of a namespace: where all is locked, the copy itself.
+fn owner_of_copy(world: &World, space: SpaceId, all: bool) -> SpaceId
+    ensures { result ≡ cond all world.now.next_space (owner_of world.now.locks space) }
+{
+    if all {
+        world.next_space
+    } else {
+        world.locks.owner_of(space)
     }
 }
 
@@ -51,9 +63,8 @@ pub fn open_locks(
     let mounts = mounts_with(world, &members)?;
     let mut rows = Vec::with_capacity(world.forest.allocator(), mounts.len())?;
     push_copies(world, false, from.mount, &mounts, &mut rows)?;
-    let came = numbered(world, &rows)?;
     let owner = next_owner(world, world.locks.owner_of(space));
-    world.locks.changed(&[], &came, owner)
+    with_coming(world, &rows, owner)
 }
 
 /// What will be locked where a namespace is copied: with `all` into a less privileged one, which is its own owner and where
@@ -67,11 +78,6 @@ pub fn copy_locks(world: &World, space: SpaceId, all: bool) -> Result<Locks, Fau
 {
     let mounts = world.forest.mounts_in(space)?;
     let rows = copied_locks(world, all, &mounts)?;
-    let came = numbered(world, &rows)?;
-    let owner = if all {
-        world.next_space
-    } else {
-        world.locks.owner_of(space)
-    };
-    world.locks.changed(&[], &came, next_owner(world, owner))
+    let owner = owner_of_copy(world, space, all);
+    with_coming(world, &rows, next_owner(world, owner))
 }

@@ -1,7 +1,7 @@
 //! Commands by which mounts go: umount and detach.
 ghost use Rattle.std.specs.Prelude.{◌≡◌, ◌≢◌, IfOk, IfErr, Ok, Err};
 ghost use Rattle.mt_propagate.specs.World.{world_view};
-ghost use Rattle.mt_guard.specs.Judging.{unmount_judged, detach_judged};
+ghost use Rattle.mt_guard.specs.Judging.{unlocked_judged, unmount_judged, detach_judged};
 
 use mt_locks::locks::Locks;
 use mt_mounts::mount::{Place, SpaceId};
@@ -15,7 +15,10 @@ use mt_unmount::detaching::met_mounts;
 ///
 /// Refused as `NotMountRoot` if it is below the root of that mount, `RootPlace` if that is a root mount, `Locked` if it is
 /// locked on its place, and as `NoMemory`.
-fn unlocked_at(world: &World, place: Place) -> Result<Locks, Fault> {
+fn unlocked_at(world: &World, place: Place) -> Result<Locks, Fault>
+    ensures done { IfOk result (λ locks. unlocked_judged (world_view world.now) place ≡ Ok locks) }
+    ensures refused { IfErr result (λ fault. fault ≢ Fault.NoMemory → unlocked_judged (world_view world.now) place ≡ Err fault) }
+{
     if !is_mount_root(world, place) {
         return Err(Fault::NotMountRoot);
     }

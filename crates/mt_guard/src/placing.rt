@@ -9,11 +9,10 @@ ghost use Rattle.mt_setattr.specs.Words.{new_with};
 ghost use Rattle.mt_guard.specs.Coming.{numbered_from, copies_locks};
 ghost use Rattle.mt_guard.specs.Judging.{mount_judged, bind_judged, move_judged, attach_judged};
 
-use crate::coming::{copies_locks, mounts_with, numbered};
+use crate::coming::{copies_locks, mounts_with, with_coming};
 use crate::refusing::uncovers;
 use mt_bind::binding::{is_unbindable, members_at};
 use mt_locks::locks::Locks;
-use mt_locks::mount_locks::MountLocks;
 use mt_mounts::mount::{Mount, MountId, Place, SpaceId};
 use mt_propagate::named::{is_mount_root, is_root_mount, is_root_place};
 use mt_propagate::receivers::targets;
@@ -21,16 +20,6 @@ use mt_propagate::world::World;
 use mt_setattr::change::SetWords;
 use mt_skel::fault::Fault;
 use mt_skel::name::Name;
-
-/// What will be locked where mounts come with these locks.
-fn with_coming(world: &World, rows: &[MountLocks]) -> Result<Locks, Fault>
-    requires numbers { world.now.next_mount < 2 ^ 63 }
-    ensures locks { IfOk result (λ locks. locks ≡ changed_locks [] (numbered_from world.now.next_mount rows.now) None world.now.locks) }
-    ensures memory { IsOkUnless result Fault.NoMemory }
-{
-    let came = numbered(world, rows)?;
-    world.locks.changed(&[], &came, None)
-}
 
 /// The mount of a place, and its propagation targets.
 fn destinations(world: &World, place: Place) -> Result<Vec<MountId>, Fault>
@@ -57,7 +46,7 @@ fn with_copies(
     ensures memory { IsOkUnless result Fault.NoMemory }
 {
     let rows = copies_locks(world, here, top, mounts, targets)?;
-    with_coming(world, &rows)
+    with_coming(world, &rows, None)
 }
 
 /// A fresh mount with these attributes, which has the ID 0.
@@ -90,7 +79,7 @@ pub fn mount_locks(
     ensures memory { IsOkUnless result Fault.NoMemory }
 {
     let Ok(place) = world.forest.walk(&world.skel, space, path) else {
-        return with_coming(world, &[]);
+        return with_coming(world, &[], None);
     };
     let mounts = fresh(world, set)?;
     let ids = destinations(world, place)?;
@@ -135,6 +124,7 @@ pub fn bind_locks(
 /// Refused as a move is for its paths and the mount that is named, then as `Locked` if that mount is locked on its place,
 /// and as `NoMemory`.
 pub fn move_locks(world: &World, space: SpaceId, from: &[Name], to: &[Name]) -> Result<Locks, Fault>
+    requires well_formed { IsWellFormed (world_view world.now) }
     requires numbers { world.now.next_mount < 2 ^ 63 }
     ensures done { IfOk result (λ locks. move_judged (world_view world.now) space from.now to.now ≡ Ok locks) }
     ensures refused { IfErr result (λ fault. fault ≢ Fault.NoMemory → move_judged (world_view world.now) space from.now to.now ≡ Err fault) }
@@ -176,12 +166,9 @@ pub fn attach_locks(
     ensures memory { IsOkUnless result Fault.NoMemory }
 {
     let Ok(place) = world.forest.walk(&world.skel, space, path) else {
-        return with_coming(world, &[]);
+        return with_coming(world, &[], None);
     };
-    let top = match world.forest.root(tree) {
-        Some(top) => top,
-        None => 0,
-    };
+    let top = world.forest.root(tree).unwrap_or(0);
     let mounts = world.forest.mounts_in(tree)?;
     let ids = targets(world, place)?;
     with_copies(world, space, top, &mounts, &ids)

@@ -62,23 +62,25 @@ pub(crate) fn uncovers(world: &World, from: Place, copied: &[MountId]) -> bool
     false
 }
 
+/// Whether two flags are the same.
+fn same_flag(first: bool, second: bool) -> bool
+    ensures { result ≡ same_flag first second }
+{
+    first == second
+}
+
 /// Whether two access times are the same.
 fn same_atime(first: Atime, second: Atime) -> bool
     ensures { result ≡ same_atime first second }
 {
-    match (first, second) {
-        (Atime::Relatime, Atime::Relatime) => true,
-        (Atime::Noatime, Atime::Noatime) => true,
-        (Atime::Strictatime, Atime::Strictatime) => true,
-        _ => false,
-    }
+    first == second
 }
 
 /// Whether the updates of access times are the same.
 fn same_times(before: &Attrs, after: &Attrs) -> bool
     ensures { result ≡ (same_flag before.now.nodiratime after.now.nodiratime && same_atime before.now.atime after.now.atime) }
 {
-    before.nodiratime == after.nodiratime && same_atime(before.atime, after.atime)
+    same_flag(before.nodiratime, after.nodiratime) && same_atime(before.atime, after.atime)
 }
 
 /// Whether attributes are changed of which some are locked.

@@ -26,7 +26,8 @@ fn push_lock_words(text: &mut Vec<u8>, locks: &MountLocks) -> Result<(), AllocEr
     push_option(&mut fields, locks.nodev, b"nodev")?;
     push_option(&mut fields, locks.noexec, b"noexec")?;
     push_option(&mut fields, locks.atime, b"atime")?;
-    push_behind_first(text, &fields)
+    push_behind_first(text, &fields)?;
+    Ok(())
 }
 
 /// Appends the line that tells what is locked of a mount, with its line end.
@@ -75,11 +76,10 @@ fn read_lock_words(mount: u64, word: &[u8]) -> Result<MountLocks, Fault>
         noexec,
         atime,
     };
-    if locks.locks_some() {
-        Ok(locks)
-    } else {
-        Err(Fault::BadLine)
+    if !locks.locks_some() {
+        return Err(Fault::BadLine);
     }
+    Ok(locks)
 }
 
 /// What a line tells to be locked of a mount. Refused as `BadLine` exactly where no such line is written like this.

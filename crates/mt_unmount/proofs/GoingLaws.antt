@@ -66,17 +66,16 @@ module _ (w : WorldView) (h : IsWellFormed w) where
     pub taken-most : (goes : ℕ → Bool) → ((j : ℕ) → goes j ≡ true → is_candidate w i j ≡ true) → CanGo w goes → RevealsNothing w i goes → (j : ℕ) → goes j ≡ true → is_taken w i j ≡ true
     taken-most goes within can reveals j e = climb (length w.forest) j (h.forest.no_cycle j) e
       where
-        climb : (n : ℕ) (x : ℕ) → ends (parent w.forest) n x ≡ true → goes x ≡ true → is_taken w i x ≡ true
-        climb n x last g = by n last (reveals x g)
-          where
-            may : is_detached w i x ≡ true
-            may = detached-most w h i goes within can x g
+        may : (x : ℕ) → goes x ≡ true → is_detached w i x ≡ true
+        may x g = detached-most w h i goes within can x g
 
-            by : (n : ℕ) → ends (parent w.forest) n x ≡ true → (is_free w i x ≡ true) ⊎ ((k : ℕ) × (parent w.forest x ≡ Some k) × (goes k ≡ true)) → is_taken w i x ≡ true
-            by n last (inl f) = going-free (is_detached w i) (is_free w i) x may f
-            by zero last (inr up) = absurd (true≢false (sym last ∙ ap is_none up.1))
-            by (suc n) last (inr up) =
-                going-with (is_detached w i) (is_free w i) x up.0 up.1 may (climb n up.0 (sym (ap (λ o. option_map_or (λ y. ends (parent w.forest) n y) o true) up.1) ∙ last) up.2)
+        by : (x : ℕ) → goes x ≡ true → (is_free w i x ≡ true) ⊎ ((k : ℕ) × (parent w.forest x ≡ Some k) × (goes k ≡ true)) → ((k : ℕ) → parent w.forest x ≡ Some k → goes k ≡ true → is_taken w i k ≡ true) → is_taken w i x ≡ true
+        by x g (inl f) above = going-free (is_detached w i) (is_free w i) x (may x g) f
+        by x g (inr up) above = going-with (is_detached w i) (is_free w i) x up.0 up.1 (may x g) (above up.0 up.1 up.2)
+
+        climb : (n : ℕ) (x : ℕ) → ends (parent w.forest) n x ≡ true → goes x ≡ true → is_taken w i x ≡ true
+        climb zero x last g = by x g (reveals x g) (λ k up more. absurd (true≢false (sym last ∙ ap is_none up)))
+        climb (suc n) x last g = by x g (reveals x g) (λ k up more. climb n k (sym (ap (λ o. option_map_or (λ y. ends (parent w.forest) n y) o true) up) ∙ last) more)
 
     module _ (rooted : is_none (place_of w i) ≡ false) where
       -- what is inside one that goes may go, and so may each mount between: so it goes with that one
@@ -91,14 +90,18 @@ module _ (w : WorldView) (h : IsWellFormed w) where
               let p = within-place w k j on in
               going-with (is_detached w i) (is_free w i) j k (parent-place w j p.0 p.1 ∙ ap (λ x. Some x) p.2) ((detached-can-go w h i rooted).inside k j (taken-detached k e) is) e
 
+          -- it stands inside the mount itself, or the one on which it stands is inside
+          by : (k : ℕ) → is_taken w i k ≡ true → (n j : ℕ) → is_inside w k j ≡ true
+              → ((y : ℕ) → is_inside w k y ≡ true → list_any (stands_inside w k) (chain (parent w.forest) n y) ≡ true → is_taken w i y ≡ true)
+              → (b : Bool) → stands_inside w k j ≡ b → (o : Option ℕ) → parent w.forest j ≡ o
+              → (b || list_any (stands_inside w k) (option_map_or (λ y. chain (parent w.forest) n y) o [])) ≡ true → is_taken w i j ≡ true
+          by k e n j is above true on o up rest = stands k j e is on
+          by k e n j is above false off None up rest = absurd (true≢false (sym rest))
+          by k e n j is above false off (Some y) up rest =
+              let inside_y : is_inside w k y ≡ true =
+              ap (λ b. b || is_inside w k y) (sym off) ∙ sym (ap (list_any (stands_inside w k)) (chain-step (parent w.forest) (length w.forest) j y up (h.forest.no_cycle j))) ∙ is in
+              going-with (is_detached w i) (is_free w i) j y up ((detached-can-go w h i rooted).inside k j (taken-detached k e) is) (above y inside_y rest)
+
           below : (k : ℕ) → is_taken w i k ≡ true → (n : ℕ) (j : ℕ) → is_inside w k j ≡ true → list_any (stands_inside w k) (chain (parent w.forest) n j) ≡ true → is_taken w i j ≡ true
           below k e zero j is any = stands k j e is (sym (or-false (stands_inside w k j)) ∙ any)
-          below k e (suc n) j is any = by (stands_inside w k j) refl (parent w.forest j) refl any
-            where
-              by : (b : Bool) → stands_inside w k j ≡ b → (o : Option ℕ) → parent w.forest j ≡ o → (b || list_any (stands_inside w k) (option_map_or (λ y. chain (parent w.forest) n y) o [])) ≡ true → is_taken w i j ≡ true
-              by true on o up rest = stands k j e is on
-              by false off None up rest = absurd (true≢false (sym rest))
-              by false off (Some y) up rest =
-                  let above : is_inside w k y ≡ true =
-                  ap (λ b. b || is_inside w k y) (sym off) ∙ sym (ap (list_any (stands_inside w k)) (chain-step (parent w.forest) (length w.forest) j y up (h.forest.no_cycle j))) ∙ is in
-                  going-with (is_detached w i) (is_free w i) j y up ((detached-can-go w h i rooted).inside k j (taken-detached k e) is) (below k e n y above rest)
+          below k e (suc n) j is any = by k e n j is (λ y. below k e n y) (stands_inside w k j) refl (parent w.forest j) refl any

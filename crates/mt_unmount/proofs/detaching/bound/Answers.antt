@@ -1,4 +1,4 @@
-use Rattle.std.proofs.Common.{◌≡◌, ℕ, Bool, ◌&&◌, ◌||◌, not, sym, ap, ◌∙◌}
+use Rattle.std.proofs.Common.{◌≡◌, ℕ, Bool, ◌&&◌, ◌||◌, not, sym, ap, ◌∙◌, arith}
 use Rattle.mt_skel.specs.Keyed.{among}
 use Rattle.mt_locks.specs.Locks.{is_locked}
 use Rattle.mt_locks.proofs.LockedLaws.{ids-locked}
@@ -8,7 +8,7 @@ use Rattle.mt_unmount.proofs.detaching.bound.Goals as goal
 
 -- a mount is bound if it is locked and was not met
 unbound : (locked met : Bool) → not (locked && not met) ≡ (met || not locked)
-unbound locked met = grind
+unbound locked met = grind arith
 
 pub returns-clause-bound : goal.returns-clause-bound
 returns-clause-bound c j =

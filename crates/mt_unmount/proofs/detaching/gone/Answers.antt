@@ -12,7 +12,7 @@ use Rattle.mt_unmount.proofs.detaching.gone.Goals as goal
 left : (may goes : Bool) → (goes ≡ true → may ≡ true) → (may && not (may && not goes)) ≡ goes
 left true true f = refl
 left true false f = refl
-left false true f = sym (f refl)
+left false true f = f refl
 left false false f = refl
 
 pub returns-clause-gone : goal.returns-clause-gone
