@@ -64,7 +64,7 @@ free_step u c first x judges owner came refused = by (judged (free u) c) (act (f
     by (Ok l) (Err f) is acts = refl
     by (Ok l) (Ok p) is acts =
         let none : kept_locks p.0.forest l ≡ no_locks =
-            ap (kept_locks p.0.forest) (sym (accepted (first ++ None ∷ []) (next_locks (free u) x) l (sym judges ∙ is)).0) ∙ free_after u p.0.forest x owner came in
+        ap (kept_locks p.0.forest) (sym (accepted (first ++ None ∷ []) (next_locks (free u) x) l (sym judges ∙ is)).0) ∙ free_after u p.0.forest x owner came in
         let same : p.0.locks ≡ no_locks = acted_locks (free u) c p.0 p.1 acts in
         λ i. Ok (record p.0 { locks = (none ∙ sym same) i }, p.1)
 

@@ -135,7 +135,10 @@ pub(crate) fn judged(world: &World, command: &Command) -> Result<Locks, Fault>
         Command::DropSpace { .. } => same_locks(world),
         Command::Mount { space, path, .. } => judge_mount(world, *space, path, &SetWords::new()),
         Command::MountWith {
-            space, path, set, ..
+            space,
+            path,
+            set,
+            ..
         } => judge_mount(world, *space, path, set),
         Command::Bind {
             space,

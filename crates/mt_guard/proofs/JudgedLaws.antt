@@ -44,13 +44,13 @@ module _ (w : WorldView) (n : ℕ) where
   unmount_at path p attached ended =
       passed (is_tree w n) Detached _ _ attached
       ∙ ap (λ (at : Result Place Fault). let q = place_or_nowhere at in
-        outcome (refusal_of at ∷ refuse_if (not (is_mount_root w q)) NotMountRoot ∷ refuse_if (is_root_mount w q) RootPlace ∷ locked_refusal w q) (next_locks w (unmount_locking w at))) ended
+      outcome (refusal_of at ∷ refuse_if (not (is_mount_root w q)) NotMountRoot ∷ refuse_if (is_root_mount w q) RootPlace ∷ locked_refusal w q) (next_locks w (unmount_locking w at))) ended
 
   pub detach_at : (path : List (List ℕ)) (p : Place) → is_tree w n ≡ false → walk w.skel w.forest n path ≡ Ok p → detach_judged w n path ≡ unlocked_judged w (top w.forest p)
   detach_at path p attached ended =
       passed (is_tree w n) Detached _ _ attached
       ∙ ap (λ (at : Result Place Fault). let q = top w.forest (place_or_nowhere at) in
-        outcome (refusal_of at ∷ refuse_if (not (is_mount_root w q)) NotMountRoot ∷ refuse_if (is_root_mount w q) RootPlace ∷ locked_refusal w q) (next_locks w (detach_locking w at))) ended
+      outcome (refusal_of at ∷ refuse_if (not (is_mount_root w q)) NotMountRoot ∷ refuse_if (is_root_mount w q) RootPlace ∷ locked_refusal w q) (next_locks w (detach_locking w at))) ended
 
   -- the mount at the end of a walk has its ID
   there : IsWellFormed w → (path : List (List ℕ)) (p : Place) → walk w.skel w.forest n path ≡ Ok p → (mount_or_unknown w p.mount).id ≡ p.mount
@@ -82,7 +82,7 @@ module _ (w : WorldView) (n : ℕ) where
         ∙ ap (λ (at : Result Place Fault). outcome (move_guard w n (Ok s) at) (next_locks w (move_locking w n (Ok s) at))) ended
         ∙ goes (next_locks w (move_locking w n (Ok s) (Ok p)))
         ∙ ap (λ (came : List MountLocks). Ok (changed_locks [] (numbered_from w.next_mount came) None w.locks))
-          (come_listed w n s.mount s.dir ids true (tree_of w s.mount) (moved_tree w s h.forest.rising named ids listed) (there h new s began) p)
+        (come_listed w n s.mount s.dir ids true (tree_of w s.mount) (moved_tree w s h.forest.rising named ids listed) (there h new s began) p)
 
   -- attributes are changed
   pub change_done : (path : List (List ℕ)) (c : Change) (p : Place) → walk w.skel w.forest n path ≡ Ok p → is_mount_root w p ≡ true → clashes c ≡ false → changes_inside w n p c ≡ false → unlocks_some w c p.mount ≡ false
@@ -117,16 +117,16 @@ module _ (w : WorldView) (n : ℕ) where
           bind_left to p ended free
           ∙ passed (uncovers w recursive s) LockedInside [] _ covers
           ∙ ap (λ (came : List MountLocks). Ok (changed_locks [] (numbered_from w.next_mount came) None w.locks))
-            (come_listed w n s.mount s.dir ids false (source_at w recursive s) (either_is w s h.forest.rising recursive ids listed) (there h from s began) p)
+          (come_listed w n s.mount s.dir ids false (source_at w recursive s) (either_is w s h.forest.rising recursive ids listed) (there h from s began) p)
 
       pub open_done : open_judged w n from recursive ≡ Ok (changed_locks [] (numbered_from w.next_mount (map (locks_of_copy w false s.mount) (map (mount_or_unknown w) ids))) (next_owner w (owner_of w.locks n)) w.locks)
       open_done =
           open_left
           ∙ passed (uncovers w recursive s) LockedInside [] _ covers
           ∙ ap (λ (came : List MountLocks). Ok (changed_locks [] (numbered_from w.next_mount came) (next_owner w (owner_of w.locks n)) w.locks))
-            (unplaced_locked w false s.mount s.mount (source_at w recursive s).mounts
-            ∙ ap (λ (src : Source). map (locks_of_copy w false s.mount) src.mounts) (sym (either_is w s h.forest.rising recursive ids listed))
-            ∙ members_locked w false s.mount s.mount s.dir ids)
+          (unplaced_locked w false s.mount s.mount (source_at w recursive s).mounts
+          ∙ ap (λ (src : Source). map (locks_of_copy w false s.mount) src.mounts) (sym (either_is w s h.forest.rising recursive ids listed))
+          ∙ members_locked w false s.mount s.mount s.dir ids)
 
 -- what a bind uncovers, by the IDs of what it copies
 pub uncovers_by : (w : WorldView) (recursive : Bool) (s : Place) (ids : List ℕ) → ids ≡ bound_ids w recursive s

@@ -1,7 +1,7 @@
 //! What comes locked.
 ghost use Rattle.std.specs.Prelude.{◌≡◌, ◌*◌, ◌<◌, ◌^◌, [], ◌++◌, map, IfOk, OnOk, IsOkUnless};
 ghost use Rattle.mt_locks.specs.Locks.{changed_locks};
-ghost use Rattle.mt_propagate.specs.World.{world_view};
+ghost use Rattle.mt_propagate.specs.World.{world_view, space_of};
 ghost use Rattle.mt_propagate.specs.Named.{mount_or_unknown};
 ghost use Rattle.mt_propagate.specs.Limits.{too_many_mounts};
 ghost use Rattle.mt_guard.specs.Coming.{numbered_from, is_foreign, locks_with, locks_of_copy, copies_locks, original_locks};
@@ -93,6 +93,23 @@ pub(crate) fn push_copies(
     Ok(())
 }
 
+/// Appends what is locked of copies of these mounts at a target, of what is done in a namespace.
+fn push_at(
+    world: &World,
+    here: SpaceId,
+    top: MountId,
+    mounts: &[Mount],
+    target: MountId,
+    rows: &mut Vec<MountLocks>,
+) -> Result<(), Fault>
+    ensures rows { OnOk result (rows.new.items ≡ rows.old.items ++ map (locks_of_copy (world_view world.now) (is_foreign (world_view world.now) here (space_of (world_view world.now) target)) top) mounts.now) }
+    ensures memory { IsOkUnless result Fault.NoMemory }
+{
+    let foreign = is_foreign(world, here, space_of(world, target));
+    push_copies(world, foreign, top, mounts, rows)?;
+    Ok(())
+}
+
 /// Whether this many mounts at each of so many others are too many.
 fn are_too_many(world: &World, targets: usize, mounts: usize) -> bool
     ensures { result ≡ too_many_mounts (world_view world.now) (targets * mounts) }
@@ -120,8 +137,7 @@ pub(crate) fn copies_locks(
         return Ok(rows);
     }
     for target in targets {
-        let foreign = is_foreign(world, here, space_of(world, *target));
-        push_copies(world, foreign, top, mounts, &mut rows)?;
+        push_at(world, here, top, mounts, *target, &mut rows)?;
     }
     Ok(rows)
 }

@@ -1,5 +1,5 @@
 //! Commands that change mounts where they are: pivot and setattr.
-ghost use Rattle.std.specs.Prelude.{◌≡◌, ◌≢◌, IfOk, IfErr, Ok, Err};
+ghost use Rattle.std.specs.Prelude.{◌≡◌, ◌≢◌, IfOk, IfErr, IsOkUnless, Ok, Err};
 ghost use Rattle.mt_propagate.specs.World.{world_view};
 ghost use Rattle.mt_guard.specs.Judging.{pivot_judged, change_judged, keep_judged};
 

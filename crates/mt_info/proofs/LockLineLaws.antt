@@ -65,8 +65,8 @@ pub line_split : (text : List ℕ) (k : MountLocks) → IsLockRow k → text ≡
 line_split text k valid e =
     ap words e
     ∙ pieces_joined 32 (decimal k.mount) (join_with_byte 44 (lock_words k) ∷ [])
-      (and-true (lacks 32 (decimal k.mount)) _ (decimal-lacks k.mount valid.small)
-      (and-true (lacks 32 (join_with_byte 44 (lock_words k))) true (lacks_space (join_with_byte 44 (lock_words k)) (all-joined is_bare 44 (lock_words k) refl (locks_pass bare k refl))) refl))
+    (and-true (lacks 32 (decimal k.mount)) _ (decimal-lacks k.mount valid.small)
+    (and-true (lacks 32 (join_with_byte 44 (lock_words k))) true (lacks_space (join_with_byte 44 (lock_words k)) (all-joined is_bare 44 (lock_words k) refl (locks_pass bare k refl))) refl))
 
 pub line_is : (text first second : List ℕ) (k : MountLocks) → words text ≡ first ∷ second ∷ [] → first ≡ decimal k.mount → second ≡ join_with_byte 44 (lock_words k) → text ≡ lock_line k
 line_is text first second k e f g = sym (joined_pieces 32 text) ∙ ap (join_with_byte 32) e ∙ (λ i. f i ++ 32 ∷ g i)
@@ -83,7 +83,7 @@ pub locks_listed : (k : MountLocks) (t0 t1 t2 t3 t4 t5 t6 : List ℕ) → t0 ≡
     → t4 ≡ t3 ++ option_if k.nodev (codes "nodev") → t5 ≡ t4 ++ option_if k.noexec (codes "noexec") → t6 ≡ t5 ++ option_if k.atime (codes "atime") → drop 1 t6 ≡ join_with_byte 44 (lock_words k)
 locks_listed k t0 t1 t2 t3 t4 t5 t6 e0 e1 e2 e3 e4 e5 e6 =
     ap (drop 1)
-      (six_appended t0 t1 t2 t3 t4 t5 t6 (option_if k.place (codes "place")) (option_if k.ro (codes "ro")) (option_if k.nosuid (codes "nosuid")) (option_if k.nodev (codes "nodev")) (option_if k.noexec (codes "noexec"))
-        (option_if k.atime (codes "atime")) e0 e1 e2 e3 e4 e5 e6
-      ∙ sym (behind_set lock_flag_words (lock_flags k)) ∙ ap (behind 44) (sym (locks_grouped k)))
+    (six_appended t0 t1 t2 t3 t4 t5 t6 (option_if k.place (codes "place")) (option_if k.ro (codes "ro")) (option_if k.nosuid (codes "nosuid")) (option_if k.nodev (codes "nodev")) (option_if k.noexec (codes "noexec"))
+    (option_if k.atime (codes "atime")) e0 e1 e2 e3 e4 e5 e6
+    ∙ sym (behind_set lock_flag_words (lock_flags k)) ∙ ap (behind 44) (sym (locks_grouped k)))
     ∙ behind_first 44 (lock_words k)

@@ -22,10 +22,10 @@ returns-clause-done c =
     let listed = c.deref.ensures.value ∙ c.in_ok-members.ensures.members in
     let mounts : c.deref-3.result.now ≡ map (mount_or_unknown w) ids = c.deref-3.ensures.value ∙ c.in_ok-mounts.ensures.mounts ∙ ap (map (mount_or_unknown w)) (c.deref-2.ensures.value ∙ sym c.deref.ensures.value) in
     let rows : c.deref-4.result.now ≡ map (locks_of_copy w false s.mount) (map (mount_or_unknown w) ids) =
-        c.deref-4.ensures.value ∙ c.in_ok-push_copies.ensures.rows ∙ (λ i. c.in_ok-rows.ensures.items i ++ map (locks_of_copy w false s.mount) (mounts i)) in
-    let owner = c.next_owner.ensures ∙ ap (next_owner w) c.owner_of.ensures in
+    c.deref-4.ensures.value ∙ c.in_ok-push_copies.ensures.rows ∙ (λ i. c.in_ok-rows.ensures.items i ++ map (locks_of_copy w false s.mount) (mounts i)) in
+    let owner = c.next_owner-owner.ensures ∙ ap (next_owner w) c.owner_of.ensures in
     answered c.with_coming.result _ _ _
     (open_done w n c.args.recursive c.args.path.now s (sym c.walk.ensures ∙ c.in_ok-from.was) (sym c.is_unbindable.ensures ∙ c.if-is_unbindable.false) c.requires.well_formed ids listed
-      (uncovers_by w c.args.recursive s ids listed ∙ sym c.uncovers.ensures ∙ c.if-uncovers.false))
+    (uncovers_by w c.args.recursive s ids listed ∙ sym c.uncovers.ensures ∙ c.if-uncovers.false))
     (λ i. changed_locks [] (numbered_from w.next_mount (rows i)) (owner i) w.locks)
     c.with_coming.ensures.locks

@@ -14,7 +14,7 @@ use Rattle.mt_guard.proofs.placing.attach_locks.Goals as goal
 pub returns-clause-done : goal.returns-clause-done
 returns-clause-done c =
     let w = world_view c.args.world.now in
-    let top = c.unwrap_or.ensures ∙ ap (λ o. unwrap_or o 0) c.root.ensures ∙ root_id (root_mount w.forest c.args.tree) in
+    let top = c.unwrap_or-top.ensures ∙ ap (λ o. unwrap_or o 0) c.root.ensures ∙ root_id (root_mount w.forest c.args.tree) in
     let mounts = c.deref.ensures.value ∙ c.in_ok-mounts.ensures.mounts in
     let ts = c.deref-2.ensures.value ∙ c.in_ok-ids.ensures.targets in
     answered c.with_copies.result _ _ _ (ap (λ (at : Result Place Fault). Ok (next_locks w (attach_locking w c.args.tree c.args.space at))) (sym c.walk.ensures ∙ c.in-Ok.is))

@@ -25,7 +25,7 @@ returns-clause-done c =
     let ts = c.deref-4.ensures.value ∙ c.in_ok-ids.ensures.destinations in
     answered c.with_copies.result _ _ _
     (bind_done w n c.args.recursive c.args.from.now s (sym c.walk.ensures ∙ c.in_ok-source.was) (sym c.is_unbindable.ensures ∙ c.if-is_unbindable.false) c.requires.well_formed ids listed
-      (uncovers_by w c.args.recursive s ids listed ∙ sym c.uncovers.ensures ∙ c.if-uncovers.false)
-      c.args.to.now c.in_ok-place.place (sym c.walk-2.ensures ∙ c.in_ok-place.was) (sym c.is_root_place.ensures ∙ c.if-is_root_place.false))
+    (uncovers_by w c.args.recursive s ids listed ∙ sym c.uncovers.ensures ∙ c.if-uncovers.false)
+    c.args.to.now c.in_ok-place.place (sym c.walk-2.ensures ∙ c.in_ok-place.was) (sym c.is_root_place.ensures ∙ c.if-is_root_place.false))
     (λ i. changed_locks [] (numbered_from w.next_mount (copies_locks w n s.mount (mounts i) (ts i))) None w.locks)
     c.with_copies.ensures.locks

@@ -17,7 +17,7 @@ returns-clause-done c =
     let ts = c.deref-3.ensures.value ∙ c.in_ok-ids.ensures.targets in
     answered c.with_copies.result _ _ _
     (move_done w n c.args.from.now c.args.to.now s c.in_ok-place.place (sym c.is_tree.ensures ∙ c.if-is_tree.false) (sym c.walk.ensures ∙ c.in_ok-source.was)
-      (sym c.is_mount_root.ensures ∙ c.if-not-is_mount_root.false) (sym c.is_root_mount.ensures ∙ c.if-is_root_mount.false) (sym c.walk-2.ensures ∙ c.in_ok-place.was)
-      (sym c.is_root_place.ensures ∙ c.if-is_root_place.false) (sym c.is_locked.ensures ∙ c.if-is_locked.false) c.requires.well_formed ids listed)
+    (sym c.is_mount_root.ensures ∙ c.if-not-is_mount_root.false) (sym c.is_root_mount.ensures ∙ c.if-is_root_mount.false) (sym c.walk-2.ensures ∙ c.in_ok-place.was)
+    (sym c.is_root_place.ensures ∙ c.if-is_root_place.false) (sym c.is_locked.ensures ∙ c.if-is_locked.false) c.requires.well_formed ids listed)
     (λ i. changed_locks [] (numbered_from w.next_mount (copies_locks w n s.mount (mounts i) (ts i))) None w.locks)
     c.with_copies.ensures.locks

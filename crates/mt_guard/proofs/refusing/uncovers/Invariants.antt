@@ -1,5 +1,5 @@
 use Rattle.std.proofs.Common.{◌≡◌, drop}
-use Rattle.std.specs.Prelude.{ℕ, Bool, ◌&&◌, false, not}
+use Rattle.std.specs.Prelude.{ℕ, Bool, ◌&&◌, false, not, List}
 use Rattle.std.specs.List.{list_any}
 use Rattle.std.specs.Option.{option_map_or}
 use Rattle.mt_skel.specs.Keyed.{among}

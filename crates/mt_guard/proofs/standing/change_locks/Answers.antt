@@ -10,5 +10,5 @@ pub returns-clause-done : goal.returns-clause-done
 returns-clause-done c =
     subst (λ (j : Result LocksView Fault). IfOk c.same_locks.result (λ l. j ≡ Ok l))
     (sym (change_done (world_view c.args.world.now) c.args.space c.args.path.now c.args.change.now c.in_ok-place.place (sym c.walk.ensures ∙ c.in_ok-place.was)
-      (sym c.is_mount_root.ensures ∙ c.if-not-is_mount_root.false) (sym c.clashes.ensures ∙ c.if-clashes.false) (sym c.changes_inside.ensures ∙ c.if-changes_inside.false) (sym c.unlocks_some.ensures ∙ c.if-unlocks_some.false)))
+    (sym c.is_mount_root.ensures ∙ c.if-not-is_mount_root.false) (sym c.clashes.ensures ∙ c.if-clashes.false) (sym c.changes_inside.ensures ∙ c.if-changes_inside.false) (sym c.unlocks_some.ensures ∙ c.if-unlocks_some.false)))
     c.same_locks.ensures.done
