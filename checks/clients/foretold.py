@@ -240,16 +240,22 @@ def check_by_hand(mountctl):
         check_said(mountctl, "a master with a mount in one more table", names + others, LEFT, (0, KEPT_SAID))
 
 
-def check_recorded(program, mountctl):
-    """Questions about recorded tables."""
-    source, count = random.Random(83), 0
+def recorded_questions(seed, count):
+    """Random questions about each of the recorded tables, so many: a name, the tables, and lines of mount(8)."""
+    source = random.Random(seed)
     for parts in TABLES:
         tables = [read(*part).splitlines() for part in parts]
         points = {number: [row_of(line).point for line in table] for number, table in enumerate(tables, 1)}
-        for number in range(QUESTIONS):
+        for number in range(count):
             lines = [random_line(source, points) for _ in range(source.randint(1, LINES))]
-            check_question(program, mountctl, f"question {number} about {parts[0][-1]}", tables, lines)
-            count += 1
+            yield f"question {number} about {parts[0][-1]}", tables, lines
+
+
+def check_recorded(program, mountctl):
+    """Questions about recorded tables."""
+    count = 0
+    for count, question in enumerate(recorded_questions(83, QUESTIONS), 1):
+        check_question(program, mountctl, *question)
     print(f"{count} questions about recorded tables, beside sessions", flush=True)
 
 

@@ -4,17 +4,16 @@ The page opens with the tables that are asked about, under their names, and its 
 one after another, leads from the first tables to those to which the changes lead that `what-if --json` tells of all lines together.
 """
 import os
-import random
 
-from clients.foretold import TABLES, Answer, changed, random_line, row_told, words_of
-from clients.outcomes import files_of, row_of
+from clients.foretold import Answer, changed, recorded_questions, row_told, words_of
+from clients.outcomes import files_of
 from clients.played import data_in, sentence_of
-from harness.runs import TOP, check, read, run, shown
+from harness.runs import TOP, check, run, shown
 
 HOST, CONTAINER = (os.path.join(TOP, "docs", "tables", name) for name in ("host", "container"))
 
-# How many questions are asked about each of the recorded tables, and how many lines one has at most.
-QUESTIONS, LINES = 12, 4
+# How many questions are asked about each of the recorded tables.
+QUESTIONS = 12
 
 # Lines of a namespace that one of them makes, and the namespaces in which each step changes something.
 OF_MADE = ("unshare -m", [3]), ("nsenter -t new:1 -m mount -t tmpfs none /media", [3]), ("mount --make-rslave /", [1])
@@ -64,13 +63,9 @@ def check_question(mountctl, name, tables, lines):
 
 def check_recorded(mountctl):
     """Questions about recorded tables."""
-    source, count = random.Random(89), 0
-    for parts in TABLES:
-        tables = [read(*part).splitlines() for part in parts]
-        points = {number: [row_of(line).point for line in table] for number, table in enumerate(tables, 1)}
-        for number in range(QUESTIONS):
-            lines = [random_line(source, points) for _ in range(source.randint(1, LINES))]
-            count += check_question(mountctl, f"the page of question {number} about {parts[0][-1]}", tables, lines)
+    count = 0
+    for name, tables, lines in recorded_questions(89, QUESTIONS):
+        count += check_question(mountctl, f"the page of {name}", tables, lines)
     check("changes on pages of questions", count > 0)
     print(f"{count} changes on pages of questions about recorded tables", flush=True)
 
