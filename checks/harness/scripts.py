@@ -193,7 +193,9 @@ class Author:
         return [self.child([row for row in rows if row.id in bearers] or rows)]
 
     def copyns(self, _rows):
-        return [b"less"] if self.chance.random() < self.less else []
+        if self.chance.random() >= self.less:
+            return []
+        return [b"less", b"lock"] if self.chance.random() < 0.6 else [b"less"]
 
     def dropns(self, _rows):
         return []

@@ -4,6 +4,7 @@ pub mod Reading
 pub mod Calls
 pub mod Mirroring
 pub mod Awaited
+pub mod Locked
 pub mod Finding
 pub mod Telling
 pub mod Due

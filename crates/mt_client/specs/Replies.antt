@@ -10,7 +10,7 @@ use Rattle.mt_info.specs.declared.row.Row.{Row}
 use Rattle.mt_events.specs.Posts.{PostView, post_text}
 use Rattle.mt_protocol.specs.Verbs.{has_command_verb}
 use Rattle.mt_protocol.specs.declared.form.Form.{Form}
-use Rattle.mt_protocol.specs.declared.form.Form.TheVariants.{Table, Opening, Posts, Commands, Followed}
+use Rattle.mt_protocol.specs.declared.form.Form.TheVariants.{Table, Locks, Opening, Posts, Commands, Followed}
 use Rattle.mt_client.specs.declared.block.Block.{Block}
 use Rattle.mt_client.specs.declared.block.Block.TheVariants.{Namespace, Post, Command}
 use Rattle.mt_client.specs.Limits.{most_rows}
@@ -18,6 +18,7 @@ use Rattle.mt_client.specs.Requests.{verdict, is_refusal, lines_behind, event_co
 use Rattle.mt_client.specs.Reading.{printed}
 use Rattle.mt_client.specs.Mirroring.{IsSentPost, counted_line, heading_words}
 use Rattle.mt_client.specs.Awaited.{AreRowLines}
+use Rattle.mt_client.specs.Locked.{AreLockLines}
 
 -- the line of the row of this ID, which is above the last one, if there was one
 abbrev pub IsRowOf : Option ℕ → ℕ → List (List ℕ) → Type 0
@@ -69,6 +70,7 @@ AreBlockLines block count lines = AreBlocks (IsBlock block) lines × (length lin
 -- so many lines behind the first line of an answer
 abbrev pub AreBehind : Form → ℕ → List (List ℕ) → Type 0
 AreBehind Table count lines = AreRowLines count lines
+AreBehind Locks count lines = AreLockLines count lines
 AreBehind Opening count lines = AreBlockLines Namespace count lines
 AreBehind Posts count lines = AreBlockLines Post count lines
 AreBehind Commands count lines = AreBlockLines Command count lines

@@ -83,7 +83,7 @@ abbrev pub umount_line : List ℕ → List ℕ → Bool → Reach → List ℕ
 umount_line space target lazy reach = if starts_with nat_eq target (codes "/") then umount_at_path space target lazy reach else []
 
 abbrev pub copy_line : List ℕ → Bool → List ℕ
-copy_line space less = codes "copyns" ++ behind_word space ++ (if less then codes " less\n" else codes "\n")
+copy_line space less = codes "copyns" ++ behind_word space ++ (if less then codes " less lock\n" else codes "\n")
 
 abbrev pub own_line : List ℕ → List (List ℕ) → List ℕ
 own_line verb words = escaped verb ++ flat_map behind_word words ++ 10 ∷ []

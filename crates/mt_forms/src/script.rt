@@ -227,7 +227,7 @@ fn push_copy(text: &mut Vec<u8>, space: &[u8], less: bool) -> Done
     text.extend_from_slice(b"copyns")?;
     push_word(text, space)?;
     if less {
-        text.extend_from_slice(b" less\n")?;
+        text.extend_from_slice(b" less lock\n")?;
     } else {
         text.push(b'\n')?;
     }
