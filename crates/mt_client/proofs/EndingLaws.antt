@@ -28,7 +28,7 @@ use Rattle.mt_client.proofs.SeriesLaws.{Series, IsSeries, Came, came_cut, in_lin
 use Rattle.mt_client.proofs.RelayLaws.{come_prepended, none_from, first_alike, sent_whole, lines_alike}
 use Rattle.std.specs.Str.{bytes_eq}
 use Rattle.std.proofs.lemmas.Slice.Eq.{bytes_eq-Decides}
-use Rattle.mt_protocol.specs.declared.form.Form.TheVariants.{Done, Number, Place, Table, Opening, Posts, Commands, Followed, Never}
+use Rattle.mt_protocol.specs.declared.form.Form.TheVariants.{Done, Number, Place, Table, Locks, Opening, Posts, Commands, Followed, Never}
 use Rattle.mt_protocol.specs.Verbs.{first_of, has_command_verb}
 use Rattle.mt_lines.specs.declared.stream.Cut.{Cut}
 use Rattle.mt_lines.specs.declared.stream.Output.{Ghosts as OutputGhosts}
@@ -282,6 +282,7 @@ answer_ending taken told seen before middle rest came there tells not =
 -- no line stands behind the first one of these answers
 behind_none : (form : Form) → ((form ≡ Done) ⊎ ((form ≡ Number) ⊎ ((form ≡ Place) ⊎ ((form ≡ Followed) ⊎ (form ≡ Never))))) → (count : ℕ) (lines : List (List ℕ)) → AreBehind form count lines → count ≡ 0
 behind_none Table is count lines k = grind (arith, is)
+behind_none Locks is count lines k = grind (arith, is)
 behind_none Opening is count lines k = grind (arith, is)
 behind_none Posts is count lines k = grind (arith, is)
 behind_none Commands is count lines k = grind (arith, is)
@@ -291,7 +292,7 @@ pub behind_needs_none : (form : Form) → ((form ≡ Done) ⊎ ((form ≡ Number
 behind_needs_none form is count before other lines later k e = other (behind_none form is count lines k)
 
 -- every answer but that of posts that are followed is known by its first line
-pub heads : (form : Form) → ((form ≡ Done) ⊎ ((form ≡ Number) ⊎ ((form ≡ Place) ⊎ ((form ≡ Table) ⊎ ((form ≡ Opening) ⊎ ((form ≡ Posts) ⊎ ((form ≡ Commands) ⊎ (form ≡ Never)))))))) → ◌≡◌ {A = List (List ℕ) → Bool → Type 0} (IsHeaded form) (IsAnswer form)
+pub heads : (form : Form) → ((form ≡ Done) ⊎ ((form ≡ Number) ⊎ ((form ≡ Place) ⊎ ((form ≡ Table) ⊎ ((form ≡ Locks) ⊎ ((form ≡ Opening) ⊎ ((form ≡ Posts) ⊎ ((form ≡ Commands) ⊎ (form ≡ Never))))))))) → ◌≡◌ {A = List (List ℕ) → Bool → Type 0} (IsHeaded form) (IsAnswer form)
 heads form is = grind (arith, is)
 
 -- a line that refuses tells `no`
@@ -313,6 +314,7 @@ refusal_answers Done line e = headed_refusal Done line (refl, refl) e
 refusal_answers Number line e = headed_refusal Number line (refl, refl) e
 refusal_answers Place line e = headed_refusal Place line (refl, refl) e
 refusal_answers Table line e = headed_refusal Table line no_rows.0 e
+refusal_answers Locks line e = headed_refusal Locks line (record { rows = []; valid = tt; rising = refl; many = refl; all = refl }) e
 refusal_answers Opening line e = headed_refusal Opening line (record { blocks = []; each = tt; all = refl }, refl) e
 refusal_answers Posts line e = headed_refusal Posts line (record { blocks = []; each = tt; all = refl }, refl) e
 refusal_answers Commands line e = headed_refusal Commands line (record { blocks = []; each = tt; all = refl }, refl) e

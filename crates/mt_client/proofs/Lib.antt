@@ -2,6 +2,7 @@ pub mod RelayLaws
 pub mod CallLaws
 pub mod OpeningLaws
 pub mod RowLaws
+pub mod LockedLaws
 pub mod SeriesLaws
 pub mod FollowLaws
 pub mod EndingLaws

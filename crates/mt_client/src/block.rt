@@ -98,9 +98,13 @@ fn lock_above(text: &[u8], last: Option<MountId>) -> Result<MountId, ClientFault
     ensures refused { result ≡ Err ClientFault.Connection → IsLockAbove last (text.now ∷ []) → ⊥ }
     ensures kind { result ≢ Err ClientFault.Output }
 {
-    match read_lock_line(text) {
-        Ok(locks) if is_above(last, locks.mount) => Ok(locks.mount),
-        _ => Err(ClientFault::Connection),
+    let Ok(locks) = read_lock_line(text) else {
+        return Err(ClientFault::Connection);
+    };
+    if is_above(last, locks.mount) {
+        Ok(locks.mount)
+    } else {
+        Err(ClientFault::Connection)
     }
 }
 

@@ -1,6 +1,6 @@
 -- How what is locked changes with a command.
 -- A word with no source is this project's rule.
-use Rattle.std.specs.Prelude.{ℕ, Bool, cond, List, [], Option, None, Some, Result}
+use Rattle.std.specs.Prelude.{ℕ, Bool, true, cond, List, [], Option, None, Some, Result}
 use Rattle.mt_skel.specs.declared.fault.Fault.{Fault}
 use Rattle.mt_mounts.specs.declared.mount.Place.{Place}
 use Rattle.mt_locks.specs.declared.mount_locks.MountLocks.{MountLocks}

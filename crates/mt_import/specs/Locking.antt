@@ -6,13 +6,13 @@ use Rattle.std.specs.Str.{bytes_eq}
 use Rattle.mt_import.specs.Reading.{ToldMount}
 
 -- a row tells the same mount point, root and device as another one (proc_pid_mountinfo(5), fields 3 to 5)
-abbrev pub is_counterpart : ToldMount → ToldMount → Bool
-is_counterpart row other = bytes_eq other.point row.point && bytes_eq other.root row.root && bytes_eq other.device row.device
+abbrev pub tells_same_mount : ToldMount → ToldMount → Bool
+tells_same_mount row other = bytes_eq other.point row.point && bytes_eq other.root row.root && bytes_eq other.device row.device
 
 -- a mount came with a copy of the first namespace if that has a row of it
-abbrev pub came_along : List ToldMount → ToldMount → Bool
-came_along first row = list_any (is_counterpart row) first
+abbrev pub is_in_table : List ToldMount → ToldMount → Bool
+is_in_table first row = list_any (tells_same_mount row) first
 
 -- a less privileged copy of a mount is as the mount itself is, unless that is a member of a peer group (mount_namespaces(7))
-abbrev pub may_be_locked : List ToldMount → ToldMount → Bool
-may_be_locked first row = not (is_some row.shared) && came_along first row
+abbrev pub came_as_copy : List ToldMount → ToldMount → Bool
+came_as_copy first row = not (is_some row.shared) && is_in_table first row

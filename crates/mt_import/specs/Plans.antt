@@ -10,7 +10,7 @@ use Rattle.mt_import.specs.declared.groups.Group.{Group}
 use Rattle.mt_import.specs.declared.mount.Mount.{Mount}
 use Rattle.mt_import.specs.declared.space.Space.{Space}
 use Rattle.mt_import.specs.declared.space.Way.{Way}
-use Rattle.mt_import.specs.Locking.{may_be_locked}
+use Rattle.mt_import.specs.Locking.{came_as_copy}
 use Rattle.mt_import.specs.Reading.{ToldMount}
 use Rattle.mt_import.specs.Telling.{is_made, is_shown}
 
@@ -49,7 +49,7 @@ rows_made of = rows_made_from of.ways.items 0 of.tree.mounts
 -- A foreign namespace is made with locks if all its mounts that are made may be locked, and it is not the one of which the others are copies: it is then a less
 -- privileged copy of the one in which they are made (mount_namespaces(7)).
 abbrev pub is_lockable : List ToldMount → Space → Bool
-is_lockable first of = is_shown of && of.tree.told.is_foreign && nat_lt 1 of.original && list_all (may_be_locked first) (rows_made of)
+is_lockable first of = is_shown of && of.tree.told.is_foreign && nat_lt 1 of.original && list_all (came_as_copy first) (rows_made of)
 
 -- such a copy has the next number, and another namespace the one with which its mounts are made
 abbrev pub has_own_number : List ToldMount → Space → Bool

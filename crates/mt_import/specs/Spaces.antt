@@ -11,7 +11,7 @@ use Rattle.mt_import.specs.Commands.{copy_text, locked_copy_text, drop_text}
 use Rattle.mt_import.specs.Covers.{covered, finished}
 use Rattle.mt_import.specs.Script.{table_comment}
 use Rattle.mt_import.specs.Slots.{stage}
-use Rattle.mt_import.specs.Telling.{is_made, is_shown, is_locked}
+use Rattle.mt_import.specs.Telling.{is_made, is_shown, has_locks}
 use Rattle.mt_import.specs.Turns.{turns_from}
 
 -- the numbers of those that pass a test, if that of the first is this one
@@ -42,7 +42,7 @@ locked_if false original = []
 unfoldable pub space_text : BTreeMap ℕ Group → Space → List ℕ
 space_text groups of =
     ((table_comment of.tree.table (codes " is namespace ") (decimal of.number) ++ copied_if (nat_lt 1 of.original)) ++ mounts_made groups (decimal of.original) stage of)
-    ++ locked_if (is_locked of) (decimal of.original)
+    ++ locked_if (has_locks of) (decimal of.original)
 
 -- the namespaces of the tables of which the root mount is made
 abbrev pub made_if_shown : BTreeMap ℕ Group → Space → List ℕ

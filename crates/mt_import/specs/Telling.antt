@@ -39,13 +39,13 @@ abbrev pub is_shown : Space → Bool
 is_shown space = is_made space.ways.items 0
 
 -- whether it is made with locks: as a copy of the namespace in which its mounts are made, which has a number before its own
-abbrev pub is_locked : Space → Bool
-is_locked space = nat_lt space.original space.number
+abbrev pub has_locks : Space → Bool
+has_locks space = nat_lt space.original space.number
 
 -- a foreign namespace is told that is made without, since its table does not tell which mounts came with a copy of another one
 -- (mount_namespaces(7), restrictions on mount namespaces)
 abbrev pub has_unknown_locks : Space → Bool
-has_unknown_locks space = space.tree.told.is_foreign && is_shown space && not (is_locked space)
+has_unknown_locks space = space.tree.told.is_foreign && is_shown space && not (has_locks space)
 
 abbrev pub lockless_text : Bool → ℕ → List ℕ
 lockless_text true table = table_comment table (codes " is of another user namespace, and its locks are not known") []

@@ -39,9 +39,10 @@ fn trees_of<'a>(
     let mut trees = Vec::new(alloc);
     'tables: for (before, told) in tables.iter().enumerate() {
         let number = before.saturating_add(1);
-        let is_told = tables[..before]
-            .iter()
-            .any(|other| are_same(other.rows.as_slice(), told.rows.as_slice()));
+        let is_told = tables[..before].iter().any(|other| are_same(
+            other.rows.as_slice(),
+            told.rows.as_slice(),
+        ));
         trees.push(tree_of(alloc, number, told, is_told, refused)?)?;
     }
     Ok(trees)

@@ -6,7 +6,7 @@
 //! one in which its mounts were made; there a member of a peer group would become a slave, so none may be one.
 ghost use Rattle.std.specs.Prelude.{◌≡◌};
 ghost use Rattle.std.specs.List.{list_all};
-ghost use Rattle.mt_import.specs.Locking.{is_counterpart, came_along, may_be_locked};
+ghost use Rattle.mt_import.specs.Locking.{tells_same_mount, is_in_table, came_as_copy};
 ghost use Rattle.mt_import.specs.Plans.{rows_made_from, is_lockable};
 
 use crate::host_mount::HostMount;
@@ -14,8 +14,8 @@ use crate::mount::Mount;
 use crate::space::{Space, Way, is_made};
 
 /// Whether a row tells the same mount point, root and device as another one.
-fn is_counterpart(row: &HostMount, other: &HostMount) -> bool
-    ensures { result ≡ is_counterpart row.now other.now }
+fn tells_same_mount(row: &HostMount, other: &HostMount) -> bool
+    ensures { result ≡ tells_same_mount row.now other.now }
 {
     other.point.as_slice() == row.point.as_slice()
         && other.root.as_slice() == row.root.as_slice()
@@ -23,25 +23,25 @@ fn is_counterpart(row: &HostMount, other: &HostMount) -> bool
 }
 
 /// Whether a mount came with a copy of the first namespace, of which these are the rows.
-fn came_along(first: &[HostMount], row: &HostMount) -> bool
-    ensures { result ≡ came_along first.now row.now }
+fn is_in_table(first: &[HostMount], row: &HostMount) -> bool
+    ensures { result ≡ is_in_table first.now row.now }
 {
-    first.iter().any(|other| is_counterpart(row, other))
+    first.iter().any(|other| tells_same_mount(row, other))
 }
 
 /// Whether a mount came with a copy of the first namespace, and a less privileged copy of it is as it is itself.
-fn may_be_locked(first: &[HostMount], row: &HostMount) -> bool
-    ensures { result ≡ may_be_locked first.now row.now }
+fn came_as_copy(first: &[HostMount], row: &HostMount) -> bool
+    ensures { result ≡ came_as_copy first.now row.now }
 {
-    row.shared.is_none() && came_along(first, row)
+    row.shared.is_none() && is_in_table(first, row)
 }
 
 /// Whether all these mounts that are made may be locked.
-fn all_may_be_locked(first: &[HostMount], mounts: &[Mount<'_>], ways: &[Way]) -> bool
-    ensures { result ≡ list_all (may_be_locked first.now) (rows_made_from ways.now 0 mounts.now) }
+fn all_came_along(first: &[HostMount], mounts: &[Mount<'_>], ways: &[Way]) -> bool
+    ensures { result ≡ list_all (came_as_copy first.now) (rows_made_from ways.now 0 mounts.now) }
 {
     'mounts: for (number, mount) in mounts.iter().enumerate() {
-        if is_made(ways, number) && !may_be_locked(first, mount.row) {
+        if is_made(ways, number) && !came_as_copy(first, mount.row) {
             return false;
         }
     }
@@ -57,5 +57,5 @@ pub(crate) fn is_lockable(first: &[HostMount], space: &Space<'_>) -> bool
     space.is_shown()
         && tree.is_foreign()
         && space.original > 1
-        && all_may_be_locked(first, tree.mounts(), space.ways.as_slice())
+        && all_came_along(first, tree.mounts(), space.ways.as_slice())
 }

@@ -1,7 +1,7 @@
 //! A table with what a script makes of it, and how its mounts come to their places: which are made apart, and where hooks would
 //! be in their way.
 ghost use Rattle.std.specs.Prelude.{◌≡◌, map, IfOk};
-ghost use Rattle.mt_import.specs.Telling.{is_made, is_shown, is_locked, has_unknown_locks};
+ghost use Rattle.mt_import.specs.Telling.{is_made, is_shown, has_locks, has_unknown_locks};
 ghost use Rattle.mt_import.specs.Turns.{hooked_by};
 
 use crate::groups::Groups;
@@ -142,8 +142,8 @@ impl<'a> Space<'a> {
     }
 
     /// Whether it is made with locks.
-    pub(crate) fn is_locked(&self) -> bool
-        ensures { result ≡ is_locked self.now }
+    pub(crate) fn has_locks(&self) -> bool
+        ensures { result ≡ has_locks self.now }
     {
         self.original < self.number
     }
@@ -152,7 +152,7 @@ impl<'a> Space<'a> {
     pub(crate) fn has_unknown_locks(&self) -> bool
         ensures { result ≡ has_unknown_locks self.now }
     {
-        self.tree.is_foreign() && self.is_shown() && !self.is_locked()
+        self.tree.is_foreign() && self.is_shown() && !self.has_locks()
     }
 
     /// The number of the last namespace that is there once this one is made, if it is made, after the one of a number.

@@ -38,10 +38,10 @@ fn copy_for(script: &mut Script, number: usize) -> Written
 
 /// Puts a less privileged copy in which all is locked in the place of the namespace of a number, if the locks are known.
 #[tactic(auto, using(crate::proofs::CommandLaws::locked_pushed))]
-fn lock_copy(script: &mut Script, is_locked: bool, original: &[u8]) -> Written
-    ensures { OnOk result (script.new ≡ script.old ++ locked_if is_locked original.now) }
+fn lock_copy(script: &mut Script, has_locks: bool, original: &[u8]) -> Written
+    ensures { OnOk result (script.new ≡ script.old ++ locked_if has_locks original.now) }
 {
-    if !is_locked {
+    if !has_locks {
         return Ok(());
     }
     command(script, &[b"copyns", original, b"less", b"lock"])?;
@@ -67,7 +67,7 @@ fn make_space(script: &mut Script, groups: &Groups<'_>, space: &Space<'_>) -> Wr
     table_comment(script, tree.table, b" is namespace ", number.as_slice())?;
     copy_for(script, space.original)?;
     site.make_mounts(script, space)?;
-    lock_copy(script, space.is_locked(), original.as_slice())?;
+    lock_copy(script, space.has_locks(), original.as_slice())?;
     Ok(())
 }
 

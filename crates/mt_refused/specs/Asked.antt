@@ -78,11 +78,11 @@ is_set (command.SetAttr n path change) = true
 is_set c = false
 
 -- it is of a whole tree
-abbrev pub is_recursive : Command → Bool
-is_recursive (command.Bind n src dst recursive) = recursive
-is_recursive (command.OpenTree n path recursive) = recursive
-is_recursive (command.SetAttr n path change) = change.recursive
-is_recursive c = false
+abbrev pub is_of_tree : Command → Bool
+is_of_tree (command.Bind n src dst recursive) = recursive
+is_of_tree (command.OpenTree n path recursive) = recursive
+is_of_tree (command.SetAttr n path change) = change.recursive
+is_of_tree c = false
 
 -- one of two names
 abbrev pub either : Which → List ℕ → List ℕ → List ℕ

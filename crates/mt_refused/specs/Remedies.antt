@@ -12,7 +12,7 @@ use Rattle.mt_reach.specs.Refusals as refusals
 use Rattle.mt_refused.specs.declared.asked.Which.TheVariants.{First, Second}
 use Rattle.mt_refused.specs.declared.hindrance.Hindrance.{Hindrance}
 use Rattle.mt_refused.specs.declared.hindrance.Hindrance.TheVariants as hindrance
-use Rattle.mt_refused.specs.Asked.{takes_mounts, is_set, is_recursive}
+use Rattle.mt_refused.specs.Asked.{takes_mounts, is_set, is_of_tree}
 use Rattle.mt_refused.specs.Pages.{PageView}
 use Rattle.mt_refused.specs.Parts.{all_texts, point_text, mount_told, asked_text}
 
@@ -117,7 +117,7 @@ module _ (v : PageView) where
   whole_remedy c = []
 
   abbrev pub whole_help : List ℕ
-  whole_help = cond (not (is_recursive v.command)) (whole_remedy v.command) (codes "  to change that: setattr prop=private of each unbindable one below it\n")
+  whole_help = cond (not (is_of_tree v.command)) (whole_remedy v.command) (codes "  to change that: setattr prop=private of each unbindable one below it\n")
 
   -- what would change a refusal
   abbrev pub remedies : Hindrance → List ℕ

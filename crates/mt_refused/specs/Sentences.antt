@@ -7,7 +7,7 @@ use Rattle.mt_refused.specs.declared.asked.Which.{Which}
 use Rattle.mt_refused.specs.declared.asked.Which.TheVariants.{First, Second}
 use Rattle.mt_refused.specs.declared.hindrance.Hindrance.{Hindrance}
 use Rattle.mt_refused.specs.declared.hindrance.Hindrance.TheVariants as hindrance
-use Rattle.mt_refused.specs.Asked.{is_recursive}
+use Rattle.mt_refused.specs.Asked.{is_of_tree}
 use Rattle.mt_refused.specs.Pages.{PageView}
 use Rattle.mt_refused.specs.Parts.{all_texts, counted_text, mount_told, group_text, called_text}
 
@@ -82,11 +82,15 @@ module _ (v : PageView) where
   abbrev pub locked_inside_words : ℕ → List ℕ
   locked_inside_words on = all_texts (called_text v First ∷ codes " is on " ∷ mount_told v on ∷ codes ", and a mount below that is locked on its place would be left out" ∷ [])
 
-  -- or its attributes are
+  -- what a path leads to, and what is said of that
+  abbrev pub led_words : ℕ → List ℕ → List ℕ
+  led_words i said = all_texts (called_text v First ∷ codes " is " ∷ mount_told v i ∷ said ∷ [])
+
+  -- or its attributes are, or those of a mount of its tree
   abbrev pub locked_attr_words : ℕ → List ℕ
   locked_attr_words i =
-      all_texts (called_text v First ∷ codes " is " ∷ mount_told v i ∷ cond (is_recursive v.command) (codes ", in the tree of which") (codes ", of which")
-      ∷ codes " an attribute is locked that would change" ∷ [])
+      cond (is_of_tree v.command) (led_words i (codes ", in the tree of which an attribute is locked that would change"))
+      (led_words i (codes ", of which an attribute is locked that would change"))
 
   -- what is in the way
   abbrev pub sentence : Hindrance → List ℕ

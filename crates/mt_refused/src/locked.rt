@@ -1,22 +1,16 @@
 //! What is told of a refusal for a lock.
 //!
 //! What came with a copy into another user namespace is locked there (mount_namespaces(7), restrictions on mount namespaces).
-ghost use Rattle.std.specs.Prelude.{◌≡◌, ◌++◌, cond, codes, OnOk};
-ghost use Rattle.mt_refused.specs.Sentences.{locked_words, locked_inside_words, locked_attr_words};
+ghost use Rattle.std.specs.Prelude.{◌≡◌, ◌++◌, OnOk};
+ghost use Rattle.mt_refused.specs.Sentences.{locked_words, locked_inside_words, led_words, locked_attr_words};
 ghost use Rattle.mt_refused.specs.Remedies.{leave_help, whole_remedy, whole_help, keep_help};
 
-use crate::asked::{Which, is_recursive};
+use crate::asked::{Which, is_of_tree};
 use crate::page::Page;
 use crate::part::{Part, push_parts};
 use mt_book::command::Command;
 use mt_mounts::mount::MountId;
 use std::alloc::AllocError;
-
-/// How a change is told to be of the tree of a mount.
-const OF_TREE: &[u8] = b", in the tree of which";
-
-/// And of the mount alone.
-const OF_MOUNT: &[u8] = b", of which";
 
 /// Says that a mount is locked on its place.
 pub(crate) fn push_locked(
@@ -58,11 +52,25 @@ pub(crate) fn push_locked_inside(
     )
 }
 
-/// How a change is told to be of a mount, or of its tree.
-fn of_which(recursive: bool) -> &'static [u8]
-    ensures { result.now ≡ cond recursive (codes ", in the tree of which") (codes ", of which") }
+/// Says to which mount the path leads, and what is said of that one.
+fn push_led(
+    text: &mut Vec<u8>,
+    page: &Page<'_>,
+    mount: MountId,
+    said: &'static [u8],
+) -> Result<(), AllocError>
+    ensures { OnOk result (text.new.items ≡ text.old.items ++ led_words page.now mount said.now) }
 {
-    if recursive { OF_TREE } else { OF_MOUNT }
+    push_parts(
+        text,
+        page,
+        &[
+            Part::Asked(Which::First),
+            Part::Text(b" is "),
+            Part::Mount(mount),
+            Part::Text(said),
+        ],
+    )
 }
 
 /// Says that an attribute is locked that would change.
@@ -73,18 +81,13 @@ pub(crate) fn push_locked_attr(
 ) -> Result<(), AllocError>
     ensures { OnOk result (text.new.items ≡ text.old.items ++ locked_attr_words page.now mount) }
 {
-    let whose = of_which(is_recursive(page.command));
-    push_parts(
-        text,
-        page,
-        &[
-            Part::Asked(Which::First),
-            Part::Text(b" is "),
-            Part::Mount(mount),
-            Part::Text(whose),
-            Part::Text(b" an attribute is locked that would change"),
-        ],
-    )
+    let said: &'static [u8] = b", of which an attribute is locked that would change";
+    let said_of_tree: &'static [u8] =
+        b", in the tree of which an attribute is locked that would change";
+    if is_of_tree(page.command) {
+        return push_led(text, page, mount, said_of_tree);
+    }
+    push_led(text, page, mount, said)
 }
 
 /// Says what may be done where a mount is locked on its place.
@@ -133,7 +136,7 @@ fn push_whole_remedy(text: &mut Vec<u8>, page: &Page<'_>) -> Result<(), AllocErr
 pub(crate) fn push_whole(text: &mut Vec<u8>, page: &Page<'_>) -> Result<(), AllocError>
     ensures { OnOk result (text.new.items ≡ text.old.items ++ whole_help page.now) }
 {
-    if !is_recursive(page.command) {
+    if !is_of_tree(page.command) {
         return push_whole_remedy(text, page);
     }
     text.extend_from_slice(
