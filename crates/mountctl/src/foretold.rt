@@ -6,6 +6,7 @@ use crate::foretold_page::print_foretold_page;
 use crate::messages::{NAME, tell_reason, tell_refused};
 use crate::missed::{tell_lockless_tables, tell_missed};
 use crate::namespaces::{Namespaces, named_tables};
+use crate::room::room_among;
 use crate::screen::standard_output;
 use crate::script::{SCRIPT_LIMIT, is_comment};
 use crate::task::{WordFault, parted};
@@ -17,6 +18,8 @@ use mt_lines::stream::{Reading, send};
 use mt_lines::words::Pieces;
 use mt_reasons::line::reason_of;
 use mt_render::telling::Telling;
+use mt_skel::fault::Fault as Refusal;
+use mt_skel::skel::MOST_ROOM;
 use mt_terminal::message::Shown;
 use mt_what_if::asked::{AskedLine, SpaceWord, WrongLine, read_asked};
 use mt_what_if::foretelling::{Foretold, Manner, Question, foretell};
@@ -43,6 +46,8 @@ struct Options {
     page: bool,
     /// Whether a change in a namespace that no line names makes the status 4.
     fails: bool,
+    /// To what room the world of the tables is held.
+    room: usize,
 }
 
 impl Options {
@@ -59,14 +64,19 @@ impl Options {
     }
 }
 
-/// The words in front of the lines, without options, and the options.
-fn options_of<'a>(alloc: Global, words: &[&'a str]) -> Result<(Vec<&'a str>, Options), AllocError> {
+/// The words in front of the lines, without options, and the options, of which one is the room that was said.
+fn options_of<'a>(
+    alloc: Global,
+    words: &[&'a str],
+    room: usize,
+) -> Result<(Vec<&'a str>, Options), AllocError> {
     let mut others = Vec::new(alloc);
     let mut options = Options {
         each: false,
         json: false,
         page: false,
         fails: false,
+        room,
     };
     for word in words {
         match *word {
@@ -282,9 +292,17 @@ fn status_of_answer(outcome: Outcome, leaks: bool, options: Options) -> ExitCode
     }
 }
 
+/// Says that a line meets a limit of the room, if it was refused for that; a greater one may do.
+fn tell_room_met(rt: &HostRuntime, outcome: Outcome, room: usize) {
+    if matches!(outcome, Outcome::Refused(Refusal::TooMany)) && room < MOST_ROOM {
+        let _ = eprintln!(rt; "{NAME}: a limit is met with --room {room}; {MOST_ROOM} is the greatest");
+    }
+}
+
 /// Prints an answer.
 fn print_answer(rt: &HostRuntime, answer: &Foretold, options: Options) -> ExitCode {
     let mut out = standard_output(rt);
+    tell_room_met(rt, answer.outcome, options.room);
     match send(&mut out, answer.text.as_slice()) {
         Ok(()) => status_of_answer(answer.outcome, answer.leaks, options),
         Err(_) => PROGRAM.fail(rt, Fault::Output.message()),
@@ -332,7 +350,7 @@ fn ask(
     options: Options,
 ) -> Result<ExitCode, ExitCode> {
     let alloc = rt.alloc();
-    let Ok(mut begun) = begin(alloc, names.tables()) else {
+    let Ok(mut begun) = begin(alloc, names.tables(), options.room) else {
         return Err(PROGRAM.fail(rt, Fault::NoMemory.message()));
     };
     tell_missed(rt, names, begun.missed.as_slice());
@@ -355,7 +373,12 @@ fn answer_question(rt: &HostRuntime, words: &[&str]) -> Result<ExitCode, ExitCod
     let Some((front, behind)) = parted(words) else {
         return Err(PROGRAM.refuse(rt, WordFault::Question.message()));
     };
-    let Ok((named, options)) = options_of(rt.alloc(), front) else {
+    let said = match room_among(rt.alloc(), front) {
+        Ok(said) => said,
+        Err(fault) => return Err(fault.tell(rt)),
+    };
+    let room = said.room.unwrap_or(MOST_ROOM);
+    let Ok((named, options)) = options_of(rt.alloc(), said.words.as_slice(), room) else {
         return Err(PROGRAM.fail(rt, Fault::NoMemory.message()));
     };
     if options.page && options.json {

@@ -7,7 +7,8 @@ ghost use Rattle.mountctl.specs.Played.{sent_while, IsSentAnswered, IsPlayed};
 use crate::PROGRAM;
 use crate::fault::Fault;
 use crate::messages::NAME;
-use crate::own_session::{Answered, answer_sent};
+use crate::own_session::{Answered, answer_sent, new_floor};
+use crate::room::FIRST_ROOM;
 use crate::screen::{is_at_terminal, standard_output};
 use crate::tables::TableFault;
 use crate::task::WordFault;
@@ -20,6 +21,7 @@ use mt_terminal::message::Shown;
 use mt_transcript::lines::{LineKind, TranscriptLine, transcript_lines};
 use mt_transcript::misplaced::{Misplaced, misplaced_in};
 use mt_transcript::queue::queue_in;
+use mt_transcript::room::room_in;
 use mt_transcript::sent::bytes_sent;
 use mt_transcript::told::{alike_text, answer_told, played_text};
 use std::alloc::{AllocError, Global};
@@ -229,6 +231,14 @@ fn posts_of(lines: &[TranscriptLine<'_>]) -> usize
     }
 }
 
+/// The room of the server in a transcript.
+fn room_of(lines: &[TranscriptLine<'_>]) -> usize {
+    match room_in(lines) {
+        Some(room) => room as usize,
+        None => FIRST_ROOM,
+    }
+}
+
 /// Plays a transcript in a session of its own, and prints how many lines were answered as they are told: whether all were.
 fn play_transcript<K: Input + Drop, O: Output>(
     alloc: Global,
@@ -237,8 +247,7 @@ fn play_transcript<K: Input + Drop, O: Output>(
     waits: bool,
     out: &mut O,
 ) -> Result<bool, Fault> {
-    let mut floor = Floor::new(alloc, posts_of(lines));
-    floor.settle();
+    let mut floor = new_floor(alloc, posts_of(lines), room_of(lines))?;
     let mut session = Session::new(alloc);
     let count = play_lines(alloc, &mut floor, &mut session, lines, keys, waits, out)?;
     let ending = alike_text(alloc, count.alike, count.sent)?;

@@ -3,6 +3,7 @@ ghost use Rattle.std.specs.Prelude.{◌≡◌, None, OnOk};
 ghost use Rattle.mt_lines.specs.Reading.{fault_of};
 
 use crate::fault::Fault;
+use crate::limits::tell_limit;
 use crate::messages::tell_lines;
 use crate::missing::{Missing, missing_in};
 use crate::quiet::Quiet;
@@ -171,7 +172,8 @@ fn missing_path<R: Input + Drop, W: Output>(
 }
 
 /// Says of a refused line what is in the way and what would change that, if the rows say it; with the number of the line where it
-/// is one of a script. What others changed behind the refusal may leave nothing to say.
+/// is one of a script; where a limit is met, which one, and the room that would do. What others changed behind the refusal may
+/// leave nothing to say.
 pub(crate) fn tell_reason_of<E: Eprint, R: Input + Drop, W: Output>(
     rt: &E,
     alloc: Global,
@@ -187,6 +189,9 @@ pub(crate) fn tell_reason_of<E: Eprint, R: Input + Drop, W: Output>(
     let Some(command) = command_of(alloc, line, refusal)? else {
         return Ok(());
     };
+    if matches!(refusal, Refusal::TooMany) {
+        return tell_limit(rt, alloc, number, &command, lines, writer);
+    }
     let Some(question) = question_of(refusal, &command) else {
         return Ok(());
     };

@@ -1,0 +1,89 @@
+//! The room of a server: by what its limits of filesystems, directories, namespaces and mounts are multiplied.
+
+use crate::PROGRAM;
+use crate::fault::Fault;
+use crate::task::WordFault;
+use mt_lines::words::number;
+use mt_skel::skel::MOST_ROOM;
+use std::alloc::{AllocFailed, Global};
+use std::process::ExitCode;
+
+/// The room of a server that is not told another one.
+pub(crate) const FIRST_ROOM: usize = 1;
+
+/// The option that says a room.
+const OPTION: &str = "--room";
+
+/// Words, and the room that was said among them.
+#[derive(Drop)]
+pub(crate) struct RoomedWords<'a> {
+    /// The other words.
+    pub(crate) words: Vec<&'a str>,
+    /// The room, 1 to 256, if one was said.
+    pub(crate) room: Option<usize>,
+}
+
+/// Why words say no room.
+#[derive(Clone, Copy)]
+pub(crate) enum RoomFault {
+    /// No number from 1 to 256 stands behind the option, or it is there twice.
+    Word,
+    /// There is no memory for the words.
+    NoMemory,
+}
+
+impl<T: Drop> From<AllocFailed<T>> for RoomFault {
+    fn from(_error: AllocFailed<T>) -> RoomFault {
+        RoomFault::NoMemory
+    }
+}
+
+impl RoomFault {
+    /// Says why, and answers the status.
+    pub(crate) fn tell(self, rt: &HostRuntime) -> ExitCode {
+        match self {
+            RoomFault::Word => PROGRAM.refuse(rt, WordFault::Room.message()),
+            RoomFault::NoMemory => PROGRAM.fail(rt, Fault::NoMemory.message()),
+        }
+    }
+}
+
+/// The room that a word is, 1 to 256.
+fn room_named(word: &str) -> Option<usize> {
+    let room = number(word.as_bytes())? as usize;
+    if FIRST_ROOM <= room && room <= MOST_ROOM {
+        Some(room)
+    } else {
+        None
+    }
+}
+
+/// The words without `--room N`, and the room that it says, if it is there.
+pub(crate) fn room_among<'a>(
+    alloc: Global,
+    words: &[&'a str],
+) -> Result<RoomedWords<'a>, RoomFault> {
+    let mut others = Vec::new(alloc);
+    let mut room = None;
+    let mut is_said = false;
+    for word in words {
+        if is_said {
+            room = Some(room_named(word).ok_or(RoomFault::Word)?);
+            is_said = false;
+        } else if *word == OPTION {
+            if room.is_some() {
+                return Err(RoomFault::Word);
+            }
+            is_said = true;
+        } else {
+            others.push(*word)?;
+        }
+    }
+    if is_said {
+        return Err(RoomFault::Word);
+    }
+    Ok(RoomedWords {
+        words: others,
+        room,
+    })
+}
