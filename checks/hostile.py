@@ -100,10 +100,10 @@ def fault_of(line):
     form = FORMS.get(command)
     if form is None or b"" in words or b"\0" in line:
         return "BadLine"
-    fixed = form.rstrip("?R*=")
+    fixed = form.rstrip("?!R*=")
     rest = words[len(fixed) :]
-    last = {"?": [b"less"], "R": [b"rec"]}.get(form[-1:])
-    allowed = form[-1:] == "*" or rest == [] or rest == last or (form[-1:] == "=" and are_attributes(rest))
+    last = {"!": [b"less", b"lock"], "R": [b"rec"]}.get(form[-1:], [])
+    allowed = form[-1:] == "*" or rest == last[: len(rest)] or (form[-1:] == "=" and are_attributes(rest))
     if len(words) < len(fixed) or not allowed:
         return "BadLine"
     faults = {WORD_FAULTS[kind](word) for kind, word in zip(fixed, words)}
@@ -121,12 +121,13 @@ WORDS = {
     "F": [b"1", b"8", b"1048576"],
     "J": [b"1", b"2", b"1048577", b"18446744073709551615"],
     "?": [b"less"],
+    "!": [b"lock"],
     "R": [b"rec"],
     "=": [b"set=ro", b"set=noatime,nosuid", b"set=ro,ro", b"set=noatime,strictatime"],
     "*": [b"rec", b"set=ro", b"clr=ro", b"set=noatime", b"clr=atime,noexec", b"prop=shared", b"prop=slave", b"set=ro,ro"],
 }
 PIECES = (
-    b"|  |\\|\\040|\\011|\\012|\\134|\\04|\\0400|\\041|\\\\|\0|/|//|/.|/..|./|0|-1|+1|1.|\t|\r|\xff|\xc3\xa9|=|,|,,| rec| less|"
+    b"|  |\\|\\040|\\011|\\012|\\134|\\04|\\0400|\\041|\\\\|\0|/|//|/.|/..|./|0|-1|+1|1.|\t|\r|\xff|\xc3\xa9|=|,|,,| rec| less| lock|"
     b" set=|set=ro,|prop=|1024|1025|1048577|18446744073709551615|18446744073709551616|9999999999999999999999|#|>|$|'|\""
 ).split(b"|")
 SHORT_LENGTHS = [NAME - 1, NAME, NAME + 1]

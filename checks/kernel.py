@@ -41,7 +41,7 @@ SEEN = re.compile(r"(?m)^\| (\d+\.\d+)\.\S+ \|")
 # A name and a reason of the page's table of differences.
 NAMED = re.compile(r"(?m)^\| `([a-z-]+)` \|.*\| ([^|]+) \|$")
 # What a machine has to allow.
-ALLOWED = [b"mkfs a tmpfs none", b"newns a", b"copyns 1", b"copyns 1 less", b"opentree 1 / rec"]
+ALLOWED = [b"mkfs a tmpfs none", b"newns a", b"copyns 1", b"copyns 1 less lock", b"opentree 1 / rec"]
 # How long a failing script is made shorter, in seconds.
 SHORTENING = 10
 

@@ -84,7 +84,7 @@ def without_functions(text):
             continue
         behind = max(behind, at + 1)
         kept, at = kept + text[at:behind], behind
-    return without_iterators(re.sub(r"#\[derive\(([^)]*)\)\]", derived, kept))
+    return without_empty(re.sub(r"#\[derive\(([^)]*)\)\]", derived, on_one_line(kept)))
 
 
 def derived(found):
@@ -93,12 +93,18 @@ def derived(found):
     return f"#[derive({', '.join(names)})]" if names else ""
 
 
-def without_iterators(text):
-    """A text without its empty `impl`s, and without those of iterators, whose ghost items speak of `next`."""
-    found = re.search(r"(?m)^impl\b[^{;]*Iterator for[^{;]*\{", text)
+def on_one_line(text):
+    """A text with each `use` on one line, as imports are told by lines."""
+    return re.sub(r"(?m)^(?:pub )?use [^;]*;", lambda found: " ".join(found.group(0).split()), text)
+
+
+def without_empty(text):
+    """A text without its empty `impl`s, and without those whose ghost items speak of `next` or `from`."""
+    wanted = re.compile(r"(?m)^impl\b[^{;]*\b(?:Iterator|From<.*>) for[^{;]*\{")
+    found = wanted.search(text)
     while found:
         text = text[: found.start()] + text[closed(text, found.end() - 1) :]
-        found = re.search(r"(?m)^impl\b[^{;]*Iterator for[^{;]*\{", text)
+        found = wanted.search(text)
     return re.sub(r"(?m)^(?://[^\n]*\n|#\[[^\n]*\]\n)*impl\b[^{;]*\{\s*\}\n", "", text)
 
 

@@ -208,6 +208,8 @@ PUT_TOGETHER = {
         "SOCKET: changes were lost",
         "SOCKET: others made changes",
         "table N: mount ID is left out: REASON",
+        "table N is of another user namespace, and its locks are not known",
+        "TABLE is of another user namespace, and its locks are not known",
         "NAME: line N has a path or a device that cannot be read",
         "several lines are of mount ID",
         "NS: none of the tables, nor one of several of this name",

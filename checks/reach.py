@@ -310,7 +310,8 @@ class Case:
 
 def made_world(kind, program, chance):
     """A world that a random script leaves, with a filesystem to be mounted."""
-    world, author = Model(program), Author(chance)
+    # No row tells a lock, so a remedy may be refused for one.
+    world, author = Model(program), Author(chance, has_locks=False)
     while (line := author.next_line({number: rows_of(text.rstrip(b"\n")) for number, text in world.tables().items()})) is not None:
         world.run(line)
     world.run(b"mkfs %b tmpfs none" % PROBE)

@@ -41,6 +41,7 @@ from clients.python import check_python
 from clients.questions import check_questions
 from clients.reasons import check_reasons
 from clients.refusals import check_refusals
+from clients.rootless import check_rootless
 from clients.saves import check_saves
 from clients.starts import check_starts
 from clients.terminals import check_terminals
@@ -110,6 +111,7 @@ CLIENT_PARTS = {
     "crowds": check_crowds,
     "worlds": check_worlds,
     "hosts": check_hosts,
+    "rootless": check_rootless,
     "questions": check_questions,
     "played": check_played,
     "transcripts": check_transcripts,

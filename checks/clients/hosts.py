@@ -32,6 +32,9 @@ CONTAINERS = "bwrap", "runc", "runc-rshared"
 class Guest:
     """A process in a mount namespace of its own, a copy of this one's or of another's."""
 
+    # The namespaces of its own that it has.
+    OWN = syscalls.CLONE_NEWNS
+
     def __init__(self, *propagation, of=None):
         self.propagation, self.of = propagation, of
 
@@ -57,7 +60,7 @@ class Guest:
         if self.of:
             with open(f"/proc/{self.of.process.pid}/ns/mnt", "rb") as space:
                 syscalls.setns(space.fileno(), syscalls.CLONE_NEWNS)
-        syscalls.unshare(syscalls.CLONE_NEWNS)
+        syscalls.unshare(self.OWN)
         for flags in self.propagation:
             syscalls.mount(None, b"/", flags)
 

@@ -22,8 +22,9 @@ from harness.scripts import Author
 from harness.servers import START, Door, Server
 from sessions import cases
 
-# How many random worlds are looked at.
+# How many random worlds are looked at, and up to which number their namespaces.
 WORLDS = 20
+MOST_NUMBER = 32
 
 # How many generations of mounts stand within each other below a top one.
 MOST_GENERATIONS = 100
@@ -199,8 +200,8 @@ def check_random(program, mountctl):
             while (line := author.next_line(tables)) is not None:
                 client.ask(line)
                 lines.append(line)
-                tables = tables_of(client, 8)
-        mounts += look_at(f"random world {seed}", program, mountctl, lines, 8, seed < 3)
+                tables = tables_of(client, MOST_NUMBER)
+        mounts += look_at(f"random world {seed}", program, mountctl, lines, MOST_NUMBER, seed < 3)
     check("mounts of random worlds are objects", mounts > 0)
     print(f"{mounts} mounts of {WORLDS} random worlds as JSON", flush=True)
 

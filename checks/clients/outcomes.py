@@ -223,7 +223,8 @@ class Imported:
         self.check("each line is read", UNREAD not in script)
         self.spaces = {found[1]: int(found[2]) for found in map(SPACE.match, script) if found}
         self.commands = [line for line in script if not line.startswith(b"#")] + list(behind)
-        asked = self.commands + [b"show %d" % space for space in range(1, MOST_TABLES + 1)]
+        # A table may take two numbers.
+        asked = self.commands + [b"show %d" % space for space in range(1, 2 * MOST_TABLES + 1)]
         groups = answer_groups(session(program, asked)[1], asked)
         answers = zip(self.commands, [b"".join(group[:1]) for group in groups])
         self.refused = [b"%b: %b" % (line, answer) for line, answer in answers if not answer.startswith(b"ok")]

@@ -41,7 +41,7 @@ BAD = (
     (b"show", USAGE + b"show NS"),
     (b"watch", USAGE + b"watch NS"),
     (b"mount 1 a", USAGE + b"mount NS FS PATH [set=W,..]"),
-    (b"copyns 1 less less", USAGE + b"copyns NS [less]"),
+    (b"copyns 1 less lock lock", USAGE + b"copyns NS [less [lock]]"),
     (b"opentree 1", USAGE + b"opentree NS PATH [rec]"),
     (b"movetree 2 /m", USAGE + b"movetree TREE NS PATH"),
     (b"setattr 1", USAGE + OPTIONS),
@@ -56,6 +56,8 @@ BAD = (
     (b"journal 0 1", b"0: FROM is a number from 1 on, below 18446744073709551616"),
     (b"journal 1 1025", b"1025: K is a number from 1 to 1024"),
     (b"copyns 1 more", b"more: only less may stand there"),
+    (b"copyns 1 lock", b"lock: only less may stand there"),
+    (b"copyns 1 less less", b"less: only lock may stand there"),
     (b"opentree 1 / less", b"less: only rec may stand there"),
     (b"movetree 2 all /", b"all" + NUMBER),
     (b"mkfs a\0 t s", b"a\\x00: a byte is zero"),
@@ -75,7 +77,7 @@ BAD = (
 # Words of random lines: those that begin one, but for what waits or ends, and others.
 BEGINNINGS = [word for word in commands.LINES if word not in (b"follow", *commands.ENDING)]
 WORDS = (
-    *(b"1", b"2", b"01", b"1025", b"all", b"less", b"rec", b"rec", b"set=ro", b"set=", b"set=ro,", b"clr=atime", b"clr=relatime"),
+    *(b"1", b"2", b"01", b"1025", b"all", b"less", b"lock", b"rec", b"rec", b"set=ro", b"set=", b"set=ro,", b"clr=atime", b"clr=relatime"),
     *(b"prop=slave", b"prop=", b"/", b"/m", b"//", b"m", b"", b"\\040", b"\\", b"a\0", b"\xff", b"x" * 300),
 )
 

@@ -18,7 +18,7 @@ from harness.servers import Server
 WORLDS, MOST = 150, 60
 
 # The refusals that are told with their mounts, and one that has none.
-TOLD = b"NotMountRoot", b"RootPlace", b"Unbindable", b"SharedParent", b"IntoItself", b"UnbindableInside", b"Busy", b"BadAttr"
+TOLD = b"NotMountRoot", b"RootPlace", b"Unbindable", b"SharedParent", b"IntoItself", b"UnbindableInside", b"Busy", b"BadAttr", b"Locked", b"LockedInside", b"LockedAttr"
 
 # Lines behind START of the worlds by hand, and refused lines with all that is told of them.
 HELP = b"  to change that: "
@@ -27,6 +27,10 @@ START = [
     *(b"newns a", b"mount 1 d /m", b"mount 1 a /m/s", b"bind 1 /m/s /n"),
 ]
 SHARED = [b"setattr 1 / prop=shared"]
+LOCKED = [b"copyns 1 less lock"]
+LEAVE = HELP + b"leave it, or mount over it; what is mounted in this namespace itself can go"
+KEEP = HELP + b"keep ro, nosuid, nodev and noexec where they are set, and the access times"
+LOCKED_BELOW = b", and a mount below that is locked on its place would be left out"
 OR_SLAVE = b" (or prop=slave, which still gets what the others mount)"
 BY_HAND = (
     ([], b"umount 1 /m", [b"Busy: 1 mount stands on mount 2 at /m", b"    3 /m/s none private", HELP + b"umount 1 /m/s first", HELP + b"detach 1 /m takes all of them"]),
@@ -177,6 +181,49 @@ BY_HAND = (
             HELP + b"setattr 1 /n prop=private, where it would stand",
         ],
     ),
+    (LOCKED, b"umount 2 /n", [b"Locked: /n is mount 8 at /n, which is locked on its place", b"    8 /n none private", LEAVE]),
+    (LOCKED, b"detach 2 /m", [b"Locked: /m is mount 6 at /m, which is locked on its place", b"    6 /m /dev/x private", LEAVE]),
+    (LOCKED, b"move 2 /n /m/s/n", [b"Locked: SRC, /n is mount 8 at /n, which is locked on its place", b"    8 /n none private", LEAVE]),
+    (
+        LOCKED,
+        b"bind 2 /m /n/n",
+        [
+            b"LockedInside: SRC, /m is on mount 6 at /m" + LOCKED_BELOW,
+            b"    6 /m /dev/x private",
+            b"    7 /m/s none private",
+            HELP + b"rbind 2 /m /n/n has all below it too",
+        ],
+    ),
+    (
+        LOCKED,
+        b"opentree 2 /m",
+        [
+            b"LockedInside: /m is on mount 6 at /m" + LOCKED_BELOW,
+            b"    6 /m /dev/x private",
+            b"    7 /m/s none private",
+            HELP + b"opentree 2 /m rec has all below it too",
+        ],
+    ),
+    (
+        [*LOCKED, b"setattr 2 /m/s prop=unbindable"],
+        b"rbind 2 /m /n/n",
+        [
+            b"LockedInside: SRC, /m is on mount 6 at /m" + LOCKED_BELOW,
+            b"    6 /m /dev/x private",
+            b"    7 /m/s none unbindable",
+            HELP + b"setattr prop=private of each unbindable one below it",
+        ],
+    ),
+    (
+        LOCKED,
+        b"setattr 2 /m set=noatime clr=atime",
+        [b"LockedAttr: /m is mount 6 at /m, of which an attribute is locked that would change", b"    6 /m /dev/x private", KEEP],
+    ),
+    (
+        LOCKED,
+        b"setattr 2 / rec set=noatime clr=atime",
+        [b"LockedAttr: / is mount 5 at /, in the tree of which an attribute is locked that would change", b"    5 / none private", KEEP],
+    ),
 )
 
 
@@ -258,7 +305,11 @@ def in_the_way(world, refusal, line):
     if refusal == b"RootPlace":
         root = world.root[space]
         return [root, *world.children[root.id][:0], *([world.at[root.id, names_of(root.root)]] if (root.id, names_of(root.root)) in world.at else [])]
-    if refusal == b"NotMountRoot":
+    if refusal == b"Locked" and word == b"detach":
+        return [world.top(first, names_of(first.root))[0]]
+    if refusal in (b"Locked", b"LockedAttr"):
+        return [first]
+    if refusal in (b"NotMountRoot", b"LockedInside"):
         below = names_of(paths[0])
         return [first, *(row for row in world.children[first.id] if names_of(row.point)[: len(below)] == below)]
     if refusal == b"SharedParent":

@@ -7,7 +7,11 @@ from harness.runs import read, shown
 # A row of the table: the word of a line, its arguments, the form of its answer, whether it changes tables, how a help
 # writes it, and what it does.
 Row = collections.namedtuple("Row", "word arguments form changes usage help")
-ROW = re.compile(r'Verb::\w+ => (\w+)\(\s*b"(\w+)",\s*&\[(.*?)\],\s*(\w+),?\s*\)\s*\.says\(\s*"(.*?)",\s*"(.*?)",?\s*\)', re.S)
+ROW = re.compile(
+    r'Verb::\w+ => (\w+)\(\s*b"(\w+)",\s*&\[(.*?)\],\s*(\w+),?\s*\)\s*(?:\.refused\([^)]*\)\s*)?'
+    r'\.says\(\s*"(.*?)",\s*"(.*?)",\s*"(?:.*?)",?\s*\)',
+    re.S,
+)
 VERBS = re.compile(r"VERBS: \[Verb; (\d+)\]")
 
 
@@ -28,8 +32,8 @@ TABLE = read_table()
 # All words that begin a line.
 LINES = tuple(TABLE)
 
-# What stands behind each: labels, paths, numbers, what is watched, counts, the number of a command, `less`, `rec`, `set=`, and the rest of the line.
-LETTERS = {"Label": "L", "Path": "P", "Space": "N", "Scope": "W", "Count(1_024)": "T", "Count(1_048_576)": "F", "Count(u64::MAX)": "J", "Less": "?", "Recursive": "R", "Attributes": "=", "Setting": "*"}
+# What stands behind each: labels, paths, numbers, what is watched, counts, the number of a command, `less`, `lock`, `rec`, `set=`, and the rest of the line.
+LETTERS = {"Label": "L", "Path": "P", "Space": "N", "Scope": "W", "Count(1_024)": "T", "Count(1_048_576)": "F", "Count(u64::MAX)": "J", "Less": "?", "Lock": "!", "Recursive": "R", "Attributes": "=", "Setting": "*"}
 FORMS = {word: re.sub(r"\*+", "*", "".join(LETTERS[name] for name in row.arguments)) for word, row in TABLE.items()}
 
 # Those that make a world: the commands. Those that end a session or all.

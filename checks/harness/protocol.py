@@ -13,7 +13,7 @@ ONE_NUMBER = re.compile(rb"ok (\d+)")
 COUNT_AND_NUMBER = re.compile(rb"ok (\d+) (\d+)")
 
 # Those that count the lines after them, by the first word of the request.
-COUNTED = {b"show": COUNT_AND_NUMBER, b"journal": ONE_NUMBER, b"watch": ONE_NUMBER, b"take": ONE_NUMBER, b"close": ONE_NUMBER}
+COUNTED = {b"show": COUNT_AND_NUMBER, b"locks": ONE_NUMBER, b"journal": ONE_NUMBER, b"watch": ONE_NUMBER, b"take": ONE_NUMBER, b"close": ONE_NUMBER}
 
 # The last line of the answer to `follow`.
 FOLLOWED = re.compile(rb"ok (\d+)|no [A-Za-z]+")

@@ -51,8 +51,8 @@ def joined(point, names):
 class Author:
     """Writes one script."""
 
-    def __init__(self, chance, has_trees=False):
-        self.chance = chance
+    def __init__(self, chance, has_trees=False, has_locks=True):
+        self.chance, self.has_locks = chance, has_locks
         self.commands, self.kinds = self.liked(COMMANDS | (TREE_COMMANDS if has_trees else {})), self.liked(KINDS)
         self.less = chance.choice([0, 0, 0.3, 0.8])
         self.attributes = chance.choice([0, 0.1, 0.6])
@@ -193,7 +193,9 @@ class Author:
         return [self.child([row for row in rows if row.id in bearers] or rows)]
 
     def copyns(self, _rows):
-        return [b"less"] if self.chance.random() < self.less else []
+        if self.chance.random() >= self.less:
+            return []
+        return [b"less", b"lock"] if self.has_locks and self.chance.random() < 0.6 else [b"less"]
 
     def dropns(self, _rows):
         return []

@@ -13,8 +13,6 @@ class Step(NamedTuple):
     words: list
     # The name of our refusal, or nothing.
     refusal: str
-    # Whether the namespace is a less privileged copy, or a copy of one.
-    is_less: bool
     # The kernel's refusal, or 0.
     errno: int = 0
     mismatches: list = []
@@ -24,8 +22,6 @@ class Step(NamedTuple):
     # Our mounts that are still there while their partners are gone, and the kernel's.
     lost: set = set()
     kept: set = set()
-    # The namespaces that are less privileged copies, or copies of such.
-    less: set = set()
     # Whether its paths lead through a tree that was opened in a namespace that is gone.
     is_orphan: bool = False
 
@@ -52,6 +48,9 @@ ERRNO = {
     "BadAttr": {errno.EINVAL},
     "Detached": {errno.EINVAL},
     "NotDetached": {errno.EINVAL},
+    "Locked": {errno.EINVAL},
+    "LockedInside": {errno.EINVAL, errno.EPERM},
+    "LockedAttr": {errno.EPERM},
 }
 
 # The errno of pivot_root(2), where it is another one: all that is on the root mount is busy.
@@ -76,18 +75,6 @@ OTHER_ORDER = {
     (b"detach", "Detached", errno.ENOENT),
     (b"movetree", "NotDetached", errno.ENOENT),
     (b"movetree", "NotDetached", errno.ELOOP),
-}
-
-# What the kernel says where a locked mount stands against a command.
-LOCKED = {
-    b"umount": {errno.EINVAL},
-    b"move": {errno.EINVAL},
-    b"pivot": {errno.EINVAL},
-    b"detach": {errno.EINVAL},
-    b"bind": {errno.EINVAL},
-    b"rbind": {errno.EPERM},
-    b"setattr": {errno.EPERM},
-    b"opentree": {errno.EINVAL, errno.EPERM},
 }
 
 ACCESS_TIMES = {b"noatime", b"strictatime"}
@@ -143,16 +130,6 @@ def is_origin(step):
     return step.refusal == "" and step.errno == errno.EINVAL and is_used and step.is_orphan
 
 
-def is_locked(step):
-    return step.is_less and step.errno in LOCKED.get(step.words[0], set()) and may_meet_a_lock(step.words)
-
-
-def may_meet_a_lock(words):
-    """Whether a command other than a setattr: that one has to take something away, or to change access times."""
-    asked = options(words) if words[0] == b"setattr" else {}
-    return words[0] != b"setattr" or b"clr" in asked or b"nodiratime" in asked.get(b"set", set())
-
-
 def is_number_sign(mismatch):
     """Sources that differ in nothing but how a `#` is written."""
     _, what, ours, theirs = mismatch
@@ -167,18 +144,24 @@ def is_unbindable_copy(step):
     )
 
 
+def stack_of(mount, rows):
+    """A mount and those that it covers, from above: the kernel's rows tell only how many there are at a place."""
+    while True:
+        yield mount
+        parent = rows[mount].parent
+        if parent == mount or parent not in rows or rows[parent].point != rows[mount].point:
+            return
+        mount = parent
+
+
 def is_nested_unmount(step):
-    """Each mount that only the kernel has taken away had a child that did not cover it, which the kernel took away too."""
+    """Each mount that only the kernel has taken away, or one that it covers, had a child that did not cover it, which the kernel
+    took away too."""
     before = {row.id: row for rows in step.before.values() for row in rows}
     gone = before.keys() - {row.id for rows in step.after.values() for row in rows} | step.lost
     bearers = {before[child].parent for child in gone if before[child].point != before[before[child].parent].point}
-    return step.words[0] == b"umount" and step.lost != set() and step.lost <= bearers and step.kept == set()
-
-
-def is_locked_received(step):
-    """Behind a detach the kernel has mounts more, and tables differ in less privileged copies alone: 0 is no namespace, but a partner."""
-    is_less = all(space == 0 or space in step.less for space, *_ in step.mismatches)
-    return step.words[0] == b"detach" and step.kept != set() and step.lost == set() and is_less
+    are_bearers = all(bearers & set(stack_of(mount, before)) for mount in step.lost)
+    return step.words[0] == b"umount" and step.lost != set() and are_bearers and step.kept == set()
 
 
 REFUSALS = [
@@ -196,7 +179,6 @@ REFUSALS = [
     Difference("empty-change", is_empty_change, "a path is looked up whatever is asked of it"),
     Difference("other-order", is_other_order, "one order for each command is what its contract states"),
     Difference("origin", is_origin, "commands come from nobody: there are no processes here"),
-    Difference("locked", is_locked, "there are no users and privileges here"),
 ]
 
 ROWS = [
@@ -210,7 +192,6 @@ ROWS = [
         is_nested_unmount,
         "children are counted before the command, so that a table tells what an unmount takes",
     ),
-    Difference("locked-received", is_locked_received, "nothing is locked, so that what is detached goes wherever it was received"),
 ]
 
 # It is taken out of the mismatches of a step before these are asked.

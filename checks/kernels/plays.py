@@ -36,12 +36,10 @@ class Play:
         self.worker = Worker()
         self.server = Served(program)
         self.comparison = Comparison()
-        # Our tables, by namespace, and how many user namespaces each lies within.
-        self.tables, self.levels, self.made = {}, {}, 0
+        # Our tables, by namespace, the namespaces that there are, and the number of the last one that was made.
+        self.tables, self.spaces, self.made = {}, [], 0
         # Those of them that are detached trees: each with the namespace in which it was opened, or 0.
         self.trees = {}
-        # Whether mounts were carried from a less privileged copy to another namespace, or to one, so that locked ones may be anywhere.
-        self.is_mixed = False
         self.accepted = []
         # How many steps there were of each kind, how many of each known difference, and of each pair of refusals.
         self.counts, self.known, self.refusals = (collections.Counter() for _ in range(3))
@@ -67,8 +65,7 @@ class Play:
         if words[0] not in commands.CHANGING or refusal in refusals.NEVER_IN_LINUX or self.is_of_numbers(words, refusal):
             self.counts["without a counterpart"] += 1
             return
-        is_less = self.is_mixed or self.level(words) > 0
-        step = Step(words, refusal, is_less, before=self.rows(), is_orphan=self.is_orphan(words))
+        step = Step(words, refusal, before=self.rows(), is_orphan=self.is_orphan(words))
         name = differences.left_out(step)
         if name and not self.is_thorough:
             self.counts["left out"] += 1
@@ -83,18 +80,13 @@ class Play:
     def is_of_numbers(self, words, refusal):
         """Whether the kernel has no such call: it copies no tree, and attaches nothing in a namespace that is not there."""
         is_copied_tree = words[0] == b"copyns" and refusal == "Detached"
-        return is_copied_tree or (words[0] == b"movetree" and int(words[2]) not in self.levels)
-
-    def level(self, words):
-        """How many user namespaces the namespace of a command lies within; of a tree that is attached, it or the other namespace."""
-        spaces = words[1:3] if words[0] == b"movetree" else words[1:2]
-        return 0 if words[0] in (b"mkfs", b"mkdir", b"newns", b"newtree") else max(self.levels[int(space)] for space in spaces)
+        return is_copied_tree or (words[0] == b"movetree" and int(words[2]) not in self.spaces)
 
     def is_orphan(self, words):
         """Whether the paths of a command lead through a tree, and the namespace in which that was opened is gone."""
         space = words[2:3] if words[0] == b"movetree" else words[1:2]
         origin = self.trees.get(int(space[0]), 0) if words[0] not in (b"mkfs", b"mkdir", b"newns", b"newtree") else 0
-        return origin != 0 and origin not in self.levels
+        return origin != 0 and origin not in self.spaces
 
     def judge(self, step, is_changed):
         """A step that one side has refused, or both."""
@@ -132,8 +124,7 @@ class Play:
         found = self.mismatches()
         if found != []:
             lost, kept = self.comparison.alone()
-            less = {space for space, level in self.levels.items() if level > 0 or self.is_mixed}
-            step = step._replace(mismatches=found, after=self.rows(), lost=lost, kept=kept, less=less)
+            step = step._replace(mismatches=found, after=self.rows(), lost=lost, kept=kept)
             name = self.name(differences.ROWS, step, "\n".join(map(str, found)))
             self.is_apart = not (name == "unbindable-copy" and self.repaired(found))
 
@@ -141,19 +132,18 @@ class Play:
         """Counts the namespaces and trees behind a command."""
         if words[0] in commands.MAKING_NAMESPACES:
             self.made += 1
-            self.levels[self.made] = self.level(words) + (words[0] == b"copyns") * len(words[2:])
+            self.spaces.append(self.made)
             if words[0] in commands.MAKING_TREES:
                 opened = int(words[1]) if words[0] == b"opentree" else 0
                 self.trees[self.made] = self.trees.get(opened, opened)
         elif words[0] in (b"dropns", b"movetree"):
             ended = int(words[1])
-            self.is_mixed |= words[0] == b"movetree" and self.levels[ended] != self.levels[int(words[2])]
-            del self.levels[ended]
+            self.spaces.remove(ended)
             self.trees.pop(ended, None)
 
     def mismatches(self):
         """How the tables of all namespaces differ, but for how a `#` is written."""
-        spaces = list(self.levels)
+        spaces = list(self.spaces)
         shown_tables = {space: rows for space, [_, *rows] in zip(spaces, self.server.ask(*(b"show %d" % space for space in spaces)))}
         self.tables = {space: b"\n".join(rows) for space, rows in shown_tables.items()}
         # What the kernel tells of a tree is what a copy of it has, if there can be one.

@@ -6,7 +6,8 @@ through that, beside all mounts that are compared. A namespace of a script is he
 its root directory, and the worker enters it for each command and each reading of its table. So a path begins at the
 root of the namespace's root mount, also where something is mounted on that.
 
-A less privileged copy belongs to a user namespace one level further down; the root user of the outermost one may enter it.
+A copy with locks belongs to a user namespace of its own, within that of the namespace that is copied; the root user of the
+outermost one may enter it. A less privileged copy without locks is a copy in the same one, of which all mounts are made slaves.
 A detached tree (trees.py) is entered where it was opened; the paths of its commands lead from its descriptor.
 """
 import contextlib
@@ -28,11 +29,12 @@ FORKING = multiprocessing.get_context("fork")
 
 
 class Space(NamedTuple):
-    """A mount namespace: descriptors of it and of its root directory, and how many user namespaces it lies within."""
+    """A mount namespace: descriptors of it, of its root directory, and of the user namespace that it belongs to, or none where
+    that is the outermost one."""
 
     fd: int
     root: int
-    level: int
+    user: int | None
 
     def close(self):
         os.close(self.root)
@@ -54,9 +56,8 @@ class Kernel:
         for name in "root", os.fsdecode(trees.PLACE.lstrip(b"/")):
             os.mkdir(name, dir_fd=empty)
         self.change_root(empty, b"/tmp")
-        self.empty = self.here(0)
+        self.empty = self.here()
         self.inside = self.empty
-        self.users = []
         self.filesystems = {}
         self.spaces, self.made = {}, 0
         self.told = {}
@@ -70,9 +71,9 @@ class Kernel:
         syscalls.umount(b".", syscalls.MNT_DETACH)
         os.chdir("/")
 
-    def here(self, level):
+    def here(self):
         """The namespace that this process is in, in which its root directory is that of the root mount."""
-        return Space(os.open("self/ns/mnt", os.O_RDONLY, dir_fd=self.proc), os.open("/", DIRECTORY), level)
+        return Space(os.open("self/ns/mnt", os.O_RDONLY, dir_fd=self.proc), os.open("/", DIRECTORY), None)
 
     def enter(self, space):
         if self.inside is space:
@@ -102,13 +103,13 @@ class Kernel:
         # Where this process is has no Space that it may be compared with, so the next one is entered in any case.
         self.inside = None
 
-    def beside(self, level, calls, names):
-        """Descriptors of files of /proc/PID of a child that has made these calls within so many user namespaces."""
+    def beside(self, user, calls, names):
+        """Descriptors of files of /proc/PID of a child that has made these calls within a user namespace, or the outermost one."""
         here, there = socket.socketpair()
         child = os.fork()
         if child == 0:
             here.close()
-            self.hold(level, calls, there)
+            self.hold(user, calls, there)
         with here:
             there.close()
             refused = here.recv(1)
@@ -119,12 +120,12 @@ class Kernel:
         os.waitpid(child, 0)
         return found
 
-    def hold(self, level, calls, there):
+    def hold(self, user, calls, there):
         """Makes the calls, tells their errno, and holds what they made until nobody listens. This process ends here."""
         refused = 0
         try:
-            if level > 0:
-                syscalls.setns(self.users[level - 1], CLONE_NEWUSER)
+            if user is not None:
+                syscalls.setns(user, CLONE_NEWUSER)
             calls()
         except OSError as error:
             refused = error.errno
@@ -133,8 +134,8 @@ class Kernel:
             there.recv(1)
         os._exit(0)
 
-    def add_user_namespace(self):
-        """Makes a user namespace within the last one that was made, in which there is the root user alone."""
+    def user_within(self, user):
+        """Makes a user namespace within another one, in which there is the root user alone."""
         self.enter(self.empty)
 
         def calls():
@@ -144,7 +145,8 @@ class Kernel:
                 os.write(file, text)
                 os.close(file)
 
-        self.users += self.beside(len(self.users), calls, [("ns/user", os.O_RDONLY)])
+        [made] = self.beside(user, calls, [("ns/user", os.O_RDONLY)])
+        return made
 
     # The commands: each is an OSError where the kernel refuses it.
 
@@ -159,21 +161,25 @@ class Kernel:
         syscalls.unshare(CLONE_NEWNS)
         self.inside = None
         self.change_root(self.filesystems[name], b"/root")
-        self.add(self.here(0))
+        self.add(self.here())
 
-    def copyns(self, number, less=None):
+    def copyns(self, number, less=None, lock=None):
         copied = self.spaces[int(number)]
-        level = copied.level + (1 if less else 0)
-        while len(self.users) < level:
-            self.add_user_namespace()
+        user = self.user_within(copied.user) if lock else copied.user
         self.enter(copied)
-        if level == 0:
+
+        def calls():
             syscalls.unshare(CLONE_NEWNS)
-            self.add(self.here(0))
+            if less and not lock:
+                syscalls.mount(None, b"/", syscalls.MS_REC | syscalls.MS_SLAVE)
+
+        if user is None:
+            calls()
+            self.add(self.here())
             return
         names = [("ns/mnt", os.O_RDONLY), ("root", DIRECTORY)]
-        fd, root = self.beside(level, lambda: syscalls.unshare(CLONE_NEWNS), names)
-        self.add(Space(fd, root, level))
+        fd, root = self.beside(user, calls, names)
+        self.add(Space(fd, root, user))
 
     def dropns(self, number):
         self.enter(self.empty)
@@ -241,11 +247,11 @@ class Kernel:
         opened = self.spaces[int(number)]
         folder = self.enter_for(number)
         fd = syscalls.open_copy(path_from(folder, path), folder, is_recursive=b"rec" in options)
-        self.count(Tree(fd, opened.origin if isinstance(opened, Tree) else int(number), opened.level))
+        self.count(Tree(fd, opened.origin if isinstance(opened, Tree) else int(number)))
 
     def newtree(self, name):
         self.enter(self.empty)
-        self.count(Tree(syscalls.open_copy(b"", self.filesystems[name]), 0, 0))
+        self.count(Tree(syscalls.open_copy(b"", self.filesystems[name]), 0))
 
     def movetree(self, tree, number, path):
         moved = self.spaces[int(tree)]

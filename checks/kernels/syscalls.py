@@ -27,10 +27,11 @@ MS_BIND = 0x1000
 MS_MOVE = 0x2000
 MS_REC = 0x4000
 MS_PRIVATE = 1 << 18
+MS_SLAVE = 1 << 19
 MNT_DETACH = 2
 
 # What `prop=K` is in mount_setattr(2).
-PROPAGATION = {b"shared": 1 << 20, b"private": MS_PRIVATE, b"slave": 1 << 19, b"unbindable": 1 << 17}
+PROPAGATION = {b"shared": 1 << 20, b"private": MS_PRIVATE, b"slave": MS_SLAVE, b"unbindable": 1 << 17}
 
 # What the words of `set` and `clr` are in mount_setattr(2). `relatime` is the value 0 of the access time.
 ATTRIBUTES = {

@@ -22,12 +22,10 @@ MOUNT_ID = re.compile(r"(?m)^mnt_id:\s*(\d+)$")
 
 
 class Tree(NamedTuple):
-    """A detached tree: its descriptor, the number of the namespace in which it was opened, or 0, and how many user namespaces
-    that lies within."""
+    """A detached tree: its descriptor, and the number of the namespace in which it was opened, or 0."""
 
     fd: int
     origin: int
-    level: int
 
     def close(self):
         os.close(self.fd)

@@ -31,7 +31,7 @@ def ask(stream, word, *words):
     lines = [next_line(stream)]
     while word == "follow" and not lines[-1].startswith(("ok ", "no ")):
         lines.append(next_line(stream))
-    is_counted = word in ("show", "journal", "watch", "take", "close") and lines[0].startswith("ok ")
+    is_counted = word in ("show", "locks", "journal", "watch", "take", "close") and lines[0].startswith("ok ")
     return lines + [next_line(stream) for _ in range(int(lines[0].split(" ")[1]) if is_counted else 0)]
 
 

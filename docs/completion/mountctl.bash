@@ -4,7 +4,7 @@
 # The refusals of a server.
 _mountctl_refusals="BadLine TooLong BadPath JournalFull NoFilesystem FilesystemExists NoNamespace NoEntry EntryExists NotMountRoot RootPlace
 Unbindable SharedParent IntoItself UnbindableInside Busy BadAttr TooMany NoWatcher WatcherOpen TooManyWatchers Lagged Stopped NoMemory
-Detached NotDetached"
+Detached NotDetached Locked LockedInside LockedAttr"
 
 # The errors of Linux that are explained.
 _mountctl_errnos="EPERM ENOENT ENXIO ENOMEM EACCES ENOTBLK EBUSY EEXIST ENODEV ENOTDIR EINVAL ENOSPC EROFS ENAMETOOLONG ELOOP"
@@ -42,8 +42,9 @@ _mountctl_words()
 {
     local count=$#
     case $1:$count in
-        :0) echo mkfs mkdir newns copyns dropns mount bind rbind move pivot umount detach setattr opentree newtree movetree show find journal watch take follow close quit stop - monitor mirror tree dot spaces what-if reach origin holders save page ;;
+        :0) echo mkfs mkdir newns copyns dropns mount bind rbind move pivot umount detach setattr opentree newtree movetree show locks find journal watch take follow close quit stop - monitor mirror tree dot spaces what-if reach origin holders save page ;;
         copyns:2) echo less ;;
+        copyns:3) echo lock ;;
         opentree:3) echo rec ;;
         mount:4) echo set={ro,nosuid,nodev,noexec,nosymfollow,nodiratime,relatime,noatime,strictatime} ;;
         watch:1) echo all ;;

@@ -4,7 +4,7 @@ use crate::PROGRAM;
 use crate::fault::Fault;
 use crate::foretold_page::print_foretold_page;
 use crate::messages::{NAME, tell_reason, tell_refused};
-use crate::missed::tell_missed;
+use crate::missed::{tell_lockless_tables, tell_missed};
 use crate::namespaces::{Namespaces, named_tables};
 use crate::screen::standard_output;
 use crate::script::{SCRIPT_LIMIT, is_comment};
@@ -336,6 +336,7 @@ fn ask(
         return Err(PROGRAM.fail(rt, Fault::NoMemory.message()));
     };
     tell_missed(rt, names, begun.missed.as_slice());
+    tell_lockless_tables(rt, names, begun.lockless.as_slice());
     let Ok(words) = names.space_words(alloc) else {
         return Err(PROGRAM.fail(rt, Fault::NoMemory.message()));
     };

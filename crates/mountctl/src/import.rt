@@ -3,6 +3,7 @@
 use crate::fault::Fault;
 use mt_import::fault::Fault as Refusal;
 use mt_import::host_mount::HostMount;
+use mt_import::host_space::HostSpace;
 use mt_import::import::script_of;
 use mt_import::read::read_mount;
 use mt_lines::line::{Line, LineReader};
@@ -75,7 +76,10 @@ pub(crate) fn import<I: Input + Drop, O: Output>(
     out: &mut O,
 ) -> Result<(), ImportFault> {
     let mut tables = Vec::new(alloc);
-    tables.push(read_rows(alloc, input)?)?;
+    tables.push(HostSpace {
+        rows: read_rows(alloc, input)?,
+        is_foreign: false,
+    })?;
     let Ok(script) = script_of(alloc, tables.as_slice()) else {
         return Err(ImportFault::Run(Fault::NoMemory));
     };

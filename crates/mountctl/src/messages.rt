@@ -1,6 +1,6 @@
 //! What is told of a refused line on standard error.
 
-use mt_lines::words::Pieces;
+use mt_lines::words::{Pieces, number};
 use mt_reasons::reason::Reason;
 use mt_terminal::message::Shown;
 use std::io::Eprint;
@@ -10,6 +10,9 @@ pub(crate) const NAME: &str = "mountctl";
 
 /// What stands between a mount and the reason for which it is left out.
 const LEFT_OUT: &str = " is left out: ";
+
+/// What is said of a namespace of which the locks are not known, behind its table.
+pub(crate) const LOCKLESS: &str = " is of another user namespace, and its locks are not known";
 
 /// Says on standard error which line of a script was refused, by its number, and how. A line that was not read is empty.
 pub(crate) fn tell_refused<E: Eprint>(rt: &E, number: u64, line: &[u8], refusal: &[u8]) {
@@ -71,6 +74,19 @@ fn left_out_in(comment: &[u8]) -> Option<(&[u8], &[u8])> {
     let (mount, said) = parted_at(comment.strip_prefix(b"# ")?, LEFT_OUT.as_bytes())?;
     let (reason, _) = parted_at(said, b": ")?;
     Some((mount, reason))
+}
+
+/// The table of which a comment of a script says that the locks of its namespace are not known. None where it says no such thing.
+fn lockless_in(comment: &[u8]) -> Option<u64> {
+    let table = comment.strip_prefix(b"# table ")?;
+    number(table.strip_suffix(LOCKLESS.as_bytes())?)
+}
+
+/// Says on standard error what a line of a script says of a namespace of which the locks are not known, if it does.
+pub(crate) fn tell_lockless<E: Eprint>(rt: &E, line: &[u8]) {
+    if let Some(table) = lockless_in(line) {
+        let _ = eprintln!(rt; "{NAME}: table {table}{LOCKLESS}");
+    }
 }
 
 /// Says on standard error what a line of a script says of a mount that is left out, if it does.

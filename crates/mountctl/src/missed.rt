@@ -1,8 +1,9 @@
-//! What is told of rows that a world has not as they are told.
+//! What is told of rows that a world has not as they are told, and of locks that it does not know.
 
-use crate::messages::NAME;
+use crate::messages::{LOCKLESS, NAME};
 use crate::namespaces::Namespaces;
 use mt_import::host_mount::HostMount;
+use mt_mounts::mount::SpaceId;
 use mt_questions::table::NamedTable;
 use mt_terminal::message::Shown;
 use mt_what_if::gathered::Missed;
@@ -95,5 +96,18 @@ pub(crate) fn tell_missed(rt: &HostRuntime, names: &Namespaces, all: &[Missed]) 
     }
     if let Some(last) = before {
         tell_more(rt, names, last, alike);
+    }
+}
+
+/// Says of each of these namespaces that what is locked there is not known, since its table does not tell which of its mounts came
+/// with a copy of the first one.
+pub(crate) fn tell_lockless_tables(rt: &HostRuntime, names: &Namespaces, lockless: &[SpaceId]) {
+    let mut number: SpaceId = 0;
+    for table in names.tables() {
+        number = number.saturating_add(1);
+        if lockless.contains(&number) {
+            let name = Shown(table.name.as_slice());
+            let _ = eprintln!(rt; "{NAME}: {name}{LOCKLESS}");
+        }
     }
 }

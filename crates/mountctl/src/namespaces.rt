@@ -130,15 +130,14 @@ impl Namespaces {
             .position(|table| is_same_table(table.rows.as_slice(), rows))
     }
 
-    /// Enters a table under a word and a name.
+    /// Enters a table under a word.
     pub(crate) fn enter(
         &mut self,
         alloc: Global,
         word: &str,
-        name: Vec<u8>,
-        rows: Vec<HostMount>,
+        table: NamedTable,
     ) -> Result<(), Lack> {
-        self.tables.push(NamedTable { name, rows })?;
+        self.tables.push(table)?;
         let space = self.tables.len() as u64;
         self.name(alloc, word, space)
     }
@@ -186,7 +185,12 @@ fn of_files(rt: &HostRuntime, words: &[&str]) -> Result<Namespaces, Lack> {
             None => {
                 let mut name = Vec::new(alloc);
                 name.extend_from_slice(file_name(word, words))?;
-                all.enter(alloc, word, name, rows)?;
+                let table = NamedTable {
+                    name,
+                    rows,
+                    is_foreign: false,
+                };
+                all.enter(alloc, word, table)?;
             }
         }
     }

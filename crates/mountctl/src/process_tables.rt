@@ -2,16 +2,21 @@
 
 use crate::messages::NAME;
 use crate::namespaces::{Lack, Namespaces, number_of, table_at};
-use crate::processes::{ProcessFile, every_process, is_gone, namespace_of, process_name};
+use crate::processes::{
+    ProcessFile, every_process, is_foreign, is_gone, namespace_of, process_name, user_namespace_of,
+};
 use crate::tables::TableFault;
 use mt_import::host_mount::HostMount;
 use mt_lines::words::number;
+use mt_questions::table::NamedTable;
 use std::io::ErrorKind;
 
-/// A mount namespace that was met: what the system calls it, and the place of its table.
+/// A mount namespace that was met: what the system calls it and the user namespace of its process, if that is told, and the
+/// place of its table.
 #[derive(Drop)]
 struct Met {
     namespace: String,
+    user: Option<String>,
     place: usize,
 }
 
@@ -19,6 +24,14 @@ struct Met {
 fn met_place(met: &[Met], namespace: &str) -> Option<usize> {
     let one = met.iter().find(|one| one.namespace.as_str() == namespace)?;
     Some(one.place)
+}
+
+/// Whether the user namespace of a process is another one than that of the first table, if there is one.
+fn is_foreign_to(met: &[Met], user: &Option<String>) -> bool {
+    match met.first() {
+        Some(one) => is_foreign(user, &one.user),
+        None => false,
+    }
 }
 
 /// The table of a process.
@@ -46,9 +59,21 @@ fn enter_process(
     let Ok(name) = process_name(rt, process) else {
         return Err(Lack::NoMemory);
     };
+    let Ok(user) = user_namespace_of(rt, process) else {
+        return Err(Lack::NoMemory);
+    };
+    let table = NamedTable {
+        name,
+        rows,
+        is_foreign: is_foreign_to(met.as_slice(), &user),
+    };
     let place = all.tables().len();
-    met.push(Met { namespace, place })?;
-    all.enter(rt.alloc(), process, name, rows)
+    met.push(Met {
+        namespace,
+        user,
+        place,
+    })?;
+    all.enter(rt.alloc(), process, table)
 }
 
 /// Enters the table of a process, or says that it is that of another one.

@@ -1,4 +1,4 @@
-//! Running processes, and the mount namespaces that they are in (proc(5), namespaces(7)).
+//! Running processes, and the namespaces that they are in (proc(5), namespaces(7)).
 
 use crate::import::ROW_LIMIT;
 use mt_lines::line::{Line, LineReader};
@@ -14,6 +14,8 @@ use std::{fmt, io};
 pub(crate) enum ProcessFile {
     /// The link that names its mount namespace.
     Namespace,
+    /// The link that names its user namespace.
+    UserNamespace,
     /// Its mounts.
     Mounts,
     /// The name of its program.
@@ -25,6 +27,7 @@ impl ProcessFile {
     fn name(self) -> &'static str {
         match self {
             ProcessFile::Namespace => "ns/mnt",
+            ProcessFile::UserNamespace => "ns/user",
             ProcessFile::Mounts => "mountinfo",
             ProcessFile::Program => "comm",
         }
@@ -40,11 +43,35 @@ impl ProcessFile {
     }
 }
 
-/// What the mount namespace of a process is called: two processes are in one if both are told the same.
-pub(crate) fn namespace_of(rt: &HostRuntime, process: &str) -> io::Result<String> {
-    let link = ProcessFile::Namespace.of(rt.alloc(), process)?;
+/// What the link of a process names.
+fn named_by(rt: &HostRuntime, link: ProcessFile, process: &str) -> io::Result<String> {
+    let link = link.of(rt.alloc(), process)?;
     let named = read_link(rt, link.as_str())?;
     Ok(named.into_string())
+}
+
+/// What the mount namespace of a process is called: two processes are in one if both are told the same.
+pub(crate) fn namespace_of(rt: &HostRuntime, process: &str) -> io::Result<String> {
+    named_by(rt, ProcessFile::Namespace, process)
+}
+
+/// What the user namespace of a process is called, or None where that cannot be read. Fails for want of memory alone.
+pub(crate) fn user_namespace_of(rt: &HostRuntime, process: &str) -> io::Result<Option<String>> {
+    match named_by(rt, ProcessFile::UserNamespace, process) {
+        Ok(named) => Ok(Some(named)),
+        Err(error) => match error.kind() {
+            ErrorKind::OutOfMemory => Err(error),
+            _ => Ok(None),
+        },
+    }
+}
+
+/// Whether a user namespace is another one than the first. One that cannot be read is the same.
+pub(crate) fn is_foreign(user: &Option<String>, first: &Option<String>) -> bool {
+    match (user, first) {
+        (Some(user), Some(first)) => user.as_str() != first.as_str(),
+        _ => false,
+    }
 }
 
 /// The first line of a file, as far as it can be read.

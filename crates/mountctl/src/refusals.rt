@@ -54,7 +54,10 @@ fn question_of(refusal: Refusal, command: &Command) -> Option<Question> {
         | Refusal::Unbindable
         | Refusal::IntoItself
         | Refusal::UnbindableInside
-        | Refusal::Busy => Some(Question::Own),
+        | Refusal::Busy
+        | Refusal::Locked
+        | Refusal::LockedInside
+        | Refusal::LockedAttr => Some(Question::Own),
         _ => None,
     }
 }

@@ -6,6 +6,15 @@ use std::alloc::{AllocError, AllocFailed, Global};
 /// The most tables of an import: as many as a server has namespaces.
 const MOST_TABLES: usize = 64;
 
+/// The file of a table.
+#[derive(Drop)]
+pub(crate) struct TableFile {
+    /// Where it is.
+    pub(crate) path: String,
+    /// The digits of the process whose table it is, or None where words name the file itself.
+    pub(crate) process: Option<String>,
+}
+
 /// Why words name no files of tables.
 #[derive(Clone, Copy)]
 pub(crate) enum SourceFault {
@@ -30,18 +39,19 @@ impl<T: Drop> From<AllocFailed<T>> for SourceFault {
 }
 
 /// The file of the table of a process. Refused as `Words` where the word is no number.
-fn file_of_process(alloc: Global, word: &str) -> Result<String, SourceFault> {
+fn file_of_process(alloc: Global, word: &str) -> Result<TableFile, SourceFault> {
     if number(word.as_bytes()).is_none() {
         return Err(SourceFault::Words);
     }
     let mut path = String::from_str(alloc, "/proc/")?;
     path.push_str(word)?;
     path.push_str("/mountinfo")?;
-    Ok(path)
+    let process = Some(String::from_str(alloc, word)?);
+    Ok(TableFile { path, process })
 }
 
 /// The files of the tables of processes. Refused as `Words` where a word is no number.
-fn files_of_processes(alloc: Global, words: &[&str]) -> Result<Vec<String>, SourceFault> {
+fn files_of_processes(alloc: Global, words: &[&str]) -> Result<Vec<TableFile>, SourceFault> {
     let mut files = Vec::new(alloc);
     for word in words {
         files.push(file_of_process(alloc, word)?)?;
@@ -50,19 +60,22 @@ fn files_of_processes(alloc: Global, words: &[&str]) -> Result<Vec<String>, Sour
 }
 
 /// The files of these names. Refused as `Words` where a word begins as an option does.
-fn files_of_names(alloc: Global, words: &[&str]) -> Result<Vec<String>, SourceFault> {
+fn files_of_names(alloc: Global, words: &[&str]) -> Result<Vec<TableFile>, SourceFault> {
     let mut files = Vec::new(alloc);
     for word in words {
         if word.as_bytes().starts_with(b"-") {
             return Err(SourceFault::Words);
         }
-        files.push(String::from_str(alloc, word)?)?;
+        files.push(TableFile {
+            path: String::from_str(alloc, word)?,
+            process: None,
+        })?;
     }
     Ok(files)
 }
 
 /// The files that words name: `--pid` and numbers of processes, of which each has a table below `/proc`, or files.
-pub(crate) fn files_of(alloc: Global, words: &[&str]) -> Result<Vec<String>, SourceFault> {
+pub(crate) fn files_of(alloc: Global, words: &[&str]) -> Result<Vec<TableFile>, SourceFault> {
     let (named, are_processes) = match words {
         ["--pid", named @ ..] => (named, true),
         named => (named, false),

@@ -4,11 +4,13 @@ use crate::PROGRAM;
 use crate::fault::Fault;
 use crate::import::{ImportFault, ROW_LIMIT, read_rows};
 use crate::messages::NAME;
+use crate::processes::{is_foreign, user_namespace_of};
 use crate::screen::standard_output;
-use crate::sources::{SourceFault, files_of};
+use crate::sources::{SourceFault, TableFile, files_of};
 use crate::task::WordFault;
 use mt_import::fault::Fault as Refusal;
 use mt_import::host_mount::HostMount;
+use mt_import::host_space::HostSpace;
 use mt_import::import::script_of;
 use mt_import::script::Script;
 use mt_lines::line::LineReader;
@@ -86,15 +88,48 @@ pub(crate) fn read_table(rt: &HostRuntime, path: &str) -> Result<Vec<HostMount>,
     Ok(rows)
 }
 
-/// Appends the rows that a file tells.
+/// What the user namespace of the process is called whose table a file has, if that is told.
+fn user_of(rt: &HostRuntime, file: &TableFile) -> io::Result<Option<String>> {
+    match &file.process {
+        Some(process) => user_namespace_of(rt, process.as_str()),
+        None => Ok(None),
+    }
+}
+
+/// What a file tells of a namespace, and whether that is foreign where the user namespace of the first one is called so.
+fn read_space(
+    rt: &HostRuntime,
+    file: &TableFile,
+    first: &Option<String>,
+) -> Result<HostSpace, TableFault> {
+    let rows = read_table(rt, file.path.as_str())?;
+    let user = user_of(rt, file)?;
+    Ok(HostSpace {
+        rows,
+        is_foreign: is_foreign(&user, first),
+    })
+}
+
+/// Appends what a file tells of a namespace.
 fn push_table(
     rt: &HostRuntime,
-    tables: &mut Vec<Vec<HostMount>>,
-    path: &str,
+    tables: &mut Vec<HostSpace>,
+    file: &TableFile,
+    first: &Option<String>,
 ) -> Result<(), TableFault> {
-    let table = read_table(rt, path)?;
-    tables.push(table)?;
+    tables.push(read_space(rt, file, first)?)?;
     Ok(())
+}
+
+/// What the user namespace of the process is called whose table the first of these files has, if that is told.
+fn first_user(rt: &HostRuntime, files: &[TableFile]) -> Result<Option<String>, ExitCode> {
+    let Some(file) = files.first() else {
+        return Ok(None);
+    };
+    match user_of(rt, file) {
+        Ok(user) => Ok(user),
+        Err(_) => Err(PROGRAM.fail(rt, Fault::NoMemory.message())),
+    }
 }
 
 /// Says why the table of a file was not read, and answers the status.
@@ -107,23 +142,21 @@ fn tell_unread(rt: &HostRuntime, path: &str, fault: TableFault) -> ExitCode {
     ExitCode::from(1)
 }
 
-/// The rows that each of these files tells, in their order. Says which file's are not read, and why, and answers the
+/// What each of these files tells of a namespace, in their order. Says which one is not read, and why, and answers the
 /// status.
-pub(crate) fn read_tables(
-    rt: &HostRuntime,
-    files: &[String],
-) -> Result<Vec<Vec<HostMount>>, ExitCode> {
+fn read_tables(rt: &HostRuntime, files: &[TableFile]) -> Result<Vec<HostSpace>, ExitCode> {
+    let first = first_user(rt, files)?;
     let mut tables = Vec::new(rt.alloc());
     for file in files {
-        if let Err(fault) = push_table(rt, &mut tables, file.as_str()) {
-            return Err(tell_unread(rt, file.as_str(), fault));
+        if let Err(fault) = push_table(rt, &mut tables, file, &first) {
+            return Err(tell_unread(rt, file.path.as_str(), fault));
         }
     }
     Ok(tables)
 }
 
 /// The script that makes the namespaces of the tables of these files, or the status, where it is said why there is none.
-pub(crate) fn script_of_files(rt: &HostRuntime, files: &[String]) -> Result<Script, ExitCode> {
+pub(crate) fn script_of_files(rt: &HostRuntime, files: &[TableFile]) -> Result<Script, ExitCode> {
     let tables = read_tables(rt, files)?;
     match script_of(rt.alloc(), tables.as_slice()) {
         Ok(script) => Ok(script),
@@ -145,7 +178,7 @@ pub(crate) fn named_files(
     rt: &HostRuntime,
     words: &[&str],
     kind: WordFault,
-) -> Result<Vec<String>, ExitCode> {
+) -> Result<Vec<TableFile>, ExitCode> {
     match files_of(rt.alloc(), words) {
         Ok(files) => Ok(files),
         Err(SourceFault::NoMemory) => Err(PROGRAM.fail(rt, Fault::NoMemory.message())),

@@ -5,12 +5,13 @@ ghost use Rattle.mt_lines.specs.Reading.{fault_of};
 use crate::connection::{connected, status_of};
 use crate::fault::Fault;
 use crate::lines::{tell_bad, tell_refused_line};
-use crate::messages::{NAME, tell_left_out};
+use crate::messages::{NAME, tell_left_out, tell_lockless};
 use crate::newness::{Begun, begin_script};
 use crate::provide::provide;
 use crate::quiet::Quiet;
 use crate::screen::standard_output;
 use crate::script::{SCRIPT_LIMIT, run_script};
+use crate::sources::TableFile;
 use crate::tables::{named_files, script_of_files};
 use crate::task::{WordFault, parted};
 use crate::{LINE_LIMIT, PROGRAM};
@@ -64,7 +65,7 @@ fn numbers_in(comment: &[u8]) -> Option<(u64, u64)> {
 }
 
 /// The file of the table of a number.
-fn file_of(files: &[String], table: u64) -> Option<&String> {
+fn file_of(files: &[TableFile], table: u64) -> Option<&TableFile> {
     let mut left = table;
     for file in files {
         left = left.checked_sub(1)?;
@@ -76,25 +77,26 @@ fn file_of(files: &[String], table: u64) -> Option<&String> {
 }
 
 /// The name of the namespace that a comment tells of: the file of its table.
-fn name_in<'a>(files: &'a [String], comment: &[u8]) -> Option<SpaceName<'a>> {
+fn name_in<'a>(files: &'a [TableFile], comment: &[u8]) -> Option<SpaceName<'a>> {
     let (table, space) = numbers_in(comment)?;
     let file = file_of(files, table)?;
     Some(SpaceName {
         space,
-        name: file.as_str().as_bytes(),
+        name: file.path.as_str().as_bytes(),
     })
 }
 
-/// The names of the namespaces of a script of the tables of files. Says which mounts are left out.
+/// The names of the namespaces of a script of the tables of files. Says which mounts are left out, and where locks are not known.
 fn names_of<'a, E: Eprint>(
     rt: &E,
     alloc: Global,
     script: &[u8],
-    files: &'a [String],
+    files: &'a [TableFile],
 ) -> Result<Vec<SpaceName<'a>>, Fault> {
     let mut names = Vec::new(alloc);
     for line in Pieces::new(b'\n', script) {
         tell_left_out(rt, line);
+        tell_lockless(rt, line);
         if let Some(name) = name_in(files, line) {
             names.push(name)?;
         }
@@ -225,7 +227,7 @@ pub(crate) fn tell_what_if<E: Eprint, R: Input + Drop, W: Output, O: Output>(
     rt: &E,
     alloc: Global,
     script: &[u8],
-    files: &[String],
+    files: &[TableFile],
     words: &[&str],
     lines: &mut LineReader<R>,
     writer: &mut W,
@@ -257,7 +259,7 @@ fn ask_what_if(
     rt: &HostRuntime,
     stream: &UnixStream,
     script: &Script,
-    files: &[String],
+    files: &[TableFile],
     words: &[&str],
 ) -> Result<Effects, Fault> {
     let alloc = rt.alloc();

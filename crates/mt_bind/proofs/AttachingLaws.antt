@@ -189,10 +189,11 @@ module _ (w : WorldView) (tree n : ℕ) (path : List (List ℕ)) (v : WorldView)
   differs : n ≢ tree
   differs same = let a = attached_accepted w tree n path v e in let bad : true ≡ false = sym (eq-eqb n tree same) ∙ a.apart in absurd (cc)
 
-  goes : IsDestination w (path_end w n path)
+  -- its place is a destination, and the tree a source tree
+  pub goes : IsDestination w (path_end w n path)
   goes = let a = attached_accepted w tree n path v e in destination w n path (path_end w n path) h a.ended a.off_root
 
-  source : IsSource w (whole_tree w tree) (path_end w n path)
+  pub source : IsSource w (whole_tree w tree) (path_end w n path)
   source =
       let a = attached_accepted w tree n path v e in
       let r = (walked w n h path (path_end w n path) a.ended).0 in

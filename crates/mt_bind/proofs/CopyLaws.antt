@@ -184,10 +184,10 @@ module _ (w : WorldView) (h : IsWellFormed w) (ms : List Mount) (a : AreSources 
 
     -- together they make the namespace
     pub copies-made : (v : WorldView) → v.forest ≡ u.forest ++ cs → v.peering.peers ≡ u.peering.peers ++ peers_of rs → (v.skel ≡ u.skel) × (v.peering.next ≡ u.peering.next)
-        → (v.next_mount ≡ u.next_mount + length cs) × (v.next_space ≡ u.next_space + 1) → v.trees ≡ u.trees → v ≡ record (with_copies w ms less) { trees = ts }
+        → (v.next_mount ≡ u.next_mount + length cs) × (v.next_space ≡ u.next_space + 1) → v.trees ≡ u.trees → v.locks ≡ u.locks → v ≡ record (with_copies w ms less) { trees = ts }
     unfolding with_copies
-    copies-made v forest states same next trees =
+    copies-made v forest states same next trees locks =
         let count : length cs ≡ length ms = ap length o.mounts ∙ length-map ms (copy w h ms a) in
-        let added : v ≡ record { skel = u.skel; forest = u.forest ++ cs; peering = record { peers = u.peering.peers ++ peers_of rs; next = u.peering.next }; next_mount = u.next_mount + length cs; next_space = u.next_space + 1; trees = u.trees } =
-        λ i. record { skel = same.0 i; forest = forest i; peering = record { peers = states i; next = same.1 i }; next_mount = next.0 i; next_space = next.1 i; trees = trees i } in
+        let added : v ≡ record { skel = u.skel; forest = u.forest ++ cs; peering = record { peers = u.peering.peers ++ peers_of rs; next = u.peering.next }; next_mount = u.next_mount + length cs; next_space = u.next_space + 1; trees = u.trees; locks = u.locks } =
+        λ i. record { skel = same.0 i; forest = forest i; peering = record { peers = states i; next = same.1 i }; next_mount = next.0 i; next_space = next.1 i; trees = trees i; locks = locks i } in
         added ∙ (λ i. let x = o.still i in record x { forest = x.forest ++ o.mounts i; peering = record x.peering { peers = x.peering.peers ++ o.states i }; next_mount = x.next_mount + count i; next_space = x.next_space + 1 })

@@ -21,7 +21,7 @@ use mt_skel::fault::Fault;
 use mt_skel::name::Name;
 
 /// Whether a mount is unbindable.
-pub(crate) fn is_unbindable(world: &World, id: MountId) -> bool
+pub fn is_unbindable(world: &World, id: MountId) -> bool
     ensures { result ≡ (state_of (world_view world.now) id).unbindable }
 {
     state_of(world, id).unbindable
@@ -39,7 +39,7 @@ fn only(world: &World, id: MountId) -> Result<Vec<MountId>, Fault>
 
 /// The mounts that a bind of a place copies, by rising ID: its mount alone, or with `recursive` the tree of mounts below
 /// it.
-pub(crate) fn members_at(world: &World, from: Place, recursive: bool) -> Result<Vec<MountId>, Fault>
+pub fn members_at(world: &World, from: Place, recursive: bool) -> Result<Vec<MountId>, Fault>
     requires well_formed { IsWellFormed (world_view world.now) }
     ensures members { IfOk result (λ ids. ids.items ≡ cond recursive (map id_of (filter (λ m. is_bound_along (world_view world.now) from m.id) world.now.forest.mounts)) (from.mount ∷ [])) }
     ensures memory { IsOkUnless result Fault.NoMemory }

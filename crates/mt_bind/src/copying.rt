@@ -124,6 +124,7 @@ pub(crate) fn add_space(world: &mut World, mounts: &[Mount], states: &[(MountId,
     ensures same { (world.new.skel ≡ world.old.skel) × (world.new.peers.next ≡ world.old.peers.next) }
     ensures next { (world.new.next_mount ≡ world.old.next_mount + length mounts.now) × (world.new.next_space ≡ world.old.next_space + 1) }
     ensures trees { world.new.trees ≡ world.old.trees }
+    ensures locks { world.new.locks ≡ world.old.locks }
     ensures space { result ≡ world.old.next_space }
     ensures since { since_view world.new ≡ since_view world.old }
 {

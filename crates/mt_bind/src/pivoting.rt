@@ -32,6 +32,13 @@ fn is_below(forest: &Forest, top: MountId, id: MountId) -> bool
     here == top
 }
 
+/// Whether a mount is another one or stands on it, at whatever height.
+pub fn is_in_tree_of(world: &World, top: MountId, id: MountId) -> bool
+    ensures { result ≡ is_below world.now.forest.mounts top id }
+{
+    is_below(&world.forest, top, id)
+}
+
 /// Whether the mount on which a mount stands is in a peer group, or the mount of a place is.
 fn has_shared(world: &World, id: MountId, place: Place) -> bool
     ensures { result ≡ (option_map_or (λ k. is_some (group_of (world_view world.now) k)) (parent world.now.forest.mounts id) false || is_some (group_of (world_view world.now) place.mount)) }

@@ -64,7 +64,7 @@ pub(crate) fn add_root(world: &mut World, root: Mount) -> SpaceId
     requires stateless { state_at world.old.peers.peers root.id ≡ None }
     ensures forest { world.new.forest.mounts ≡ put id_of root world.old.forest.mounts }
     ensures peers { world.new.peers.peers ≡ put mount_of (record { mount = root.id; state = private }) world.old.peers.peers }
-    ensures same { (world.new.skel ≡ world.old.skel) × (world.new.peers.next ≡ world.old.peers.next) × (world.new.trees ≡ world.old.trees) }
+    ensures same { (world.new.skel ≡ world.old.skel) × (world.new.peers.next ≡ world.old.peers.next) × (world.new.trees ≡ world.old.trees) × (world.new.locks ≡ world.old.locks) }
     ensures next { (world.new.next_mount ≡ world.old.next_mount + 1) × (world.new.next_space ≡ world.old.next_space + 1) }
     ensures space { result ≡ root.space }
     ensures since { since_view world.new ≡ since_view world.old }

@@ -69,7 +69,7 @@ others_stay n tree w p is other x =
 
 pub step_has : (n : ℕ) (w : WorldView) (c : Command) (v : WorldView) (r : Reply) → IsWellFormed w → step w c ≡ Ok (v, r) → ends_space n c ≡ false → Has n w → Has n v
 unfolding with_space with_copies copied with_pivot with_change
-step_has n w c v r g e d h = effect w c v r (Has n) e (record {
+step_has n w c v r g e d h = effect w c v r (Has n) e (λ u l x. record { id = x.id; mount = x.mount; there = x.there; space = x.space }) (record {
   skel = λ t made. still n w _ (λ m. m) (λ m. refl) (λ i m at. at) h;
   space = λ f. still n w _ (λ m. m) (λ m. refl) (λ i m at. row-first id_of w.forest _ i m at) h;
   copy = λ k less there. still n w _ (λ m. m) (λ m. refl) (λ i m at. row-first id_of w.forest _ i m at) h;

@@ -27,20 +27,22 @@ use Rattle.mt_book.specs.declared.command.Command.{Command}
 use Rattle.mt_book.specs.declared.command.Command.TheVariants.{MakeFs, MakeDir, NewSpace, CopySpace, DropSpace, Mount, MountWith, Bind, Move, Pivot, Unmount, Detach, SetAttr, OpenTree, NewTree, MoveTree}
 use Rattle.mt_book.specs.declared.command.Reply.{Reply}
 use Rattle.mt_book.specs.declared.command.Reply.TheVariants.{Number}
-use Rattle.mt_book.specs.Step.{with_made_number, step, makes_directories, world_or, next_world, after_from, after}
+use Rattle.mt_locks.specs.Locks.{LocksView}
+use Rattle.mt_book.specs.declared.command.Privilege.{Privilege}
+use Rattle.mt_book.specs.Step.{with_made_number, is_less, act, judged, guarded, step, makes_directories, world_or, next_world, after_from, after}
 use Rattle.mt_book.specs.History.{events, space_number}
 use Rattle.mt_book.specs.Book.{command_limit, answer, reply_of}
 use Rattle.mt_book.specs.Inside.{is_issued_in, is_taken_from, is_answer, enlarged, family_after, StaysOnItsSide, IsNotCrossed, family_of, StaysInCopy, AllStayInCopies}
 use Rattle.mt_book.specs.Laws.{AreGivenOut}
-use Rattle.mt_book.proofs.EffectLaws.{number_ok, done_ok, directories_made, next_by}
+use Rattle.mt_book.proofs.EffectLaws.{number_ok, done_ok, acted_directories, step_accepted, by_act, next_by}
 use Rattle.mt_book.proofs.StepLaws.{step_kept}
 use Rattle.mt_book.proofs.RiseLaws.{step_rises}
 use Rattle.mt_book.proofs.HistoryLaws.{IsGood, step_good, after_good, after-append, events-append}
 use Rattle.mt_book.proofs.DirectoryLaws.{no_post}
 
 -- directories have no part in it
-skel_contained : (family : ℕ → Bool) (w : WorldView) (c : Command) (v : WorldView) (r : Reply) → makes_directories c ≡ true → step w c ≡ Ok (v, r) → IsContained family w → IsContained family v
-skel_contained family w c v r d e a = let m = directories_made w c v r d e in subst (IsContained family) (sym m.1) (record { groups = a.groups; chains = a.chains })
+skel_contained : (family : ℕ → Bool) (w : WorldView) (c : Command) (v : WorldView) (r : Reply) → makes_directories c ≡ true → act w c ≡ Ok (v, r) → IsContained family w → IsContained family v
+skel_contained family w c v r d e a = let m = acted_directories w c v r d e in subst (IsContained family) (sym m.1) (record { groups = a.groups; chains = a.chains })
 
 -- ---- what joins a family
 
@@ -76,11 +78,23 @@ made_next : (q : Result (WorldView × ℕ) Fault) (next : ℕ) → ((v : WorldVi
 made_next (Ok p) next f k e = eqb-true k p.1 e ∙ sym (f p.0 p.1 refl)
 made_next (Err x) next f k e = absurd (cc)
 
+-- what a command answers is what it answers without locks
+acted_answer : (w : WorldView) (c : Command) (k : ℕ) → is_answer k (step w c) ≡ true → is_answer k (act w c) ≡ true
+unfolding step
+acted_answer w c k e = by (judged w c) (act w c) e
+  where
+    by : (j : Result LocksView Fault) (q : Result (WorldView × Reply) Fault) → is_answer k (guarded j q) ≡ true → is_answer k q ≡ true
+    by (Ok l) (Ok p) e = e
+    by (Ok l) (Err f) e = absurd (cc)
+    by (Err f) q e = absurd (cc)
+
 -- it is the next one
 next_joins : (family : ℕ → Bool) (w : WorldView) (c : Command) (k : ℕ) → is_taken_from family c ≡ true → is_answer k (step w c) ≡ true → k ≡ w.next_space
-unfolding step
-next_joins family w (CopySpace m less) k taken e = made_next (copy_space w m less) w.next_space (λ v i is. (copy_space_accepted w m less v i is).number) k e
-next_joins family w (OpenTree m path recursive) k taken e = made_next (tree_opened w m path recursive) w.next_space (λ v i is. (opened_accepted w m path recursive v i is).number) k e
+unfolding act
+next_joins family w (CopySpace m less) k taken e =
+    made_next (copy_space w m (is_less less)) w.next_space (λ v i is. (copy_space_accepted w m (is_less less) v i is).number) k (acted_answer w (CopySpace m less) k e)
+next_joins family w (OpenTree m path recursive) k taken e =
+    made_next (tree_opened w m path recursive) w.next_space (λ v i is. (opened_accepted w m path recursive v i is).number) k (acted_answer w (OpenTree m path recursive) k e)
 next_joins family w c k taken e = absurd (cc)
 
 -- so the namespaces that were given out are of the family as they were
@@ -107,61 +121,65 @@ not_yet family w given = by (family w.next_space) refl
 
 -- ---- a command
 
+acted_contained : (family : ℕ → Bool) (w : WorldView) (c : Command) (v : WorldView) (r : Reply) → IsWellFormed w → AreGivenOut family w → StaysOnItsSide family w c → step w c ≡ Ok (v, r) → IsContained (enlarged family w c) w
+    → (u : WorldView) → act w c ≡ Ok (u, r) → IsContained (enlarged family w c) u
+unfolding act
+acted_contained family w (MakeFs name kind source) v r h given side e b u a = skel_contained _ w (MakeFs name kind source) u r refl a b
+acted_contained family w (MakeDir fs path) v r h given side e b u a = skel_contained _ w (MakeDir fs path) u r refl a b
+acted_contained family w (NewSpace fs) v r h given side e b u a = let q = number_ok _ u r a in made_contained _ w fs u q.0 h b q.1
+acted_contained family w (CopySpace k less) v r h given side e b u a =
+    let q = number_ok _ u r a in
+    let next = (copy_space_accepted w k (is_less less) u q.0 q.1).number in
+    let answer = answered w (CopySpace k less) v r q.0 q.0 e q.2 refl in
+    copied_contained _ w k (is_less less) u q.0 h b (joins_with (family k) (family q.0) _ _ (ap family (sym next) ∙ not_yet family w given) answer) q.1
+acted_contained family w (DropSpace k) v r h given side e b u a = subst (IsContained _) (drop_space_accepted w k u (done_ok _ u r a)).world (end_contained w h k _ b)
+acted_contained family w (Mount k fs path) v r h given side e b u a = let q = number_ok _ u r a in mount_contained _ w k fs path nothing_set u q.0 h b q.1
+acted_contained family w (MountWith k fs path set) v r h given side e b u a = let q = number_ok _ u r a in mount_contained _ w k fs path set u q.0 h b q.1
+acted_contained family w (Bind k src dst recursive) v r h given side e b u a = let q = number_ok _ u r a in bind_contained _ w k recursive src dst u q.0 h b q.1
+acted_contained family w (Move k src dst) v r h given side e b u a = move_contained _ w k src dst u h b (done_ok _ u r a)
+acted_contained family w (Pivot k new old) v r h given side e b u a = pivoted_contained _ w k new old u h b (done_ok _ u r a)
+acted_contained family w (Unmount k path) v r h given side e b u a = unmounted-contained _ w k path u h b (done_ok _ u r a)
+acted_contained family w (Detach k path) v r h given side e b u a = detached-contained _ w k path u h b (done_ok _ u r a)
+acted_contained family w (SetAttr k path change) v r h given side e b u a = attributed-contained _ w k path change u h b (done_ok _ u r a)
+acted_contained family w (OpenTree k path recursive) v r h given side e b u a =
+    let q = number_ok _ u r a in
+    let next = (opened_accepted w k path recursive u q.0 q.1).number in
+    let answer = answered w (OpenTree k path recursive) v r q.0 q.0 e q.2 refl in
+    opened_contained _ w k path recursive u q.0 h b (joins_with (family k) (family q.0) _ _ (ap family (sym next) ∙ not_yet family w given) answer) q.1
+acted_contained family w (NewTree fs) v r h given side e b u a = let q = number_ok _ u r a in tree_made_contained _ w fs u q.0 h b q.1
+acted_contained family w (MoveTree tree k path) v r h given side e b u a = attached_contained _ w tree k path u h b (λ linked. ap (λ x. x || false) (side linked)) (done_ok _ u r a)
+
 pub step_contained : (family : ℕ → Bool) (w : WorldView) (c : Command) (v : WorldView) (r : Reply) → IsWellFormed w → IsContained family w → AreGivenOut family w → StaysOnItsSide family w c → step w c ≡ Ok (v, r)
     → IsContained (enlarged family w c) v
-unfolding step
-step_contained family w c v r h a given side e = go c side e (enlarged_contained family w c h a)
-  where
-    go : (c : Command) → StaysOnItsSide family w c → step w c ≡ Ok (v, r) → IsContained (enlarged family w c) w → IsContained (enlarged family w c) v
-    go (MakeFs name kind source) side e b = skel_contained _ w (MakeFs name kind source) v r refl e b
-    go (MakeDir fs path) side e b = skel_contained _ w (MakeDir fs path) v r refl e b
-    go (NewSpace fs) side e b = let q = number_ok _ v r e in made_contained _ w fs v q.0 h b q.1
-    go (CopySpace k less) side e b =
-        let q = number_ok _ v r e in
-        let next = (copy_space_accepted w k less v q.0 q.1).number in
-        let answer = answered w (CopySpace k less) v r q.0 q.0 e q.2 refl in
-        copied_contained _ w k less v q.0 h b (joins_with (family k) (family q.0) _ _ (ap family (sym next) ∙ not_yet family w given) answer) q.1
-    go (DropSpace k) side e b = subst (IsContained _) (drop_space_accepted w k v (done_ok _ v r e)).world (end_contained w h k _ b)
-    go (Mount k fs path) side e b = let q = number_ok _ v r e in mount_contained _ w k fs path nothing_set v q.0 h b q.1
-    go (MountWith k fs path set) side e b = let q = number_ok _ v r e in mount_contained _ w k fs path set v q.0 h b q.1
-    go (Bind k src dst recursive) side e b = let q = number_ok _ v r e in bind_contained _ w k recursive src dst v q.0 h b q.1
-    go (Move k src dst) side e b = move_contained _ w k src dst v h b (done_ok _ v r e)
-    go (Pivot k new old) side e b = pivoted_contained _ w k new old v h b (done_ok _ v r e)
-    go (Unmount k path) side e b = unmounted-contained _ w k path v h b (done_ok _ v r e)
-    go (Detach k path) side e b = detached-contained _ w k path v h b (done_ok _ v r e)
-    go (SetAttr k path change) side e b = attributed-contained _ w k path change v h b (done_ok _ v r e)
-    go (OpenTree k path recursive) side e b =
-        let q = number_ok _ v r e in
-        let next = (opened_accepted w k path recursive v q.0 q.1).number in
-        let answer = answered w (OpenTree k path recursive) v r q.0 q.0 e q.2 refl in
-        opened_contained _ w k path recursive v q.0 h b (joins_with (family k) (family q.0) _ _ (ap family (sym next) ∙ not_yet family w given) answer) q.1
-    go (NewTree fs) side e b = let q = number_ok _ v r e in tree_made_contained _ w fs v q.0 h b q.1
-    go (MoveTree tree k path) side e b = attached_contained _ w tree k path v h b (λ linked. ap (λ x. x || false) (side linked)) (done_ok _ v r e)
+step_contained family w c v r h a given side e =
+    by_act w c v r (IsContained (enlarged family w c)) e (λ u acts. acted_contained family w c v r h given side e (enlarged_contained family w c h a) u acts) (λ u l s. record { groups = s.groups; chains = s.chains })
 
 -- a command that is issued in a contained family changes nothing outside it
+acted_outside : (family : ℕ → Bool) (w : WorldView) (c : Command) (v : WorldView) (r : Reply) → IsWellFormed w → is_issued_in family c ≡ true → step w c ≡ Ok (v, r) → IsContained (enlarged family w c) w
+    → (u : WorldView) → act w c ≡ Ok (u, r) → IsSameOutside (enlarged family w c) w u
+unfolding act
+acted_outside family w (CopySpace k less) v r h is e b u a =
+    let q = number_ok _ u r a in
+    copied_outside _ w k (is_less less) u q.0 h (new_joins (family q.0) (family k) _ is (answered w (CopySpace k less) v r q.0 q.0 e q.2 refl)) q.1
+acted_outside family w (DropSpace k) v r h is e b u a = subst (IsSameOutside _ w) (drop_space_accepted w k u (done_ok _ u r a)).world (end_outside w h k _ b (stays_of (family k) _ is))
+acted_outside family w (Mount k fs path) v r h is e b u a = let q = number_ok _ u r a in mount_outside _ w k fs path nothing_set u q.0 h b (stays_of (family k) _ is) q.1
+acted_outside family w (MountWith k fs path set) v r h is e b u a = let q = number_ok _ u r a in mount_outside _ w k fs path set u q.0 h b (stays_of (family k) _ is) q.1
+acted_outside family w (Bind k src dst recursive) v r h is e b u a = let q = number_ok _ u r a in bind_outside _ w k recursive src dst u q.0 h b (stays_of (family k) _ is) q.1
+acted_outside family w (Move k src dst) v r h is e b u a = move_outside _ w k src dst u h b (stays_of (family k) _ is) (done_ok _ u r a)
+acted_outside family w (Pivot k new old) v r h is e b u a = pivoted_outside _ w k new old u h b (stays_of (family k) _ is) (done_ok _ u r a)
+acted_outside family w (Unmount k path) v r h is e b u a = unmounted-outside _ w k path u h b (stays_of (family k) _ is) (done_ok _ u r a)
+acted_outside family w (Detach k path) v r h is e b u a = detached-outside _ w k path u h b (stays_of (family k) _ is) (done_ok _ u r a)
+acted_outside family w (SetAttr k path change) v r h is e b u a = attributed-outside _ w k path change u h b (stays_of (family k) _ is) (done_ok _ u r a)
+acted_outside family w (OpenTree k path recursive) v r h is e b u a =
+    let q = number_ok _ u r a in
+    opened_outside _ w k path recursive u q.0 h (new_joins (family q.0) (family k) _ is (answered w (OpenTree k path recursive) v r q.0 q.0 e q.2 refl)) q.1
+acted_outside family w (MoveTree tree k path) v r h is e b u a =
+    attached_outside _ w tree k path u h b (stays_of (family tree) _ (and_first (family tree) (family k) is)) (stays_of (family k) _ (and_second (family tree) (family k) is)) (done_ok _ u r a)
+acted_outside family w c v r h is e b u a = absurd (cc)
+
 step_outside : (family : ℕ → Bool) (w : WorldView) (c : Command) (v : WorldView) (r : Reply) → IsWellFormed w → IsContained family w → is_issued_in family c ≡ true → step w c ≡ Ok (v, r) → IsSameOutside (enlarged family w c) w v
-unfolding step
-step_outside family w c v r h a is e = go c is e (enlarged_contained family w c h a)
-  where
-    go : (c : Command) → is_issued_in family c ≡ true → step w c ≡ Ok (v, r) → IsContained (enlarged family w c) w → IsSameOutside (enlarged family w c) w v
-    go (CopySpace k less) is e b =
-        let q = number_ok _ v r e in
-        copied_outside _ w k less v q.0 h (new_joins (family q.0) (family k) _ is (answered w (CopySpace k less) v r q.0 q.0 e q.2 refl)) q.1
-    go (DropSpace k) is e b = subst (IsSameOutside _ w) (drop_space_accepted w k v (done_ok _ v r e)).world (end_outside w h k _ b (stays_of (family k) _ is))
-    go (Mount k fs path) is e b = let q = number_ok _ v r e in mount_outside _ w k fs path nothing_set v q.0 h b (stays_of (family k) _ is) q.1
-    go (MountWith k fs path set) is e b = let q = number_ok _ v r e in mount_outside _ w k fs path set v q.0 h b (stays_of (family k) _ is) q.1
-    go (Bind k src dst recursive) is e b = let q = number_ok _ v r e in bind_outside _ w k recursive src dst v q.0 h b (stays_of (family k) _ is) q.1
-    go (Move k src dst) is e b = move_outside _ w k src dst v h b (stays_of (family k) _ is) (done_ok _ v r e)
-    go (Pivot k new old) is e b = pivoted_outside _ w k new old v h b (stays_of (family k) _ is) (done_ok _ v r e)
-    go (Unmount k path) is e b = unmounted-outside _ w k path v h b (stays_of (family k) _ is) (done_ok _ v r e)
-    go (Detach k path) is e b = detached-outside _ w k path v h b (stays_of (family k) _ is) (done_ok _ v r e)
-    go (SetAttr k path change) is e b = attributed-outside _ w k path change v h b (stays_of (family k) _ is) (done_ok _ v r e)
-    go (OpenTree k path recursive) is e b =
-        let q = number_ok _ v r e in
-        opened_outside _ w k path recursive v q.0 h (new_joins (family q.0) (family k) _ is (answered w (OpenTree k path recursive) v r q.0 q.0 e q.2 refl)) q.1
-    go (MoveTree tree k path) is e b =
-        attached_outside _ w tree k path v h b (stays_of (family tree) _ (and_first (family tree) (family k) is)) (stays_of (family k) _ (and_second (family tree) (family k) is)) (done_ok _ v r e)
-    go c is e b = absurd (cc)
+step_outside family w c v r h a is e =
+    by_act w c v r (IsSameOutside (enlarged family w c) w) e (λ u acts. acted_outside family w c v r h is e (enlarged_contained family w c h a) u acts) (λ u l s. record { skel = s.skel; mounts = s.mounts; states = s.states })
 
 -- so the tables of all namespaces outside stay
 pub step_inside : (family : ℕ → Bool) (w : WorldView) (c : Command) (v : WorldView) (r : Reply) → IsWellFormed w → IsSkeleton w.skel → IsContained family w → AreGivenOut family w → is_issued_in family c ≡ true → step w c ≡ Ok (v, r)
@@ -179,15 +197,18 @@ copies_higher : (w : WorldView) (sources : List AnyMount) (less : Bool) → w.ne
 unfolding with_copies
 copies_higher w sources less = omega arith
 
+acted_given : (family : ℕ → Bool) (w : WorldView) (c : Command) (u : WorldView) (r : Reply) → is_taken_from family c ≡ true → act w c ≡ Ok (u, r) → w.next_space < u.next_space
+unfolding act
+acted_given family w (CopySpace k less) u r taken a =
+    let q = number_ok _ u r a in
+    subst (λ (x : WorldView). w.next_space < x.next_space) (copy_space_accepted w k (is_less less) u q.0 q.1).world (copies_higher w _ (is_less less))
+acted_given family w (OpenTree k path recursive) u r taken a =
+    let q = number_ok _ u r a in
+    subst (λ (x : WorldView). w.next_space < x.next_space) (opened_accepted w k path recursive u q.0 q.1).world (copies_higher w _ false)
+acted_given family w c u r taken a = absurd (cc)
+
 next_given : (family : ℕ → Bool) (w : WorldView) (c : Command) (v : WorldView) (r : Reply) → is_taken_from family c ≡ true → step w c ≡ Ok (v, r) → w.next_space < v.next_space
-unfolding step
-next_given family w (CopySpace k less) v r taken e =
-    let q = number_ok _ v r e in
-    subst (λ (x : WorldView). w.next_space < x.next_space) (copy_space_accepted w k less v q.0 q.1).world (copies_higher w _ less)
-next_given family w (OpenTree k path recursive) v r taken e =
-    let q = number_ok _ v r e in
-    subst (λ (x : WorldView). w.next_space < x.next_space) (opened_accepted w k path recursive v q.0 q.1).world (copies_higher w _ false)
-next_given family w c v r taken e = absurd (cc)
+next_given family w c v r taken e = by_act w c v r (λ x. w.next_space < x.next_space) e (λ u a. acted_given family w c u r taken a) (λ u l s. s)
 
 -- what joins was given out
 step_given : (family : ℕ → Bool) (w : WorldView) (c : Command) (v : WorldView) (r : Reply) → AreGivenOut family w → step w c ≡ Ok (v, r) → AreGivenOut (enlarged family w c) v
@@ -239,27 +260,33 @@ new_given : (w : WorldView) (k : ℕ) → w.next_space < (with_copy w k true).ne
 unfolding with_copies
 new_given w k = omega arith
 
-less_stands : (w : WorldView) (m n : ℕ) (v : WorldView) → IsGood w → step w (CopySpace m true) ≡ Ok (v, Number n) → Stands (only n) v
-unfolding step
-less_stands w m n v g e =
-    let q = number_ok _ v (Number n) e in
+acted_less : (w : WorldView) (m n : ℕ) (u : WorldView) (privilege : Privilege) → is_less privilege ≡ true → IsWellFormed w → act w (CopySpace m privilege) ≡ Ok (u, Number n) → (n < u.next_space) × IsContained (only n) u
+unfolding act
+acted_less w m n u privilege is h e =
+    let q = number_ok _ u (Number n) e in
     let number : q.0 ≡ n = (let same = q.2 in cc) in
-    let is = q.1 ∙ ap (λ i. Ok (v, i)) number in
-    let made = copy_space_accepted w m true v n is in
-    let low : n < v.next_space = subst (λ x. n < x.next_space) made.world (subst (λ k. k < (with_copy w m true).next_space) made.number (new_given w m)) in
+    let done : copy_space w m true ≡ Ok (u, n) = ap (copy_space w m) (sym is) ∙ q.1 ∙ ap (λ i. Ok (u, i)) number in
+    let made = copy_space_accepted w m true u n done in
+    (subst (λ x. n < x.next_space) made.world (subst (λ k. k < (with_copy w m true).next_space) made.number (new_given w m)), less_copied w m u n h done)
+
+less_stands : (w : WorldView) (m n : ℕ) (v : WorldView) (less : Privilege) → is_less less ≡ true → IsGood w → step w (CopySpace m less) ≡ Ok (v, Number n) → Stands (only n) v
+less_stands w m n v less is g e =
+    let a = step_accepted w (CopySpace m less) v (Number n) e in
+    let x = acted_less w m n a.done less is g.formed a.acted in
+    let low : n < v.next_space = subst (λ y. n < y.next_space) (sym a.world) x.0 in
     record {
-      good = step_good w (CopySpace m true) v (Number n) g e;
+      good = step_good w (CopySpace m less) v (Number n) g e;
       given = λ k here. let same = eqb-true k n here in omega (arith, low, same);
-      contained = less_copied w m v n g.formed is;
+      contained = subst (IsContained (only n)) (sym a.world) (record { groups = x.1.groups; chains = x.1.chains });
     }
 
 -- what is done in the family of a less privileged copy leaves the tables of all namespaces outside, as long as nothing was accepted that
 -- brings a group or a master over its border
-pub less_inside : (w : WorldView) (m n : ℕ) (v : WorldView) → IsWellFormed w → IsSkeleton w.skel → step w (CopySpace m true) ≡ Ok (v, Number n) → (done : List Command) → IsNotCrossed (only n) v done
+pub less_inside : (w : WorldView) (m n : ℕ) (v : WorldView) (less : Privilege) → is_less less ≡ true → IsWellFormed w → IsSkeleton w.skel → step w (CopySpace m less) ≡ Ok (v, Number n) → (done : List Command) → IsNotCrossed (only n) v done
     → (c : Command) → is_issued_in (family_after (only n) v done) c ≡ true → (k : ℕ) → enlarged (family_after (only n) v done) (after_from v done) c k ≡ false
     → table_of (next_world (after_from v done) c) k ≡ table_of (after_from v done) k
-less_inside w m n v h s e done side c is k off =
-    stands_inside (family_after (only n) v done) (after_from v done) c (all_stand (only n) v done (less_stands w m n v (record { formed = h; skeleton = s }) e) side) is k off
+less_inside w m n v less less_is h s e done side c is k off =
+    stands_inside (family_after (only n) v done) (after_from v done) c (all_stand (only n) v done (less_stands w m n v less less_is (record { formed = h; skeleton = s }) e) side) is k off
 
 -- a table that stays leaves its number
 pub number_stays : (k : ℕ) (cs : List Command) (c : Command) → table_of (after (cs ++ c ∷ [])) k ≡ table_of (after cs) k → space_number k (cs ++ c ∷ []) ≡ space_number k cs
@@ -270,21 +297,21 @@ number_stays k cs c same =
     ∙ ap (λ o. length (events k cs ++ (option_to_list o ++ []))) none ∙ ap length (append-nil (events k cs))
 
 -- the world after a copy and what came later
-after_copy : (before : List Command) (m n : ℕ) (v : WorldView) → step (after before) (CopySpace m true) ≡ Ok (v, Number n) → (done : List Command) → after (before ++ CopySpace m true ∷ done) ≡ after_from v done
-after_copy before m n v e done = after-append before (CopySpace m true ∷ done) ∙ ap (λ (q : Result (WorldView × Reply) Fault). after_from (world_or (after before) q) done) e
+after_copy : (before : List Command) (m n : ℕ) (v : WorldView) (less : Privilege) → step (after before) (CopySpace m less) ≡ Ok (v, Number n) → (done : List Command) → after (before ++ CopySpace m less ∷ done) ≡ after_from v done
+after_copy before m n v less e done = after-append before (CopySpace m less ∷ done) ∙ ap (λ (q : Result (WorldView × Reply) Fault). after_from (world_or (after before) q) done) e
 
 -- the same from the empty world on
-pub book_inside : (before : List Command) (m n : ℕ) (v : WorldView) → step (after before) (CopySpace m true) ≡ Ok (v, Number n) → (done : List Command) → IsNotCrossed (only n) v done
+pub book_inside : (before : List Command) (m n : ℕ) (v : WorldView) (less : Privilege) → is_less less ≡ true → step (after before) (CopySpace m less) ≡ Ok (v, Number n) → (done : List Command) → IsNotCrossed (only n) v done
     → (c : Command) → is_issued_in (family_after (only n) v done) c ≡ true → (k : ℕ) → enlarged (family_after (only n) v done) (after_from v done) c k ≡ false
-    → (table_of (after ((before ++ CopySpace m true ∷ done) ++ c ∷ [])) k ≡ table_of (after (before ++ CopySpace m true ∷ done)) k)
-    × (space_number k ((before ++ CopySpace m true ∷ done) ++ c ∷ []) ≡ space_number k (before ++ CopySpace m true ∷ done))
-book_inside before m n v e done side c is k off =
-    let cs = before ++ CopySpace m true ∷ done in
+    → (table_of (after ((before ++ CopySpace m less ∷ done) ++ c ∷ [])) k ≡ table_of (after (before ++ CopySpace m less ∷ done)) k)
+    × (space_number k ((before ++ CopySpace m less ∷ done) ++ c ∷ []) ≡ space_number k (before ++ CopySpace m less ∷ done))
+book_inside before m n v less less_is e done side c is k off =
+    let cs = before ++ CopySpace m less ∷ done in
     let good = after_good before in
-    let here = after_copy before m n v e done in
+    let here = after_copy before m n v less e done in
     let next : after (cs ++ c ∷ []) ≡ next_world (after_from v done) c = after-append cs (c ∷ []) ∙ ap (λ (x : WorldView). next_world x c) here in
     let table : table_of (after (cs ++ c ∷ [])) k ≡ table_of (after cs) k =
-    ap (λ (x : WorldView). table_of x k) next ∙ less_inside (after before) m n v good.formed good.skeleton e done side c is k off
+    ap (λ (x : WorldView). table_of x k) next ∙ less_inside (after before) m n v less less_is good.formed good.skeleton e done side c is k off
     ∙ sym (ap (λ (x : WorldView). table_of x k) here) in
     (table, number_stays k cs c table)
 
@@ -303,14 +330,14 @@ made_is cs c n e = by (nat_le command_limit (length cs)) (step (after cs) c) ref
 
 pub stays_inside : (cs : List Command) (c : Command) → StaysInCopy cs c (cs ++ c ∷ [])
 stays_inside cs c n h is k off =
-    let made = made_is h.before (CopySpace h.copied true) n h.made in
-    let all = h.before ++ CopySpace h.copied true ∷ h.later in
+    let made = made_is h.before (CopySpace h.copied h.privilege) n h.made in
+    let all = h.before ++ CopySpace h.copied h.privilege ∷ h.later in
     let Same : List Command → Type 0 = λ l. (table_of (after (l ++ c ∷ [])) k ≡ table_of (after l) k) × (space_number k (l ++ c ∷ []) ≡ space_number k l) in
     let Holds : WorldView → Type 0 = λ u. IsNotCrossed (only n) u h.later → is_issued_in (family_after (only n) u h.later) c ≡ true → enlarged (family_after (only n) u h.later) (after all) c k ≡ false → Same all in
-    let here = after_copy h.before h.copied n made.0 made.1 h.later in
+    let here = after_copy h.before h.copied n made.0 h.privilege made.1 h.later in
     let there : Holds made.0 = λ side issued out.
-    book_inside h.before h.copied n made.0 made.1 h.later side c issued k (subst (λ u. enlarged (family_after (only n) made.0 h.later) u c k ≡ false) here out) in
-    let holds : Holds (next_world (after h.before) (CopySpace h.copied true)) = subst Holds (sym (ap (world_or (after h.before)) made.1)) there in
+    book_inside h.before h.copied n made.0 h.privilege h.less made.1 h.later side c issued k (subst (λ u. enlarged (family_after (only n) made.0 h.later) u c k ≡ false) here out) in
+    let holds : Holds (next_world (after h.before) (CopySpace h.copied h.privilege)) = subst Holds (sym (ap (world_or (after h.before)) made.1)) there in
     subst Same (sym h.commands) (holds h.not_crossed is (subst (λ l. enlarged (family_of n cs h) (after l) c k ≡ false) h.commands off))
 
 pub all_inside : (cs : List Command) → AllStayInCopies cs

@@ -26,3 +26,11 @@ pub mod RowLaws
 pub mod ValidLaws
 pub mod MirrorLaws
 pub mod InsideLaws
+pub mod LockLaws
+pub mod ErasedLaws
+pub mod LockRowLaws
+pub mod LockKeepLaws
+pub mod OrderLaws
+pub mod FateLaws
+pub mod CoveredLaws
+pub mod StillLaws

@@ -37,8 +37,8 @@ use Rattle.mt_info.specs.Table.{row_of, table_of}
 use Rattle.mt_book.specs.declared.command.Command.{Command}
 use Rattle.mt_book.specs.declared.command.Command.TheVariants.{NewSpace, CopySpace, DropSpace, OpenTree, NewTree, MoveTree}
 use Rattle.mt_book.specs.declared.command.Reply.{Reply}
-use Rattle.mt_book.specs.Step.{step, makes_space, ends_space}
-use Rattle.mt_book.proofs.EffectLaws.{number_ok, done_ok, effect}
+use Rattle.mt_book.specs.Step.{is_less, act, step, makes_space, ends_space}
+use Rattle.mt_book.proofs.EffectLaws.{number_ok, done_ok, effect, by_act, step_accepted}
 use Rattle.mt_book.proofs.StepLaws.{step_kept}
 use Rattle.mt_book.proofs.HasLaws.{Has, step_has, space_has, has_space}
 
@@ -97,7 +97,7 @@ was_arranged n k w src p on i m e s =
 
 step_from : (n : ℕ) (w : WorldView) (c : Command) (v : WorldView) (r : Reply) → IsWellFormed w → step w c ≡ Ok (v, r) → ComesFrom n w v.forest
 unfolding with_space with_copies without_space copied with_pivot with_change
-step_from n w c v r g e = effect w c v r (λ x. ComesFrom n w x.forest) e (record {
+step_from n w c v r g e = effect w c v r (λ x. ComesFrom n w x.forest) e (λ u l from. from) (record {
   skel = λ t made. from_before n w _ (was_all n w);
   space = λ f. from_more n w w.forest _ (was_all n w) (λ m there none. elim there [
     | inl here ↦ omega (arith, ap (λ (y : Mount). y.space) here)
@@ -146,69 +146,80 @@ copy_has w k less h x = record { id = copy_number w (map id_of (originals w k)) 
 tree_has : (w : WorldView) (f : ℕ) → IsWellFormed w → Has w.next_space (with_tree (with_space w f) w.next_space)
 tree_has w f h = let x = root_has w f h in record { id = x.id; mount = x.mount; there = x.there; space = x.space }
 
-step_makes : (w : WorldView) (c : Command) (v : WorldView) (r : Reply) → IsWellFormed w → step w c ≡ Ok (v, r) → makes_space c ≡ true → Has w.next_space v
-unfolding step
-step_makes w (NewSpace fs) v r g e m = let q = number_ok _ v r e in subst (Has w.next_space) (new_space_accepted w fs v q.0 q.1).world (root_has w _ g)
-step_makes w (CopySpace k less) v r g e m =
+acted_makes : (w : WorldView) (c : Command) (v : WorldView) (r : Reply) → IsWellFormed w → act w c ≡ Ok (v, r) → makes_space c ≡ true → Has w.next_space v
+unfolding act
+acted_makes w (NewSpace fs) v r g e m = let q = number_ok _ v r e in subst (Has w.next_space) (new_space_accepted w fs v q.0 q.1).world (root_has w _ g)
+acted_makes w (CopySpace k privilege) v r g e m =
     let q = number_ok _ v r e in
-    let a = copy_space_accepted w k less v q.0 q.1 in
-    subst (Has w.next_space) a.world (copy_has w k less g (space_has k w g a.there))
-step_makes w (OpenTree n path recursive) v r g e m =
+    let a = copy_space_accepted w k (is_less privilege) v q.0 q.1 in
+    subst (Has w.next_space) a.world (copy_has w k (is_less privilege) g (space_has k w g a.there))
+acted_makes w (OpenTree n path recursive) v r g e m =
     let q = number_ok _ v r e in
     let root = opened_root w n path recursive v q.0 g q.1 in
     record { id = root.0; mount = root.1; there = root.2; space = root.3 }
-step_makes w (NewTree fs) v r g e m = let q = number_ok _ v r e in subst (Has w.next_space) (tree_made_accepted w fs v q.0 q.1).world (tree_has w _ g)
-step_makes w c v r g e m = absurd (cc)
+acted_makes w (NewTree fs) v r g e m = let q = number_ok _ v r e in subst (Has w.next_space) (tree_made_accepted w fs v q.0 q.1).world (tree_has w _ g)
+acted_makes w c v r g e m = absurd (cc)
+
+step_makes : (w : WorldView) (c : Command) (v : WorldView) (r : Reply) → IsWellFormed w → step w c ≡ Ok (v, r) → makes_space c ≡ true → Has w.next_space v
+step_makes w c v r g e m = by_act w c v r (Has w.next_space) e (λ u a. acted_makes w c u r g a m) (λ u l x. record { id = x.id; mount = x.mount; there = x.there; space = x.space })
 
 -- so the namespace that a command makes has the next number, and is there
 pub made_there : (w : WorldView) (c : Command) (v : WorldView) (r : Reply) → IsWellFormed w → IsSkeleton w.skel → step w c ≡ Ok (v, r) → makes_space c ≡ true → is_space v w.next_space ≡ true
 made_there w c v r g s e m = has_space w.next_space v (step_kept w c v r g s e).0 (step_makes w c v r g e m)
 
--- a namespace that is dropped is gone
-dropped_ends : (w : WorldView) (v : WorldView) (r : Reply) (n : ℕ) → IsWellFormed w → IsSkeleton w.skel → step w (DropSpace n) ≡ Ok (v, r) → is_space v n ≡ false
-unfolding step without_space
-dropped_ends w v r n g s e = false_from_ne_true (is_space v n) (λ is.
-    let x = space_has n v (step_kept w (DropSpace n) v r g s e).0 is in
-    let at : mount_at (without_space w n).forest x.id ≡ Some x.mount = ap (λ (y : WorldView). mount_at y.forest x.id) (drop_space_accepted w n v (done_ok _ v r e)).world ∙ x.there in
-    let off = (kept-row id_of (λ (m : Mount). m.space == n) w.forest g.forest.rising x.id x.mount at).1 in
-    let space = x.space in
-    absurd (grind (arith, nat_tests)))
+-- no root mount of a namespace is among these
+abbrev HasNoRoot : ℕ → List Mount → Type 0
+HasNoRoot n ms = (i : ℕ) (m : Mount) → mount_at ms i ≡ Some m → m.place ≡ None → m.space ≡ n → ⊥
+
+-- a namespace that is dropped has none
+dropped_ends : (w : WorldView) (u : WorldView) (r : Reply) (n : ℕ) → IsWellFormed w → act w (DropSpace n) ≡ Ok (u, r) → HasNoRoot n u.forest
+unfolding act without_space
+dropped_ends w u r n g e i m there none space =
+    let at : mount_at (without_space w n).forest i ≡ Some m = ap (λ (y : WorldView). mount_at y.forest i) (drop_space_accepted w n u (done_ok _ u r e)).world ∙ there in
+    let off = (kept-row id_of (λ (x : Mount). x.space == n) w.forest g.forest.rising i m at).1 in
+    absurd (grind (arith, nat_tests))
 
 -- and one that is attached
-attached_ends : (w : WorldView) (v : WorldView) (r : Reply) (tree k : ℕ) (path : List (List ℕ)) → IsWellFormed w → IsSkeleton w.skel → step w (MoveTree tree k path) ≡ Ok (v, r) → is_space v tree ≡ false
-unfolding step copied
-attached_ends w v r tree k path g s e = false_from_ne_true (is_space v tree) (λ is.
-    let kept = (step_kept w (MoveTree tree k path) v r g s e).0 in
-    let a = attached_accepted w tree k path v (done_ok _ v r e) in
+attached_ends : (w : WorldView) (u : WorldView) (r : Reply) (tree k : ℕ) (path : List (List ℕ)) → IsWellFormed w → act w (MoveTree tree k path) ≡ Ok (u, r) → HasNoRoot tree u.forest
+unfolding act copied
+attached_ends w u r tree k path g e i m there none space =
+    let a = attached_accepted w tree k path u (done_ok _ u r e) in
     let p = path_end w k path in
     let src = whole_tree w tree in
-    let root = space_root v.forest kept.forest.rising tree is in
-    let at : mount_at (copied w src p).forest root.0.id ≡ Some root.0 = ap (λ (y : WorldView). mount_at y.forest root.0.id) a.world ∙ root.1 in
-    elim (appended-row id_of (map (arranged w src p) w.forest) (new_mounts w src p) root.0.id root.0 at) [
+    let at : mount_at (copied w src p).forest i ≡ Some m = ap (λ (y : WorldView). mount_at y.forest i) a.world ∙ there in
+    elim (appended-row id_of (map (arranged w src p) w.forest) (new_mounts w src p) i m at) [
       | inl old ↦
-          let y = mapped-row id_of (arranged w src p) (arranged-id w src p) w.forest root.0.id root.0 old in
+          let y = mapped-row id_of (arranged w src p) (arranged-id w src p) w.forest i m old in
           let on = (walked w k g path p a.ended).0 in
           let home : space_of w p.mount ≡ k = space_is w p.mount on.0 on.1 ∙ on.2 in
-          let here = ap (λ (m : Mount). m.space) (sym y.2) ∙ root.3 in
+          let here = ap (λ (x : Mount). x.space) (sym y.2) ∙ space in
           elim (cases_eq y.0.space src.top.space) [
             | inl same ↦ true≢false (sym (eq-eqb k tree (sym home ∙ sym (arranged-here w src p (whole_moves w tree) y.0 same) ∙ here)) ∙ a.apart)
             | inr off ↦ off (sym (arranged-away w src p y.0 off) ∙ here ∙ sym (whole_space w tree a.there))
           ]
-      | inr new ↦ new_placed w src p root.0 (row_in id_of root.0.id (new_mounts w src p) root.0 new) root.2
-    ])
+      | inr new ↦ new_placed w src p m (row_in id_of i (new_mounts w src p) m new) none
+    ]
 
--- so is each one that a command ends
+acted_ends : (w : WorldView) (c : Command) (u : WorldView) (r : Reply) (n : ℕ) → IsWellFormed w → act w c ≡ Ok (u, r) → ends_space n c ≡ true → HasNoRoot n u.forest
+acted_ends w (DropSpace k) u r n g e d = subst (λ j. HasNoRoot j u.forest) (eqb-true k n d) (dropped_ends w u r k g e)
+acted_ends w (MoveTree tree k path) u r n g e d = subst (λ j. HasNoRoot j u.forest) (eqb-true tree n d) (attached_ends w u r tree k path g e)
+acted_ends w c u r n g e d = absurd (cc)
+
+-- so each one that a command ends is gone
 pub step_ends : (w : WorldView) (c : Command) (v : WorldView) (r : Reply) (n : ℕ) → IsWellFormed w → IsSkeleton w.skel → step w c ≡ Ok (v, r) → ends_space n c ≡ true → is_space v n ≡ false
-step_ends w (DropSpace k) v r n g s e d = subst (λ j. is_space v j ≡ false) (eqb-true k n d) (dropped_ends w v r k g s e)
-step_ends w (MoveTree tree k path) v r n g s e d = subst (λ j. is_space v j ≡ false) (eqb-true tree n d) (attached_ends w v r tree k path g s e)
-step_ends w c v r n g s e d = absurd (cc)
+step_ends w c v r n g s e d = false_from_ne_true (is_space v n) (λ is.
+    let root = space_root v.forest (step_kept w c v r g s e).0.forest.rising n is in
+    by_act w c v r (λ x. HasNoRoot n x.forest) e (λ u a. acted_ends w c u r n g a d) (λ u l none. none) root.0.id root.0 root.1 root.2 root.3)
 
 -- which was there
+acted_there : (w : WorldView) (c : Command) (u : WorldView) (r : Reply) (n : ℕ) → act w c ≡ Ok (u, r) → ends_space n c ≡ true → is_space w n ≡ true
+unfolding act
+acted_there w (DropSpace k) u r n e d = subst (λ j. is_space w j ≡ true) (eqb-true k n d) (drop_space_accepted w k u (done_ok _ u r e)).there
+acted_there w (MoveTree tree k path) u r n e d = subst (λ j. is_space w j ≡ true) (eqb-true tree n d) (attached_accepted w tree k path u (done_ok _ u r e)).there
+acted_there w c u r n e d = absurd (cc)
+
 pub ended_there : (w : WorldView) (c : Command) (v : WorldView) (r : Reply) (n : ℕ) → step w c ≡ Ok (v, r) → ends_space n c ≡ true → is_space w n ≡ true
-unfolding step
-ended_there w (DropSpace k) v r n e d = subst (λ j. is_space w j ≡ true) (eqb-true k n d) (drop_space_accepted w k v (done_ok _ v r e)).there
-ended_there w (MoveTree tree k path) v r n e d = subst (λ j. is_space w j ≡ true) (eqb-true tree n d) (attached_accepted w tree k path v (done_ok _ v r e)).there
-ended_there w c v r n e d = absurd (cc)
+ended_there w c v r n e d = let a = step_accepted w c v r e in acted_there w c a.done r n a.acted d
 
 -- one that was there and is gone does not come again
 pub step_gone : (w : WorldView) (c : Command) (v : WorldView) (r : Reply) (n : ℕ) → IsWellFormed w → IsSkeleton w.skel → step w c ≡ Ok (v, r) → n < w.next_space → is_space w n ≡ false → is_space v n ≡ false

@@ -1,5 +1,5 @@
 -- The texts of the directories and filesystems of a world are those of the commands that made them.
-use Rattle.std.proofs.Common.{◌≡◌, ℕ, ◌+◌, ◌≤◌, false, List, [], ◌∷◌, ◌++◌, length, nat_le, Ok, IsTrue, refl, sym, subst, arith, length-append}
+use Rattle.std.proofs.Common.{◌≡◌, ℕ, ◌+◌, ◌≤◌, Bool, true, false, List, [], ◌∷◌, ◌++◌, length, nat_le, Ok, IsTrue, refl, sym, subst, arith, length-append}
 use Rattle.std.specs.List.{list_all, AllByRecursion}
 use Rattle.std.proofs.lemmas.Bool.Decides.{nat_tests}
 use Rattle.mt_skel.specs.Names.{is_label, is_name}
@@ -9,10 +9,10 @@ use Rattle.mt_propagate.specs.World.{WorldView, empty_world}
 use Rattle.mt_book.specs.declared.command.Command.{Command}
 use Rattle.mt_book.specs.declared.command.Command.TheVariants.{MakeFs, MakeDir}
 use Rattle.mt_book.specs.declared.command.Reply.{Reply}
-use Rattle.mt_book.specs.Step.{step, next_world, after_from, after}
+use Rattle.mt_book.specs.Step.{act, step, makes_directories, next_world, after_from, after}
 use Rattle.mt_book.specs.Commands.{IsCommand}
 use Rattle.mt_book.proofs.SkelLaws.{fs_accepted, named_dir, dir_accepted}
-use Rattle.mt_book.proofs.EffectLaws.{skel_ok, skel_kept, next_by}
+use Rattle.mt_book.proofs.EffectLaws.{skel_ok, skel_kept, by_act, next_by}
 
 -- a filesystem has labels, and a directory names
 abbrev pub HasLabels : Filesystem → Type 0
@@ -52,16 +52,24 @@ dir_texts s t name path h l e =
       names = each_append HasNames s.directories (named_dir s name path ∷ []) h.names (l, tt);
     })
 
--- an accepted command
-step_texts : (w : WorldView) (c : Command) (v : WorldView) (r : Reply) → HasTexts w.skel → IsCommand c → step w c ≡ Ok (v, r) → HasTexts v.skel
-unfolding step
-step_texts w (MakeFs name kind source) v r h l e =
+-- an accepted command that makes directories
+acted_texts : (w : WorldView) (c : Command) (v : WorldView) (r : Reply) → HasTexts w.skel → IsCommand c → makes_directories c ≡ true → act w c ≡ Ok (v, r) → HasTexts v.skel
+unfolding act
+acted_texts w (MakeFs name kind source) v r h l d e =
     let q = skel_ok w _ _ v r e in
     subst (λ (x : WorldView). HasTexts x.skel) (sym q.2) (fs_texts w.skel q.0 _ h l q.1)
-step_texts w (MakeDir fs path) v r h l e =
+acted_texts w (MakeDir fs path) v r h l d e =
     let q = skel_ok w _ _ v r e in
     subst (λ (x : WorldView). HasTexts x.skel) (sym q.2) (dir_texts w.skel q.0 fs path h l q.1)
-step_texts w c v r h l e = subst HasTexts (sym (skel_kept w c v r refl e)) h
+acted_texts w c v r h l d e = absurd (cc)
+
+-- and any other one
+step_texts : (w : WorldView) (c : Command) (v : WorldView) (r : Reply) → HasTexts w.skel → IsCommand c → step w c ≡ Ok (v, r) → HasTexts v.skel
+step_texts w c v r h l e = by (makes_directories c) refl
+  where
+    by : (d : Bool) → makes_directories c ≡ d → HasTexts v.skel
+    by true d = by_act w c v r (λ x. HasTexts x.skel) e (λ u a. acted_texts w c u r h l d a) (λ u l t. t)
+    by false d = subst HasTexts (sym (skel_kept w c v r d e)) h
 
 -- any command, also a refused one
 pub next_texts : (w : WorldView) (c : Command) → HasTexts w.skel → IsCommand c → HasTexts (next_world w c).skel

@@ -1,6 +1,6 @@
 -- The journal of a book, and what is answered from it.
 -- A word with no source is this project's rule.
-use Rattle.std.specs.Prelude.{◌≡◌, ◌≢◌, ℕ, ◌+◌, ◌-◌, ◌<◌, ◌≤◌, nat_le, if◌then◌else◌, cond, Bool, true, List, [], ◌∷◌, ◌++◌, map, length, slice_index_or, Option, Result, Ok, Err}
+use Rattle.std.specs.Prelude.{◌≡◌, ◌≢◌, ℕ, ◌+◌, ◌-◌, ◌==◌, ◌<◌, ◌≤◌, nat_le, if◌then◌else◌, cond, Bool, true, List, [], ◌∷◌, ◌++◌, map, length, slice_index_or, Option, Result, Ok, Err}
 use Rattle.std.specs.List.{range_with_len, filter}
 use Rattle.std.specs.Option.{option_to_list}
 use Rattle.std.specs.Result.{is_ok}
@@ -11,7 +11,8 @@ use Rattle.mt_skel.specs.declared.fault.Fault.TheVariants.{JournalFull, NoMemory
 use Rattle.mt_skel.specs.Skeleton.{Skeleton, directory}
 use Rattle.mt_mounts.specs.declared.mount.Place.{Place}
 use Rattle.mt_mounts.specs.Walk.{walk}
-use Rattle.mt_propagate.specs.World.{WorldView, is_space}
+use Rattle.mt_locks.specs.declared.mount_locks.MountLocks.{MountLocks}
+use Rattle.mt_propagate.specs.World.{WorldView, is_space, space_of}
 use Rattle.mt_info.specs.Table.{table_of}
 use Rattle.mt_events.specs.Posts.{PostView}
 use Rattle.mt_events.specs.Difference.{difference, is_empty, post_of}
@@ -89,6 +90,10 @@ found_by s (Err f) = Err f
 -- where a path ends in the namespace n, or why it does not (path_resolution(7), in this project's profile)
 abbrev pub found_at : WorldView → ℕ → List (List ℕ) → Result (ℕ × List (List ℕ)) Fault
 found_at w n path = found_by w.skel (walk w.skel w.forest n path)
+
+-- what is locked of the mounts of the namespace n, of each of which something is (mount_namespaces(7), restrictions on mount namespaces)
+abbrev pub locks_in : WorldView → ℕ → List MountLocks
+locks_in w n = filter (λ k. space_of w k.mount == n) w.locks.mounts
 
 -- the namespaces that are there, by rising number
 abbrev pub spaces_of : WorldView → List ℕ

@@ -11,13 +11,14 @@ use Rattle.mt_book.specs.declared.command.Command.{Command}
 use Rattle.mt_book.specs.declared.command.Command.TheVariants.{CopySpace, DropSpace, Mount, MountWith, Bind, Move, Pivot, Unmount, Detach, SetAttr, OpenTree, MoveTree}
 use Rattle.mt_book.specs.declared.command.Reply.{Reply}
 use Rattle.mt_book.specs.declared.command.Reply.TheVariants.{Number}
-use Rattle.mt_book.specs.Step.{step, next_world, after}
+use Rattle.mt_book.specs.declared.command.Privilege.{Privilege}
+use Rattle.mt_book.specs.Step.{is_less, step, next_world, after}
 use Rattle.mt_book.specs.History.{space_number}
 use Rattle.mt_book.specs.Book.{answer}
 
 -- the command names namespaces of the family, and no other
 abbrev pub is_issued_in : (ℕ → Bool) → Command → Bool
-is_issued_in family (CopySpace k less) = family k
+is_issued_in family (CopySpace k privilege) = family k
 is_issued_in family (DropSpace k) = family k
 is_issued_in family (Mount k fs path) = family k
 is_issued_in family (MountWith k fs path set) = family k
@@ -33,7 +34,7 @@ is_issued_in family c = false
 
 -- the command copies a namespace of the family, or opens a tree in one
 abbrev pub is_taken_from : (ℕ → Bool) → Command → Bool
-is_taken_from family (CopySpace k less) = family k
+is_taken_from family (CopySpace k privilege) = family k
 is_taken_from family (OpenTree k path recursive) = family k
 is_taken_from family c = false
 
@@ -68,14 +69,16 @@ IsNotCrossed family w (c ∷ later) =
 pub record IsLessCopy (n : ℕ) (cs : List Command) : Type 0 where
   pub before : List Command
   pub copied : ℕ
+  pub privilege : Privilege
   pub later : List Command
-  pub commands : cs ≡ before ++ CopySpace copied true ∷ later
-  pub made : answer before (CopySpace copied true) ≡ Ok (Number n)
-  pub not_crossed : IsNotCrossed (only n) (next_world (after before) (CopySpace copied true)) later
+  pub less : is_less privilege ≡ true
+  pub commands : cs ≡ before ++ CopySpace copied privilege ∷ later
+  pub made : answer before (CopySpace copied privilege) ≡ Ok (Number n)
+  pub not_crossed : IsNotCrossed (only n) (next_world (after before) (CopySpace copied privilege)) later
 
 -- the family of such a copy
 abbrev pub family_of : (n : ℕ) (cs : List Command) → IsLessCopy n cs → ℕ → Bool
-family_of n cs h = family_after (only n) (next_world (after h.before) (CopySpace h.copied true)) h.later
+family_of n cs h = family_after (only n) (next_world (after h.before) (CopySpace h.copied h.privilege)) h.later
 
 -- a command came after others, and these are there now: if it was issued in the family of a less privileged copy, it has left the table and
 -- the number of every namespace outside as they were (mount_namespaces(7), restrictions on mount namespaces)

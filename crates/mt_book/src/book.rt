@@ -12,7 +12,8 @@ ghost use Rattle.mt_book.specs.Step.{after};
 ghost use Rattle.mt_book.specs.Commands.{IsCommand};
 ghost use Rattle.mt_book.specs.History.{space_number, posts_of};
 ghost use Rattle.mt_book.specs.Inside.{StaysInCopy, AllStayInCopies};
-ghost use Rattle.mt_book.specs.Book.{answer, accepts, command_limit, found_at, space_in, number_in, spaces_of, AreAnswered};
+ghost use Rattle.mt_book.specs.Covered.{StaysCovered};
+ghost use Rattle.mt_book.specs.Book.{answer, accepts, command_limit, found_at, locks_in, space_in, number_in, spaces_of, AreAnswered};
 ghost use Rattle.mt_book.specs.Kept.{IsPrepared, prepared_command, prepared_reply, prepared_posts, is_heard};
 
 use crate::between::Between;
@@ -24,9 +25,10 @@ use crate::spare::{Spare, Tried, keep_level, level, show, try_on};
 use mt_events::shared::SharedPosts;
 use mt_info::lines::push_table;
 use mt_info::table::{Table, table_of};
+use mt_locks::mount_locks::MountLocks;
 use mt_mounts::mount::{MountId, SpaceId};
 use mt_propagate::touched::touched;
-use mt_propagate::world::World;
+use mt_propagate::world::{World, space_of};
 use mt_skel::fault::Fault;
 use mt_skel::name::Name;
 use std::alloc::Global;
@@ -165,7 +167,8 @@ impl Book {
 
     /// Shows what was prepared, and answers the command's reply and its posts, by rising namespace. It cannot be
     /// refused, and takes no memory: what is shown was prepared for the commands that the book has now, and there is
-    /// room for one more. What was issued in the family of a less privileged copy stays in it, as `apply` has it (`inside`).
+    /// room for one more. What was issued in the family of a less privileged copy stays in it, and what is covered stays
+    /// covered, as `apply` has both (`inside`, `covered`).
     pub fn commit(&mut self, prepared: Prepared) -> (Reply, SharedPosts)
         requires prepared { IsPrepared self.old.journal prepared }
         requires room { 0 < self.old.room }
@@ -173,6 +176,7 @@ impl Book {
         ensures reply { result.0 ≡ prepared_reply prepared }
         ensures posts { result.1 ≡ prepared_posts prepared }
         ensures inside { StaysInCopy self.old.journal (prepared_command prepared) self.new.journal }
+        ensures covered { StaysCovered self.old.journal (prepared_command prepared) self.new.journal }
     {
         let Prepared {
             world,
@@ -198,6 +202,10 @@ impl Book {
     /// attached a tree with a group or a master over the family's border, it leaves the table and the number of every
     /// namespace outside as they were (`inside`). The family is that namespace, what is copied from one of the family,
     /// and the trees that are opened in one.
+    ///
+    /// A mount that is locked on its place stays there and stays locked, or goes with the mount on which it stands, or
+    /// slides to where that stood; unless an unmount elsewhere reaches it, or a copy comes between it and its place
+    /// (`covered`).
     pub fn apply(&mut self, command: &Command) -> Result<(Reply, SharedPosts), Fault>
         ensures done { IfOk result (λ done. answer self.old.journal command.now ≡ Ok done.0) }
         ensures posts { IfOk result (λ done. done.1 ≡ posts_of self.old.journal command.now) }
@@ -206,6 +214,7 @@ impl Book {
         ensures refused { IfErr result (λ fault. fault ≢ Fault.NoMemory → answer self.old.journal command.now ≡ Err fault) }
         ensures unchanged { OnErr result (self.new.journal ≡ self.old.journal) }
         ensures inside { StaysInCopy self.old.journal command.now self.new.journal }
+        ensures covered { StaysCovered self.old.journal command.now self.new.journal }
     {
         let prepared = self.prepare(command, true)?;
         Ok(self.commit(prepared))
@@ -257,6 +266,19 @@ impl Book {
     {
         let spaces = spaces_in(self.alloc, &self.numbers)?;
         Ok(spaces)
+    }
+
+    /// What is locked of the mounts of a namespace, of each of which something is. Refused as `NoNamespace` exactly where there
+    /// is no such namespace, and otherwise only as `NoMemory`.
+    pub fn locks(&self, space: SpaceId) -> Result<Vec<MountLocks>, Fault>
+        ensures done { IfOk result (λ locks. (is_space (after self.now.journal) space ≡ true) × (locks.items ≡ locks_in (after self.now.journal) space)) }
+        ensures refused { IfErr result (λ fault. fault ≢ Fault.NoMemory → (fault ≡ Fault.NoNamespace) × (is_space (after self.now.journal) space ≡ false)) }
+    {
+        let world = self.world();
+        if world.forest.root(space).is_none() {
+            return Err(Fault::NoNamespace);
+        }
+        locks_in(world, space)
     }
 
     /// Where the walk along a path ends in a namespace: the mount, and the names from its
@@ -315,6 +337,21 @@ fn spaces_in(alloc: Global, numbers: &[(SpaceId, u64)]) -> Result<Vec<SpaceId>, 
         spaces.push(row.0)?;
     }
     Ok(spaces)
+}
+
+/// What is locked of the mounts of a namespace in a world, as `Book::locks` says.
+fn locks_in(world: &World, space: SpaceId) -> Result<Vec<MountLocks>, Fault>
+    ensures locks { IfOk result (λ locks. locks.items ≡ locks_in (world_view world.now) space) }
+    ensures memory { IsOkUnless result Fault.NoMemory }
+{
+    let rows = world.locks.mounts();
+    let mut locks = Vec::new(world.forest.allocator());
+    'locking: for row in rows {
+        if space_of(world, row.mount) == space {
+            locks.push(*row)?;
+        }
+    }
+    Ok(locks)
 }
 
 /// Where the walk along a path ends in a world, as `Book::find` says.

@@ -23,12 +23,12 @@ use Rattle.mt_client.specs.Awaited.{AreRowLines, IsPostBehind}
 use Rattle.mt_client.specs.Replies.{IsPartLines, IsPostLines, IsCommandLines, IsBlock, IsBlockOf, AreBlocks, AreBlockLines, AreBehind, IsHeaded, most_posts, IsEnding, IsFollowAnswer, IsAnswer}
 use Rattle.mt_client.proofs.FollowLaws.{post_counted, printed_post, HasReadMore}
 use Rattle.mt_client.proofs.OpeningLaws.{first_taken, needs_line, heading_tells, few}
-use Rattle.mt_client.proofs.RowLaws.{no_rows}
+use Rattle.mt_client.proofs.RisingLaws.{no_rows}
 use Rattle.mt_client.proofs.SeriesLaws.{Series, IsSeries, Came, came_cut, in_lines, are_in_lines, groups}
 use Rattle.mt_client.proofs.RelayLaws.{come_prepended, none_from, first_alike, sent_whole, lines_alike}
 use Rattle.std.specs.Str.{bytes_eq}
 use Rattle.std.proofs.lemmas.Slice.Eq.{bytes_eq-Decides}
-use Rattle.mt_protocol.specs.declared.form.Form.TheVariants.{Done, Number, Place, Table, Opening, Posts, Commands, Followed, Never}
+use Rattle.mt_protocol.specs.declared.form.Form.TheVariants.{Done, Number, Place, Table, Locks, Opening, Posts, Commands, Followed, Never}
 use Rattle.mt_protocol.specs.Verbs.{first_of, has_command_verb}
 use Rattle.mt_lines.specs.declared.stream.Cut.{Cut}
 use Rattle.mt_lines.specs.declared.stream.Output.{Ghosts as OutputGhosts}
@@ -282,6 +282,7 @@ answer_ending taken told seen before middle rest came there tells not =
 -- no line stands behind the first one of these answers
 behind_none : (form : Form) → ((form ≡ Done) ⊎ ((form ≡ Number) ⊎ ((form ≡ Place) ⊎ ((form ≡ Followed) ⊎ (form ≡ Never))))) → (count : ℕ) (lines : List (List ℕ)) → AreBehind form count lines → count ≡ 0
 behind_none Table is count lines k = grind (arith, is)
+behind_none Locks is count lines k = grind (arith, is)
 behind_none Opening is count lines k = grind (arith, is)
 behind_none Posts is count lines k = grind (arith, is)
 behind_none Commands is count lines k = grind (arith, is)
@@ -290,8 +291,16 @@ behind_none form is count lines k = k.1
 pub behind_needs_none : (form : Form) → ((form ≡ Done) ⊎ ((form ≡ Number) ⊎ ((form ≡ Place) ⊎ ((form ≡ Followed) ⊎ (form ≡ Never))))) → (count : ℕ) (before : Option (List Item)) → count ≢ 0 → NoneFirst (AreBehind form count) before
 behind_needs_none form is count before other lines later k e = other (behind_none form is count lines k)
 
+pub behind_as_none : (form : Form) → ((form ≡ Done) ⊎ ((form ≡ Number) ⊎ ((form ≡ Place) ⊎ ((form ≡ Followed) ⊎ (form ≡ Never))))) → (count : ℕ) → count ≡ 0 → AreBehind form count []
+behind_as_none Table is count e = let no : ◌≡◌ {A = ℕ} 0 1 = grind (arith, is) in absurd (omega (arith, no))
+behind_as_none Locks is count e = let no : ◌≡◌ {A = ℕ} 0 1 = grind (arith, is) in absurd (omega (arith, no))
+behind_as_none Opening is count e = let no : ◌≡◌ {A = ℕ} 0 1 = grind (arith, is) in absurd (omega (arith, no))
+behind_as_none Posts is count e = let no : ◌≡◌ {A = ℕ} 0 1 = grind (arith, is) in absurd (omega (arith, no))
+behind_as_none Commands is count e = let no : ◌≡◌ {A = ℕ} 0 1 = grind (arith, is) in absurd (omega (arith, no))
+behind_as_none form is count e = (refl, e)
+
 -- every answer but that of posts that are followed is known by its first line
-pub heads : (form : Form) → ((form ≡ Done) ⊎ ((form ≡ Number) ⊎ ((form ≡ Place) ⊎ ((form ≡ Table) ⊎ ((form ≡ Opening) ⊎ ((form ≡ Posts) ⊎ ((form ≡ Commands) ⊎ (form ≡ Never)))))))) → ◌≡◌ {A = List (List ℕ) → Bool → Type 0} (IsHeaded form) (IsAnswer form)
+pub heads : (form : Form) → ((form ≡ Done) ⊎ ((form ≡ Number) ⊎ ((form ≡ Place) ⊎ ((form ≡ Table) ⊎ ((form ≡ Locks) ⊎ ((form ≡ Opening) ⊎ ((form ≡ Posts) ⊎ ((form ≡ Commands) ⊎ (form ≡ Never))))))))) → ◌≡◌ {A = List (List ℕ) → Bool → Type 0} (IsHeaded form) (IsAnswer form)
 heads form is = grind (arith, is)
 
 -- a line that refuses tells `no`
@@ -312,7 +321,8 @@ pub refusal_answers : (form : Form) (line : List ℕ) → is_refusal line ≡ tr
 refusal_answers Done line e = headed_refusal Done line (refl, refl) e
 refusal_answers Number line e = headed_refusal Number line (refl, refl) e
 refusal_answers Place line e = headed_refusal Place line (refl, refl) e
-refusal_answers Table line e = headed_refusal Table line no_rows.0 e
+refusal_answers Table line e = headed_refusal Table line no_rows e
+refusal_answers Locks line e = headed_refusal Locks line no_rows e
 refusal_answers Opening line e = headed_refusal Opening line (record { blocks = []; each = tt; all = refl }, refl) e
 refusal_answers Posts line e = headed_refusal Posts line (record { blocks = []; each = tt; all = refl }, refl) e
 refusal_answers Commands line e = headed_refusal Commands line (record { blocks = []; each = tt; all = refl }, refl) e

@@ -1,7 +1,8 @@
 pub mod RelayLaws
 pub mod CallLaws
 pub mod OpeningLaws
-pub mod RowLaws
+pub mod RisingLaws
+pub mod LockedLaws
 pub mod SeriesLaws
 pub mod FollowLaws
 pub mod EndingLaws

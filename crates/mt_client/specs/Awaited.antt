@@ -1,17 +1,15 @@
 -- Which lines a mirror waits for: an opening of one namespace, posts that follow it, and their end; or a refusal in the place of a line.
 -- A word with no source is this project's rule.
-use Rattle.std.specs.Prelude.{◌≡◌, ℕ, ◌≤◌, Bool, true, List, [], ◌∷◌, ◌++◌, map, length, Option, Some, IsTrue, ◌⊎◌}
+use Rattle.std.specs.Prelude.{◌≡◌, ℕ, ◌≤◌, Bool, true, List, [], ◌∷◌, ◌++◌, length, Option, Some, ◌⊎◌}
 use Rattle.std.specs.List.{flat_map, AllByRecursion}
-use Rattle.mt_skel.specs.Keyed.{rises}
-use Rattle.mt_skel.specs.Rising.{is_above}
 use Rattle.mt_lines.specs.Lines.{Item}
 use Rattle.mt_info.specs.Laws.{IsRow}
 use Rattle.mt_info.specs.RowLine.{line}
 use Rattle.mt_info.specs.Table.{row_id}
-use Rattle.mt_info.specs.declared.row.Row.{Row}
 use Rattle.mt_events.specs.Posts.{PostView, post_lines}
 use Rattle.mt_events.specs.Mirrors.{MirrorView}
 use Rattle.mt_client.specs.Reading.{texts}
+use Rattle.mt_client.specs.RisingLines.{IsLineAbove, AreRisingLines}
 use Rattle.mt_client.specs.Mirroring.{IsSentPost, may_all_come, IsRefusal, IsShown, counted_line, opening_lines}
 
 -- one line, which refuses
@@ -24,15 +22,11 @@ IsRefusedOr kind lines = IsOneRefusal lines ⊎ kind lines
 
 -- the line of a row with an ID above the last one, if there was one
 abbrev pub IsRowAbove : Option ℕ → List (List ℕ) → Type 0
-IsRowAbove last lines = (row : Row) × IsRow row × (is_above last row.id ≡ true) × (lines ≡ line row ∷ [])
+IsRowAbove last lines = IsLineAbove row_id line IsRow last lines
 
 -- the lines of so many rows, by rising ID
-pub record AreRowLines (count : ℕ) (lines : List (List ℕ)) : Type 0 where
-  pub rows : List Row
-  pub valid : AllByRecursion IsRow rows
-  pub rising : IsTrue (rises row_id rows)
-  pub many : length rows ≡ count
-  pub all : lines ≡ map line rows
+abbrev pub AreRowLines : ℕ → List (List ℕ) → Type 0
+AreRowLines count lines = AreRisingLines row_id line IsRow count lines
 
 -- the lines of an opening of this namespace
 pub record IsOpening (space : ℕ) (lines : List (List ℕ)) : Type 0 where

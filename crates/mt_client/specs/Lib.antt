@@ -3,7 +3,9 @@ pub mod Requests
 pub mod Reading
 pub mod Calls
 pub mod Mirroring
+pub mod RisingLines
 pub mod Awaited
+pub mod Locked
 pub mod Finding
 pub mod Telling
 pub mod Due

@@ -2,26 +2,27 @@
 -- A word with no source is this project's rule.
 use Rattle.std.specs.Prelude.{◌≡◌, ℕ, ◌+◌, ◌<◌, ◌≤◌, ◌^◌, Bool, true, false, List, [], ◌∷◌, ◌++◌, length, Option, Some}
 use Rattle.std.specs.List.{flat_map, join_with_byte, AllByRecursion}
-use Rattle.mt_skel.specs.Rising.{is_above}
 use Rattle.mt_lines.specs.Words.{words}
 use Rattle.mt_info.specs.Laws.{IsRow}
 use Rattle.mt_info.specs.RowLine.{line}
-use Rattle.mt_info.specs.declared.row.Row.{Row}
+use Rattle.mt_info.specs.Table.{row_id}
 use Rattle.mt_events.specs.Posts.{PostView, post_text}
 use Rattle.mt_protocol.specs.Verbs.{has_command_verb}
 use Rattle.mt_protocol.specs.declared.form.Form.{Form}
-use Rattle.mt_protocol.specs.declared.form.Form.TheVariants.{Table, Opening, Posts, Commands, Followed}
+use Rattle.mt_protocol.specs.declared.form.Form.TheVariants.{Table, Locks, Opening, Posts, Commands, Followed}
 use Rattle.mt_client.specs.declared.block.Block.{Block}
 use Rattle.mt_client.specs.declared.block.Block.TheVariants.{Namespace, Post, Command}
 use Rattle.mt_client.specs.Limits.{most_rows}
 use Rattle.mt_client.specs.Requests.{verdict, is_refusal, lines_behind, event_count}
 use Rattle.mt_client.specs.Reading.{printed}
 use Rattle.mt_client.specs.Mirroring.{IsSentPost, counted_line, heading_words}
+use Rattle.mt_client.specs.RisingLines.{IsLineOf}
 use Rattle.mt_client.specs.Awaited.{AreRowLines}
+use Rattle.mt_client.specs.Locked.{AreLockLines}
 
 -- the line of the row of this ID, which is above the last one, if there was one
 abbrev pub IsRowOf : Option ℕ → ℕ → List (List ℕ) → Type 0
-IsRowOf last id lines = (row : Row) × IsRow row × (is_above last row.id ≡ true) × (row.id ≡ id) × (lines ≡ line row ∷ [])
+IsRowOf last id lines = IsLineOf row_id line IsRow last id lines
 
 -- the lines of a namespace: its number, that of its last post and how many rows it has, no more than there may be, and then so many rows
 pub record IsPartLines (lines : List (List ℕ)) : Type 0 where
@@ -69,6 +70,7 @@ AreBlockLines block count lines = AreBlocks (IsBlock block) lines × (length lin
 -- so many lines behind the first line of an answer
 abbrev pub AreBehind : Form → ℕ → List (List ℕ) → Type 0
 AreBehind Table count lines = AreRowLines count lines
+AreBehind Locks count lines = AreLockLines count lines
 AreBehind Opening count lines = AreBlockLines Namespace count lines
 AreBehind Posts count lines = AreBlockLines Post count lines
 AreBehind Commands count lines = AreBlockLines Command count lines

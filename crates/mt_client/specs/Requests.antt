@@ -10,7 +10,7 @@ use Rattle.mt_client.specs.Limits.{most_rows, most_opening_lines, most_post_line
 use Rattle.mt_protocol.specs.Refusals.{refusal_named}
 use Rattle.mt_protocol.specs.Verbs.{first_of}
 use Rattle.mt_protocol.specs.declared.form.Form.{Form}
-use Rattle.mt_protocol.specs.declared.form.Form.TheVariants.{Done, Number, Place, Table, Opening, Posts, Commands, Followed, Never}
+use Rattle.mt_protocol.specs.declared.form.Form.TheVariants.{Done, Number, Place, Table, Locks, Opening, Posts, Commands, Followed, Never}
 
 -- the line of a request: its words with their escapes, between single spaces
 abbrev pub request_text : List (List ℕ) → List ℕ
@@ -67,6 +67,7 @@ lines_said Done words = none_left words
 lines_said Number words = none_behind (lone_number words)
 lines_said Place words = none_behind (placed_number words)
 lines_said Table words = table_count words
+lines_said Locks words = at_most most_rows (lone_number words)
 lines_said Opening words = at_most most_opening_lines (lone_number words)
 lines_said Posts words = at_most most_waiting_lines (lone_number words)
 lines_said Commands words = at_most most_listed (lone_number words)

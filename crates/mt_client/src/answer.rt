@@ -96,6 +96,7 @@ fn lines_said(form: Form, words: &mut Words<'_>) -> Option<u64>
             Some(0)
         }
         Form::Table => table_count(words),
+        Form::Locks => at_most(MOST_ROWS, lone_number(words)),
         Form::Opening => at_most(MOST_LINES, lone_number(words)),
         Form::Posts => at_most(MOST_WAITING_LINES, lone_number(words)),
         Form::Commands => at_most(MOST_LISTED, lone_number(words)),

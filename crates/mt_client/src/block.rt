@@ -3,16 +3,19 @@ ghost use Rattle.std.specs.Prelude.{◌≡◌, ◌≢◌, [], ◌∷◌, None, E
 ghost use Rattle.mt_lines.specs.Reading.{fault_of, last_line};
 ghost use Rattle.mt_client.specs.Calls.{IsPassFault, PassesOn};
 ghost use Rattle.mt_client.specs.Awaited.{IsRowAbove, AreRowLines};
+ghost use Rattle.mt_client.specs.Locked.{IsLockOf, IsLockAbove, AreLockLines};
 ghost use Rattle.mt_client.specs.Replies.{IsRowOf, IsPartLines, IsPostLines, IsCommandLines, IsBlock, IsBlockOf, AreBlockLines, AreBehind};
 
 use crate::fault::ClientFault;
 use crate::opening::{MOST_ROWS, is_beyond, read_heading, row_above};
 use crate::posts::{lines_of_event, push_line, push_lines, read_text};
 use crate::relay::{next_text, print, print_line};
+use mt_info::lock_line::read_lock_line;
 use mt_lines::line::LineReader;
 use mt_lines::stream::{Input, Output};
 use mt_mounts::mount::MountId;
 use mt_protocol::form::{Form, has_command_verb};
+use mt_skel::list::is_above;
 use std::alloc::Global;
 
 /// What the lines behind the first line of an answer are.
@@ -68,6 +71,56 @@ fn pass_rows<R: Input + Drop, O: Output>(
     let mut last = None;
     'rows: for _row in 0..count {
         last = Some(pass_row(alloc, lines, last, out)?);
+    }
+    Ok(())
+}
+
+/// Reads a line that tells what is locked of a mount with an ID above the last one, and prints it: that ID.
+fn pass_lock<R: Input + Drop, O: Output>(
+    lines: &mut LineReader<R>,
+    last: Option<MountId>,
+    out: &mut O,
+) -> Result<MountId, ClientFault>
+    requires fresh { fault_of lines.old ≡ None }
+    ensures passed { IfOk result (λ id. PassesOn O.Output [] (IsLockOf last id) lines.old lines.new out.old out.new) }
+    ensures fault { IfErr result (λ fault. IsPassFault O.Output fault (IsLockAbove last) [] lines.old lines.new out.old out.new) }
+{
+    next_text(lines)?;
+    let id = lock_above(lines.line(), last)?;
+    print_line(out, lines.line())?;
+    Ok(id)
+}
+
+/// The ID of the mount of which a text tells what is locked, where it is above the last one: refused as `Connection` where
+/// the text tells no such thing.
+fn lock_above(text: &[u8], last: Option<MountId>) -> Result<MountId, ClientFault>
+    ensures lock { IfOk result (λ id. IsLockOf last id (text.now ∷ [])) }
+    ensures refused { result ≡ Err ClientFault.Connection → IsLockAbove last (text.now ∷ []) → ⊥ }
+    ensures kind { result ≢ Err ClientFault.Output }
+{
+    let Ok(locks) = read_lock_line(text) else {
+        return Err(ClientFault::Connection);
+    };
+    if is_above(last, locks.mount) {
+        Ok(locks.mount)
+    } else {
+        Err(ClientFault::Connection)
+    }
+}
+
+/// Reads so many lines that tell what is locked of mounts, by rising ID, and prints each.
+fn pass_locks<R: Input + Drop, O: Output>(
+    lines: &mut LineReader<R>,
+    count: u64,
+    out: &mut O,
+) -> Result<(), ClientFault>
+    requires fresh { fault_of lines.old ≡ None }
+    ensures passed { OnOk result (PassesOn O.Output [] (AreLockLines count) lines.old lines.new out.old out.new) }
+    ensures fault { IfErr result (λ fault. IsPassFault O.Output fault (AreLockLines count) [] lines.old lines.new out.old out.new) }
+{
+    let mut last = None;
+    'locking: for _row in 0..count {
+        last = Some(pass_lock(lines, last, out)?);
     }
     Ok(())
 }
@@ -187,6 +240,7 @@ pub(crate) fn pass_behind<R: Input + Drop, O: Output>(
 {
     match form {
         Form::Table => pass_rows(alloc, lines, count, out),
+        Form::Locks => pass_locks(lines, count, out),
         Form::Opening => pass_blocks(alloc, lines, Block::Namespace, count, out),
         Form::Posts => pass_blocks(alloc, lines, Block::Post, count, out),
         Form::Commands => pass_blocks(alloc, lines, Block::Command, count, out),

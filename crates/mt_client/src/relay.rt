@@ -164,6 +164,7 @@ pub(crate) fn pass_answer<R: Input + Drop, O: Output>(
         | Form::Number
         | Form::Place
         | Form::Table
+        | Form::Locks
         | Form::Opening
         | Form::Posts
         | Form::Commands

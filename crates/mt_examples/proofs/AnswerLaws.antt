@@ -1,15 +1,19 @@
 -- What a session answers is read by a client: each form of an answer.
-use Rattle.std.proofs.Common.{◌≡◌, ℕ, suc, ◌+◌, ◌<◌, ◌≤◌, ◌^◌, true, false, List, [], ◌∷◌, ◌++◌, map, length, nat_eq, fold, if◌then◌else◌, refl, sym, ap, ◌∙◌, arith, append_assoc, append-nil, length-append, codes, decimal, Some, None, ◌&&◌, ◌⊎◌, inl, inr}
+use Rattle.std.proofs.Common.{◌≡◌, ℕ, suc, ◌+◌, ◌<◌, ◌≤◌, ◌^◌, true, false, List, [], ◌∷◌, ◌++◌, map, length, nat_eq, fold, if◌then◌else◌, refl, sym, ap, ◌∙◌, arith, append_assoc, append-nil, length-append, codes, decimal, Some, None, ◌&&◌, ◌⊎◌, inl, inr, IsTrue}
 use Rattle.std.proofs.lemmas.List.{length-map}
 use Rattle.std.proofs.lemmas.Bool.Decides.{nat_tests}
 use Rattle.std.specs.List.{flat_map, join_with_byte, starts_with, AllByRecursion}
 use Rattle.std.specs.Str.{bytes_eq}
 use Rattle.std.specs.Option.{option_and_then}
 use Rattle.mt_skel.specs.Fault.{name_of}
+use Rattle.mt_skel.specs.Keyed.{rises}
 use Rattle.mt_skel.proofs.MiddleLaws.{and-true}
 use Rattle.mt_lines.specs.Words.{words, number_in_text}
 use Rattle.mt_lines.proofs.NumberLaws.{number_decimal}
 use Rattle.mt_lines.proofs.PieceLaws.{pieces_joined}
+use Rattle.mt_locks.specs.declared.mount_locks.MountLocks.{MountLocks}
+use Rattle.mt_locks.specs.MountLocks.{locked_mount}
+use Rattle.mt_info.specs.LockLine.{lock_line, whole_lock_line, IsLockRow}
 use Rattle.mt_info.specs.RowLine.{line, path_text, whole_line}
 use Rattle.mt_info.proofs.WordLaws.{lacks, lacks_space, decimal-lacks, path-bare}
 use Rattle.mt_events.specs.Mirrors.{MirrorView}
@@ -17,11 +21,11 @@ use Rattle.mt_events.specs.Posts.{PostView, ended, post_lines, post_text}
 use Rattle.mt_events.specs.Texts.{count_text, table_text, posts_text, followed_text, lines_of_posts}
 use Rattle.mt_protocol.specs.Verbs.{first_of, verb_of, has_command_verb}
 use Rattle.mt_protocol.specs.declared.form.Form.{Form}
-use Rattle.mt_protocol.specs.declared.form.Form.TheVariants.{Done, Number, Place, Table, Opening, Posts, Commands, Followed, Never}
+use Rattle.mt_protocol.specs.declared.form.Form.TheVariants.{Done, Number, Place, Table, Locks, Opening, Posts, Commands, Followed, Never}
 use Rattle.mt_book.specs.declared.command.Command.{Command}
 use Rattle.mt_book.specs.declared.command.Command.TheVariants.{MakeFs, MakeDir, NewSpace, CopySpace, DropSpace, Mount, MountWith, Bind, Move, Pivot, Unmount, Detach, SetAttr, OpenTree, NewTree, MoveTree}
 use Rattle.mt_requests.specs.Printed.{line_of_command, commands_text}
-use Rattle.mt_session.specs.Answers.{place_text, listed_text}
+use Rattle.mt_session.specs.Answers.{place_text, lock_lines_text, listed_text}
 use Rattle.mt_session.specs.Forms.{Refuses, HasForm}
 use Rattle.mt_client.specs.Limits.{most_rows, most_opening_lines, most_waiting_lines, most_listed, at_most}
 use Rattle.mt_client.specs.Requests.{verdict, none_behind, behind_first, lines_said}
@@ -110,6 +114,22 @@ table_read m s =
     table_lines : (count number rest : List ℕ) → codes "ok " ++ count ++ codes " " ++ number ++ 10 ∷ [] ++ rest ≡ ended (codes "ok " ++ count ++ codes " " ++ number) ++ rest
     table_lines count number rest = simp append_assoc refl
 
+-- what is locked
+locks_printed : (rows : List MountLocks) → flat_map whole_lock_line rows ≡ printed (map lock_line rows)
+locks_printed [] = refl
+locks_printed (k ∷ rows) = ap (λ t. ended (lock_line k) ++ t) (locks_printed rows)
+
+locks_read : (rows : List MountLocks) → AllByRecursion IsLockRow rows → IsTrue (rises locked_mount rows) → length rows ≤ most_rows → IsRead Locks (lock_lines_text rows)
+locks_read rows valid rising le =
+    let n : ℕ = length rows in
+    let lt : n < 2 ^ 64 = omega (arith, le) in (
+      counted_line n ∷ map lock_line rows,
+      true,
+      headed Locks (counted_line n) (decimal n ∷ []) (map lock_line rows) n (counted_words n lt) (ap (at_most most_rows) (number_decimal n lt) ∙ within most_rows n le)
+          (record { rows = rows; valid = valid; rising = rising; many = refl; all = refl }),
+      ap (λ t. count_text n ++ t) (locks_printed rows),
+    )
+
 -- namespaces
 part_read : (m : MirrorView) → IsShown m → IsPartLines (part_lines m)
 part_read m s = record { space = m.space; number = m.number; count = length m.rows; rows = map line m.rows; small = (s.space, s.number, s.counted); all = refl; valid = rows_read m s }
@@ -171,7 +191,7 @@ command_begins (Bind n src dst false) = refl
 command_begins (MakeFs name kind source) = refl
 command_begins (MakeDir fs path) = refl
 command_begins (NewSpace fs) = refl
-command_begins (CopySpace n less) = refl
+command_begins (CopySpace n privilege) = refl
 command_begins (DropSpace n) = refl
 command_begins (Mount n fs path) = refl
 command_begins (MountWith n fs path set) = refl
@@ -262,6 +282,7 @@ form_read Done text e = (e, (codes "ok" ∷ [], true, headed Done (codes "ok") [
 form_read Number text k = ((k.0, k.2), (counted_line k.0 ∷ [], true, number_read k.0 k.1, one_line text (counted_line k.0) k.2))
 form_read Place text k = ((k.0, k.1, k.3), read_as Place k.3 (place_read k.0 k.1 k.2))
 form_read Table text k = ((k.0.number, k.0.rows, k.2), read_as Table k.2 (table_read k.0 k.1))
+form_read Locks text k = ((k.0, k.4), read_as Locks k.4 (locks_read k.0 k.1 k.2 k.3))
 form_read Opening text k = ((opening_found k.0 k.1, k.4), (found_lines k.1, true, opening_read k.1 k.2 k.3, k.4 ∙ sym (found_is k.0 k.1)))
 form_read Posts text k = ((k.0, k.3), read_as Posts k.3 (taken_read k.0 k.1 k.2))
 form_read Commands text k = ((k.0, k.2), read_as Commands k.2 (commands_read k.0 k.1))

@@ -91,7 +91,7 @@ const FORMS: [(&[u8], &[u8]); 53] = [
     ),
     (
         b"unshare -Urm",
-        b"copyns 1 less\nsetattr 3 / rec prop=private\n",
+        b"copyns 1 less lock\nsetattr 3 / rec prop=private\n",
     ),
     (b"nsenter -t 2 -m umount -l /media", b"detach 2 /media\n"),
     (

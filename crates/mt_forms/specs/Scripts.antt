@@ -82,8 +82,12 @@ umount_at_path space path lazy Filesystem = []
 abbrev pub umount_line : List ℕ → List ℕ → Bool → Reach → List ℕ
 umount_line space target lazy reach = if starts_with nat_eq target (codes "/") then umount_at_path space target lazy reach else []
 
+-- a copy that belongs to a new user namespace has locks (mount_namespaces(7))
+abbrev pub copy_words : Bool → List ℕ
+copy_words less = if less then codes " less lock\n" else codes "\n"
+
 abbrev pub copy_line : List ℕ → Bool → List ℕ
-copy_line space less = codes "copyns" ++ behind_word space ++ (if less then codes " less\n" else codes "\n")
+copy_line space less = codes "copyns" ++ behind_word space ++ copy_words less
 
 abbrev pub own_line : List ℕ → List (List ℕ) → List ℕ
 own_line verb words = escaped verb ++ flat_map behind_word words ++ 10 ∷ []

@@ -90,7 +90,7 @@ pub enum Operation<'a> {
     },
     /// A copy of the namespace is to be made.
     CopySpace {
-        /// Whether by a user namespace with fewer rights.
+        /// Whether it belongs to a new user namespace, so that its mounts are locked as they come.
         less: bool,
         /// What all mounts of the copy are made, or None where they stay as they are.
         propagation: Option<Propagation>,

@@ -2,7 +2,7 @@
 ghost use Rattle.std.specs.Prelude.{◌≡◌, ◌++◌, IfOk, OnOk};
 ghost use Rattle.std.specs.List.{flat_map};
 ghost use Rattle.mt_lines.specs.Words.{pieces};
-ghost use Rattle.mt_forms.specs.Scripts.{has_no_name, behind_slash, behind_word, behind_path, one_path_line, two_paths_line, propagation_text, then_made, changed_lines, change_line, bind_line, new_mount_line, told_attributes, umount_at_path, umount_line, copy_line, own_line, script_text, later_text};
+ghost use Rattle.mt_forms.specs.Scripts.{has_no_name, behind_slash, behind_word, behind_path, one_path_line, two_paths_line, propagation_text, then_made, changed_lines, change_line, bind_line, new_mount_line, told_attributes, umount_at_path, umount_line, copy_words, copy_line, own_line, script_text, later_text};
 
 use crate::attribute::Attributes;
 use crate::given::nothing_given;
@@ -220,17 +220,20 @@ fn push_umount(text: &mut Vec<u8>, space: &[u8], target: &[u8], lazy: bool, reac
     Ok(())
 }
 
+/// What comes after the number of a namespace in the line that copies it.
+fn copy_words(less: bool) -> &'static [u8]
+    ensures { result.now ≡ copy_words less }
+{
+    if less { b" less lock\n" } else { b"\n" }
+}
+
 /// Appends the line that copies a namespace.
 fn push_copy(text: &mut Vec<u8>, space: &[u8], less: bool) -> Done
     ensures { OnOk result (text.new.items ≡ text.old.items ++ copy_line space.now less) }
 {
     text.extend_from_slice(b"copyns")?;
     push_word(text, space)?;
-    if less {
-        text.extend_from_slice(b" less\n")?;
-    } else {
-        text.push(b'\n')?;
-    }
+    text.extend_from_slice(copy_words(less))?;
     Ok(())
 }
 

@@ -2,9 +2,8 @@
 ghost use Rattle.std.specs.Prelude.{◌≡◌, IfOk};
 ghost use Rattle.mt_help.specs.Lines.{answer_said, note_of, IsVerbPage};
 
-use crate::example::example_of;
 use crate::page::{Usage, page_text};
-use crate::refusals::{refusals_of, said_by};
+use crate::refusals::said_by;
 use mt_protocol::form::Form;
 use mt_protocol::verb::Verb;
 use std::alloc::{AllocError, Global};
@@ -18,6 +17,7 @@ pub fn answer_said(form: Form) -> &'static str
         Form::Number => "ok, and the number of what is made",
         Form::Place => "ok, the number of the mount, and the directory of its filesystem",
         Form::Table => "ok, the count of the rows and the number of the last change, and the rows",
+        Form::Locks => "ok and a count of mounts, and of each its ID and what is locked of it",
         Form::Opening =>
             "ok and a count of lines, and as many: of each namespace a heading and its rows",
         Form::Posts => "ok and a count of posts, and their lines",
@@ -34,32 +34,11 @@ pub fn note_of(verb: Verb) -> &'static str
 {
     match verb {
         Verb::Quit | Verb::Stop => "A line of a wrong form is refused as BadLine or TooLong.",
-        Verb::Show
-        | Verb::Find
-        | Verb::Journal
-        | Verb::Watch
-        | Verb::Take
-        | Verb::Follow
-        | Verb::Close => {
-            "A line of a wrong form is refused as BadLine, TooLong or BadPath, and any may be as NoMemory."
-        }
-        Verb::Mkfs
-        | Verb::Mkdir
-        | Verb::Newns
-        | Verb::Copyns
-        | Verb::Dropns
-        | Verb::Mount
-        | Verb::Bind
-        | Verb::Rbind
-        | Verb::Move
-        | Verb::Pivot
-        | Verb::Umount
-        | Verb::Detach
-        | Verb::Setattr
-        | Verb::Opentree
-        | Verb::Newtree
-        | Verb::Movetree => {
+        _ if verb.is_command() => {
             "A line of a wrong form is refused as BadLine, TooLong or BadPath, and any command may be as JournalFull, Stopped or NoMemory."
+        }
+        _ => {
+            "A line of a wrong form is refused as BadLine, TooLong or BadPath, and any may be as NoMemory."
         }
     }
 }
@@ -68,12 +47,12 @@ pub fn note_of(verb: Verb) -> &'static str
 pub fn verb_page(alloc: Global, verb: Verb, usages: &[Usage]) -> Result<Vec<u8>, AllocError>
     ensures { IfOk result (λ text. IsVerbPage verb usages.now text.items) }
 {
-    let said = said_by(alloc, refusals_of(verb))?;
+    let said = said_by(alloc, verb.refusals())?;
     page_text(
         alloc,
         usages,
         answer_said(verb.form()),
-        example_of(verb),
+        verb.example(),
         said.as_slice(),
         note_of(verb),
     )

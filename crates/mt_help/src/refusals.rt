@@ -1,114 +1,11 @@
-//! The refusals of each line of a session.
+//! What refusals say.
 ghost use Rattle.std.specs.Prelude.{◌≡◌, ◌++◌, map, IfOk, OnOk};
-ghost use Rattle.mt_help.specs.Lines.{refusals_of, said_refusal};
+ghost use Rattle.mt_help.specs.Lines.{said_refusal};
 
 use crate::page::RefusalSaid;
 use mt_protocol::refusal::refusal_row;
-use mt_protocol::verb::Verb;
 use mt_skel::fault::Fault;
 use std::alloc::{AllocError, Global};
-
-/// What a line with a verb may be refused as, but for what each line may be refused as, and each command: in the order in which the
-/// server finds them.
-pub fn refusals_of(verb: Verb) -> &'static [Fault]
-    ensures { result.now ≡ refusals_of verb }
-{
-    match verb {
-        Verb::Mkfs => &[Fault::FilesystemExists, Fault::TooMany],
-        Verb::Mkdir => &[
-            Fault::NoFilesystem,
-            Fault::NoEntry,
-            Fault::EntryExists,
-            Fault::TooMany,
-        ],
-        Verb::Newns => &[Fault::NoFilesystem, Fault::TooMany],
-        Verb::Copyns => &[Fault::NoNamespace, Fault::Detached, Fault::TooMany],
-        Verb::Dropns | Verb::Show => &[Fault::NoNamespace],
-        Verb::Mount => &[
-            Fault::NoFilesystem,
-            Fault::NoNamespace,
-            Fault::NoEntry,
-            Fault::RootPlace,
-            Fault::BadAttr,
-            Fault::TooMany,
-        ],
-        Verb::Bind | Verb::Rbind => &[
-            Fault::NoNamespace,
-            Fault::NoEntry,
-            Fault::RootPlace,
-            Fault::Unbindable,
-            Fault::TooMany,
-        ],
-        Verb::Move => &[
-            Fault::NoNamespace,
-            Fault::Detached,
-            Fault::NoEntry,
-            Fault::NotMountRoot,
-            Fault::RootPlace,
-            Fault::SharedParent,
-            Fault::IntoItself,
-            Fault::UnbindableInside,
-            Fault::TooMany,
-        ],
-        Verb::Pivot => &[
-            Fault::NoNamespace,
-            Fault::Detached,
-            Fault::NoEntry,
-            Fault::NotMountRoot,
-            Fault::RootPlace,
-            Fault::SharedParent,
-            Fault::IntoItself,
-        ],
-        Verb::Umount => &[
-            Fault::NoNamespace,
-            Fault::Detached,
-            Fault::NoEntry,
-            Fault::NotMountRoot,
-            Fault::RootPlace,
-            Fault::Busy,
-        ],
-        Verb::Detach => &[
-            Fault::NoNamespace,
-            Fault::Detached,
-            Fault::NoEntry,
-            Fault::NotMountRoot,
-            Fault::RootPlace,
-        ],
-        Verb::Setattr => &[
-            Fault::NoNamespace,
-            Fault::NoEntry,
-            Fault::NotMountRoot,
-            Fault::BadAttr,
-            Fault::Detached,
-        ],
-        Verb::Opentree => &[
-            Fault::NoNamespace,
-            Fault::NoEntry,
-            Fault::Unbindable,
-            Fault::TooMany,
-        ],
-        Verb::Newtree => &[Fault::NoFilesystem, Fault::TooMany],
-        Verb::Movetree => &[
-            Fault::NoNamespace,
-            Fault::NotDetached,
-            Fault::NoEntry,
-            Fault::RootPlace,
-            Fault::IntoItself,
-            Fault::UnbindableInside,
-            Fault::TooMany,
-        ],
-        Verb::Find => &[Fault::NoNamespace, Fault::NoEntry],
-        Verb::Watch => &[
-            Fault::WatcherOpen,
-            Fault::NoNamespace,
-            Fault::TooManyWatchers,
-            Fault::Stopped,
-        ],
-        Verb::Take | Verb::Follow => &[Fault::NoWatcher, Fault::Lagged, Fault::Stopped],
-        Verb::Close => &[Fault::NoWatcher],
-        Verb::Journal | Verb::Quit | Verb::Stop => &[],
-    }
-}
 
 /// A refusal with what it says.
 fn said_of(refusal: Fault) -> RefusalSaid

@@ -14,11 +14,11 @@ use Rattle.mt_import.specs.Telling.{tree_rows, space_comments, HasMakingOrder}
 -- a script of its parts, one after the other
 pub imported : (groups : BTreeMap ℕ Group) (spaces : List Space) (s0 s1 s2 s3 s4 front : List ℕ) → s0 ≡ [] → s1 ≡ s0 ++ flat_map tree_rows spaces
     → s2 ≡ s1 ++ flat_map space_comments spaces → AllByRecursion HasMakingOrder spaces → is_sound groups spaces ≡ true → StandsInFront groups spaces front → s3 ≡ s2 ++ front → AreMade groups spaces s3 s4
-    → IsScript s4 → IsImport (map (λ (s : Space). s.tree.rows) spaces) s4
+    → IsScript s4 → IsImport (map (λ (s : Space). s.tree.told) spaces) s4
 imported groups spaces s0 s1 s2 s3 s4 front e0 e1 e2 trees sound fronted e3 made lines = record {
   groups = groups;
   spaces = spaces;
-  rows = refl;
+  told = refl;
   trees = trees;
   sound = sound;
   front = front;

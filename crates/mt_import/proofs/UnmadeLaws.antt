@@ -7,7 +7,8 @@ use Rattle.std.specs.List.{flat_map, list_all, list_any, AllByRecursion}
 use Rattle.mt_import.specs.declared.groups.Group.{Group}
 use Rattle.mt_import.specs.declared.space.Space.{Space}
 use Rattle.mt_import.specs.Import.{IsImport}
-use Rattle.mt_import.specs.Plans.{are_numbered, is_well_ordered, rows_made, is_sound, stand_on_made, rows_made_from}
+use Rattle.mt_import.specs.Reading.{ToldMount}
+use Rattle.mt_import.specs.Plans.{first_rows, is_lockable, are_numbered, is_well_ordered, rows_made, is_sound, stand_on_made, rows_made_from}
 use Rattle.mt_import.specs.Script.{IsScript}
 use Rattle.mt_import.specs.Spaces.{spaces_text}
 use Rattle.mt_import.specs.Telling.{is_made, is_shown, tree_rows, space_comments, HasMakingOrder}
@@ -25,13 +26,19 @@ unmade_pushed spaces new of before is count all one =
 not_shown : (table : ℕ) (of : Space) → IsUnmade table of → is_shown of ≡ false
 not_shown table of un = ap (λ ways. is_made ways 0) un.ways
 
+-- nothing is locked of them
+not_lockable : (rows : List ToldMount) (table : ℕ) (of : Space) → IsUnmade table of → is_lockable rows of ≡ false
+not_lockable rows table of un = rw (not_shown table of un) refl
+
 -- they are numbered as they come
-numbered : (table : ℕ) (spaces : List Space) → AreUnmade table spaces → are_numbered table 1 spaces ≡ true
-numbered table [] all = refl
-numbered table (of ∷ others) (first, rest) =
-    let ih = numbered (suc table) others rest in
+numbered : (rows : List ToldMount) (table : ℕ) (spaces : List Space) → AreUnmade table spaces → are_numbered rows table 0 spaces ≡ true
+numbered rows table [] all = refl
+numbered rows table (of ∷ others) (first, rest) =
+    let ih = numbered rows (suc table) others rest in
     let hidden = not_shown table of first in
+    let bare = not_lockable rows table of first in
     let placed = first.placed in
+    let made = first.made in
     let one = first.numbered in
     grind (arith, nat_tests)
 
@@ -58,15 +65,15 @@ textless groups table [] all = refl
 textless groups table (of ∷ others) (first, rest) = rw (not_shown table of first) (textless groups (suc table) others rest)
 
 sound : (groups : BTreeMap ℕ Group) (spaces : List Space) → AreUnmade 1 spaces → is_sound groups spaces ≡ true
-sound groups spaces all = rw (numbered 1 spaces all, ordered 1 spaces all, rowless 1 spaces all) refl
+sound groups spaces all = rw (numbered (first_rows spaces) 1 spaces all, ordered 1 spaces all, rowless 1 spaces all) refl
 
 -- a script that tells all their rows
 pub told_alone : (groups : BTreeMap ℕ Group) (spaces : List Space) (s0 s1 s2 : List ℕ) → AreUnmade 1 spaces → s0 ≡ [] → s1 ≡ s0 ++ flat_map tree_rows spaces
-    → s2 ≡ s1 ++ flat_map space_comments spaces → AllByRecursion HasMakingOrder spaces → IsScript s2 → IsImport (map (λ (s : Space). s.tree.rows) spaces) s2
+    → s2 ≡ s1 ++ flat_map space_comments spaces → AllByRecursion HasMakingOrder spaces → IsScript s2 → IsImport (map (λ (s : Space). s.tree.told) spaces) s2
 told_alone groups spaces s0 s1 s2 all e0 e1 e2 trees lines = record {
   groups = groups;
   spaces = spaces;
-  rows = refl;
+  told = refl;
   trees = trees;
   sound = sound groups spaces all;
   front = [];

@@ -34,3 +34,11 @@ kind_text space path kind = command_text (codes "setattr" ∷ space ∷ path ∷
 -- a namespace is a copy of another one
 abbrev pub copy_text : List ℕ → List ℕ
 copy_text space = command_text (codes "copyns" ∷ space ∷ [])
+
+-- one is a less privileged copy in which all is locked
+abbrev pub locked_copy_text : List ℕ → List ℕ
+locked_copy_text space = command_text (codes "copyns" ∷ space ∷ codes "less" ∷ codes "lock" ∷ [])
+
+-- a namespace ends
+abbrev pub drop_text : List ℕ → List ℕ
+drop_text space = command_text (codes "dropns" ∷ space ∷ [])

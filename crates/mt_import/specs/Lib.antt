@@ -1,4 +1,5 @@
 pub mod Reading
+pub mod Locking
 pub mod RowReading
 pub mod Script
 pub mod Paths

@@ -1,6 +1,6 @@
 -- What is planned of tables is what they tell.
 -- A word with no source is this project's rule.
-use Rattle.std.specs.Prelude.{ℕ, suc, Bool, true, false, not, ◌&&◌, ◌||◌, ◌==◌, nat_le, if◌then◌else◌, List, [], ◌∷◌, length, slice_get, Option, Some, None}
+use Rattle.std.specs.Prelude.{ℕ, suc, Bool, true, false, not, ◌&&◌, ◌||◌, ◌==◌, nat_le, nat_lt, if◌then◌else◌, List, [], ◌∷◌, length, slice_get, Option, Some, None}
 use Rattle.std.specs.BTreeMap.{BTreeMap, get}
 use Rattle.std.specs.List.{filter, flat_map, list_all, list_any}
 use Rattle.std.specs.Option.{option_map_or}
@@ -10,14 +10,9 @@ use Rattle.mt_import.specs.declared.groups.Group.{Group}
 use Rattle.mt_import.specs.declared.mount.Mount.{Mount}
 use Rattle.mt_import.specs.declared.space.Space.{Space}
 use Rattle.mt_import.specs.declared.space.Way.{Way}
+use Rattle.mt_import.specs.Locking.{came_as_copy}
 use Rattle.mt_import.specs.Reading.{ToldMount}
 use Rattle.mt_import.specs.Telling.{is_made, is_shown}
-
--- tables are numbered as they come, and so are namespaces, of which each table has one if its root mount is made
-abbrev pub are_numbered : ℕ → ℕ → List Space → Bool
-are_numbered table number [] = true
-are_numbered table number (of ∷ others) =
-    of.tree.table == table && of.number == number && are_numbered (suc table) (if is_shown of then suc number else number) others
 
 -- a mount is made only if what it stands on is
 abbrev pub is_founded : List Way → ℕ → ℕ → Bool
@@ -51,6 +46,27 @@ rows_made_from ways number (mount ∷ mounts) = if is_made ways number then moun
 abbrev pub rows_made : Space → List ToldMount
 rows_made of = rows_made_from of.ways.items 0 of.tree.mounts
 
+-- A foreign namespace is made with locks if all its mounts that are made may be locked, and it is not the one of which the others are copies: it is then a less
+-- privileged copy of the one in which they are made (mount_namespaces(7)).
+abbrev pub is_lockable : List ToldMount → Space → Bool
+is_lockable first of = is_shown of && of.tree.told.is_foreign && nat_lt 1 of.original && list_all (came_as_copy first) (rows_made of)
+
+-- such a copy has the next number, and another namespace the one with which its mounts are made
+abbrev pub has_own_number : List ToldMount → Space → Bool
+has_own_number first of = of.number == (if is_lockable first of then suc of.original else of.original)
+
+-- tables are numbered as they come, and so are namespaces, of which each table has one if its root mount is made
+abbrev pub are_numbered : List ToldMount → ℕ → ℕ → List Space → Bool
+are_numbered first table last [] = true
+are_numbered first table last (of ∷ others) =
+    of.tree.table == table && of.original == suc last && has_own_number first of
+    && are_numbered first (suc table) (if is_shown of then of.number else last) others
+
+-- the rows of the first table
+abbrev pub first_rows : List Space → List ToldMount
+first_rows [] = []
+first_rows (of ∷ others) = of.tree.told.rows
+
 -- whether a number is told, and whether both are told and are the same, or neither is told
 abbrev pub is_number : Option ℕ → ℕ → Bool
 is_number told number = option_map_or (λ (n : ℕ). n == number) told false
@@ -82,4 +98,4 @@ are_grouped groups rows = list_all (is_grouped groups rows) rows
 
 -- what is planned of tables is what they tell
 abbrev pub is_sound : BTreeMap ℕ Group → List Space → Bool
-is_sound groups spaces = are_numbered 1 1 spaces && list_all is_well_ordered spaces && are_grouped groups (flat_map rows_made spaces)
+is_sound groups spaces = are_numbered (first_rows spaces) 1 0 spaces && list_all is_well_ordered spaces && are_grouped groups (flat_map rows_made spaces)

@@ -23,6 +23,12 @@ pub record ToldMount : Type 0 where
   pub kind : List ℕ
   pub source : List ℕ
 
+-- what the lines of a namespace tell, and whether its user namespace is another one than that of the first namespace
+-- (user_namespaces(7))
+pub record ToldSpace : Type 0 where
+  pub rows : List ToldMount
+  pub is_foreign : Bool
+
 -- no optional field
 abbrev pub no_fields : Fields
 no_fields = record { shared = None; master = None; via = None; unbindable = false }

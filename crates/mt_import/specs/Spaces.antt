@@ -7,11 +7,11 @@ use Rattle.mt_import.specs.declared.groups.Group.{Group}
 use Rattle.mt_import.specs.declared.mount.Mount.{Mount}
 use Rattle.mt_import.specs.declared.space.Space.{Space}
 use Rattle.mt_import.specs.declared.space.Way.{Way}
-use Rattle.mt_import.specs.Commands.{copy_text}
+use Rattle.mt_import.specs.Commands.{copy_text, locked_copy_text, drop_text}
 use Rattle.mt_import.specs.Covers.{covered, finished}
 use Rattle.mt_import.specs.Script.{table_comment}
 use Rattle.mt_import.specs.Slots.{stage}
-use Rattle.mt_import.specs.Telling.{is_made, is_shown}
+use Rattle.mt_import.specs.Telling.{is_made, is_shown, has_locks}
 use Rattle.mt_import.specs.Turns.{turns_from}
 
 -- the numbers of those that pass a test, if that of the first is this one
@@ -34,9 +34,15 @@ abbrev pub copied_if : Bool → List ℕ
 copied_if true = copy_text (codes "1")
 copied_if false = []
 
+-- a less privileged copy, in which all is locked, takes the place of the namespace in which they are made (mount_namespaces(7))
+abbrev pub locked_if : Bool → List ℕ → List ℕ
+locked_if true original = locked_copy_text original ++ drop_text original
+locked_if false original = []
+
 unfoldable pub space_text : BTreeMap ℕ Group → Space → List ℕ
 space_text groups of =
-    (table_comment of.tree.table (codes " is namespace ") (decimal of.number) ++ copied_if (nat_lt 1 of.number)) ++ mounts_made groups (decimal of.number) stage of
+    ((table_comment of.tree.table (codes " is namespace ") (decimal of.number) ++ copied_if (nat_lt 1 of.original)) ++ mounts_made groups (decimal of.original) stage of)
+    ++ locked_if (has_locks of) (decimal of.original)
 
 -- the namespaces of the tables of which the root mount is made
 abbrev pub made_if_shown : BTreeMap ℕ Group → Space → List ℕ

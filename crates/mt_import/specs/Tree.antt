@@ -6,7 +6,7 @@ use Rattle.mt_import.specs.declared.mount.Mount.{Mount}
 use Rattle.mt_import.specs.declared.reason.Reason.{Reason}
 use Rattle.mt_import.specs.declared.reason.Reason.TheVariants.{Ring}
 use Rattle.mt_import.specs.Placing.{IsRootMount, IsPlacedOn}
-use Rattle.mt_import.specs.Reading.{ToldMount}
+use Rattle.mt_import.specs.Reading.{ToldMount, ToldSpace}
 
 -- whether the row of a number has a mount: no reason is known why it is left out
 abbrev pub is_none : Option (Option Reason) → Bool
@@ -29,10 +29,10 @@ abbrev pub stand_on_earlier : ℕ → List ℕ → Bool
 stand_on_earlier number [] = true
 stand_on_earlier number (above ∷ others) = nat_le above (number - 1) && stand_on_earlier (suc number) others
 
--- a table: its number, its rows, its mounts, and why rows have none
+-- a table: its number, what is told of its namespace, its mounts, and why rows have none
 pub record TreeView : Type 0 where
   pub table : ℕ
-  pub rows : List ToldMount
+  pub told : ToldSpace
   pub mounts : List Mount
   pub left : List (Option Reason)
 

@@ -6,6 +6,7 @@ use Rattle.mt_import.specs.declared.space.Space.{Space}
 -- a table of a number has no mounts, and no namespace
 pub record IsUnmade (table : ℕ) (of : Space) : Type 0 where
   pub placed : of.tree.table ≡ table
+  pub made : of.original ≡ 1
   pub numbered : of.number ≡ 1
   pub ways : of.ways.items ≡ []
   pub mounts : of.tree.mounts ≡ []

@@ -26,6 +26,8 @@ pub(crate) struct Candidate<'t, 'a> {
     number: usize,
     /// The number of its table.
     pub(crate) table: usize,
+    /// Whether its namespace is foreign.
+    pub(crate) is_foreign: bool,
     /// Its row.
     pub(crate) row: &'a HostMount,
     /// The mount.
@@ -69,6 +71,7 @@ fn add_tree<'t, 'a>(all: &mut Vec<Candidate<'t, 'a>>, tree: &'t Tree<'a>) -> Don
             all.push(Candidate {
                 number: all.len(),
                 table: tree.table,
+                is_foreign: tree.is_foreign(),
                 row: mount.row,
                 mount,
                 below,

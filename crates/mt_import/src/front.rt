@@ -193,8 +193,8 @@ impl<'a> Plan<'a> {
         if !self.has_unseen() {
             return Ok(script);
         }
-        let shown = others.iter().filter(|space| space.is_shown()).count();
-        let space = digits_of(self.alloc, (shown as u64).saturating_add(2))?;
+        let last = last_number(others);
+        let space = digits_of(self.alloc, (last as u64).saturating_add(1))?;
         let space = space.as_slice();
         comment(
             &mut script,
@@ -209,6 +209,15 @@ impl<'a> Plan<'a> {
         self.unstage_plains(&mut script, space)?;
         Ok(script)
     }
+}
+
+/// The number of the last namespace that is made, beside that of the first table, if these are the others.
+fn last_number(others: &[Space<'_>]) -> usize {
+    let mut last = 1_usize;
+    for space in others {
+        last = space.last_number(last);
+    }
+    last
 }
 
 /// Stages the filesystems of devices.

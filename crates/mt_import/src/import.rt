@@ -6,6 +6,7 @@ ghost use Rattle.mt_import.specs.Import.{IsImport};
 ghost use Rattle.mt_import.specs.Telling.{is_shown};
 
 use crate::host_mount::HostMount;
+use crate::host_space::HostSpace;
 use crate::plan::{Plan, plan_with_room};
 use crate::script::Script;
 use crate::soundness::is_sound;
@@ -30,26 +31,27 @@ const MOST_ROUNDS: usize = 64;
 /// The trees of tables.
 fn trees_of<'a>(
     alloc: Global,
-    tables: &'a [Vec<HostMount>],
+    tables: &'a [HostSpace],
     refused: &Refused,
 ) -> Allocated<Vec<Tree<'a>>>
-    ensures rows { IfOk result (λ trees. map (λ tree. tree.rows) trees.items ≡ map (λ rows. rows.items) tables.now) }
+    ensures told { IfOk result (λ trees. map (λ tree. tree.told) trees.items ≡ tables.now) }
 {
     let mut trees = Vec::new(alloc);
-    'tables: for (before, rows) in tables.iter().enumerate() {
+    'tables: for (before, told) in tables.iter().enumerate() {
         let number = before.saturating_add(1);
-        let is_told = tables[..before]
-            .iter()
-            .any(|other| are_same(other.as_slice(), rows.as_slice()));
-        trees.push(tree_of(alloc, number, rows.as_slice(), is_told, refused)?)?;
+        let is_told = tables[..before].iter().any(|other| are_same(
+            other.rows.as_slice(),
+            told.rows.as_slice(),
+        ));
+        trees.push(tree_of(alloc, number, told, is_told, refused)?)?;
     }
     Ok(trees)
 }
 
 /// The trees of tables, and what is planned of them. If a row stands in the place of one that is left out, it is tried
 /// in that place.
-fn planned<'a>(alloc: Global, tables: &'a [Vec<HostMount>]) -> Allocated<(Vec<Tree<'a>>, Plan<'a>)>
-    ensures rows { IfOk result (λ (trees, plan). map (λ tree. tree.rows) trees.items ≡ map (λ rows. rows.items) tables.now) }
+fn planned<'a>(alloc: Global, tables: &'a [HostSpace]) -> Allocated<(Vec<Tree<'a>>, Plan<'a>)>
+    ensures told { IfOk result (λ (trees, plan). map (λ tree. tree.told) trees.items ≡ tables.now) }
 {
     let mut refused = Refused::new(alloc);
     for _round in 0..MOST_ROUNDS {
@@ -88,7 +90,7 @@ fn front_of(alloc: Global, plan: &Plan<'_>, spaces: &[Space<'_>]) -> Result<Scri
 
 /// The script of tables of which this is planned, if it is what they tell.
 fn script_with(alloc: Global, plan: &Plan<'_>, spaces: &[Space<'_>]) -> Result<Script, Unmade>
-    ensures { IfOk result (IsImport (map (λ space. space.tree.rows) spaces.now)) }
+    ensures { IfOk result (IsImport (map (λ space. space.tree.told) spaces.now)) }
 {
     let is_right = is_sound(alloc, &plan.groups, spaces)?;
     if !is_right {
@@ -112,8 +114,8 @@ fn counting(alloc: Global, plan: &Plan<'_>, spaces: &[Space<'_>]) -> Result<Scri
 }
 
 /// The script that makes the namespaces of tables, unless a line of it is not one that the server reads.
-fn made_script(alloc: Global, tables: &[Vec<HostMount>]) -> Result<Script, Unmade>
-    ensures { IfOk result (IsImport (map (λ rows. rows.items) tables.now)) }
+fn made_script(alloc: Global, tables: &[HostSpace]) -> Result<Script, Unmade>
+    ensures { IfOk result (IsImport tables.now) }
 {
     let (trees, mut plan) = planned(alloc, tables)?;
     let spaces = spaces_of(alloc, trees, &plan)?;
@@ -130,8 +132,13 @@ fn made_script(alloc: Global, tables: &[Vec<HostMount>]) -> Result<Script, Unmad
 /// there too. If a peer group has slaves among the rows but no member, one more namespace has one. What cannot be made
 /// is told in comments: all rows are, if a line that makes them is not one that the server reads; no table is known
 /// that leads to this.
-pub fn script_of(alloc: Global, tables: &[Vec<HostMount>]) -> Result<Script, Fault>
-    ensures made { IfOk result (IsImport (map (λ rows. rows.items) tables.now)) }
+///
+/// In a foreign namespace all places and attributes are locked, if the first table has a row of each of its mounts, by mount
+/// point, root and device, and none of them is in a peer group (mount_namespaces(7), restrictions on mount namespaces; that
+/// such mounts came with a copy of the first namespace is this project's rule). It then takes two numbers, of which the
+/// first is free again. Otherwise nothing is locked there, which a comment tells.
+pub fn script_of(alloc: Global, tables: &[HostSpace]) -> Result<Script, Fault>
+    ensures made { IfOk result (IsImport tables.now) }
     ensures memory { IsOkUnless result Fault.NoMemory }
 {
     match made_script(alloc, tables) {

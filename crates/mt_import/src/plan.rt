@@ -117,7 +117,8 @@ impl<'a> Plan<'a> {
 
     /// How many mounts there are at a time, at most: those that are made, those that are staged, and three for each
     /// that receives what is mounted on one of a group: a mount that isolates its place, and what spares it. Only the
-    /// first namespace has what is staged, or beside it the copy that is being made.
+    /// first namespace has what is staged, or beside it the copy that is being made. For a moment a foreign namespace is
+    /// there twice.
     fn mounts_at_once(&self, made: &[Candidate<'_, '_>]) -> Allocated<usize> {
         let roots = made.iter().filter(|candidate| candidate.is_root()).count();
         let stages = if roots > 1 || self.has_unseen() { 2 } else { 1 };
@@ -130,7 +131,8 @@ impl<'a> Plan<'a> {
         Ok(
             made.len()
                 .saturating_add(staged.saturating_mul(stages))
-                .saturating_add(isolated.saturating_mul(3)),
+                .saturating_add(isolated.saturating_mul(3))
+                .saturating_add(most_foreign(made)),
         )
     }
 
@@ -147,6 +149,22 @@ impl<'a> Plan<'a> {
     }
 }
 
+/// How many mounts a foreign namespace has at most.
+fn most_foreign(made: &[Candidate<'_, '_>]) -> usize {
+    let (mut table, mut count, mut most) = (0_usize, 0_usize, 0_usize);
+    for candidate in made {
+        if candidate.table != table {
+            table = candidate.table;
+            count = 0;
+        }
+        if candidate.is_foreign {
+            count = count.saturating_add(1);
+            most = most.max(count);
+        }
+    }
+    most
+}
+
 /// Where the row of a table stands: on which mount, and at which path.
 fn place_of(row: &HostMount) -> (u64, &[u8]) {
     (row.parent, below_root(row.point.as_slice()))
@@ -155,7 +173,7 @@ fn place_of(row: &HostMount) -> (u64, &[u8]) {
 /// Where the rows of a table stand that are left out because others stand there.
 fn wanted_places<'a>(alloc: Global, tree: &Tree<'a>) -> Allocated<BTreeSet<(u64, &'a [u8])>> {
     let mut wanted = BTreeSet::new(alloc);
-    for (row, left) in tree.rows.iter().zip(tree.left.as_slice()) {
+    for (row, left) in tree.rows().iter().zip(tree.left.as_slice()) {
         if let Some(Reason::SamePlace) = left {
             wanted.insert(place_of(row))?;
         }

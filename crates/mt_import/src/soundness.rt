@@ -1,27 +1,60 @@
 //! Whether what is planned of tables is what they tell: a script is made only if it is.
-ghost use Rattle.std.specs.Prelude.{◌≡◌, ◌++◌, map, IfOk, OnOk};
+ghost use Rattle.std.specs.Prelude.{◌≡◌, ◌==◌, ◌++◌, suc, map, IfOk, OnOk};
 ghost use Rattle.std.specs.List.{flat_map, list_all};
-ghost use Rattle.mt_import.specs.Plans.{are_numbered, level_of, is_apart, stand_on_made, is_well_ordered, rows_made_from, rows_made, is_number, is_same, count_members, has_slave, is_group_of, is_grouped, are_grouped, is_sound, is_founded, comes_first};
+ghost use Rattle.mt_import.specs.Plans.{has_own_number, first_rows, are_numbered, level_of, is_apart, stand_on_made, is_well_ordered, rows_made_from, rows_made, is_number, is_same, count_members, has_slave, is_group_of, is_grouped, are_grouped, is_sound, is_founded, comes_first};
 
 use crate::groups::{Group, Groups};
 use crate::host_mount::HostMount;
+use crate::locking::is_lockable;
 use crate::mount::Mount;
 use crate::space::{Space, Way, is_made};
 use crate::writer::{Allocated, Done};
 use std::alloc::Global;
 
-/// Whether tables are numbered as they come, from 1, and their namespaces are.
-fn are_numbered(spaces: &[Space<'_>]) -> bool
-    ensures { result ≡ are_numbered 1 1 spaces.now }
+/// Whether a number is the next one after another.
+fn is_next(number: usize, before: usize) -> bool
+    ensures { result ≡ (number == suc before) }
 {
-    let mut number = 1_usize;
+    number > before && number - before == 1
+}
+
+/// Whether a namespace has the number that it has to have, where these are the rows of the first table: with locks the next one
+/// after that with which its mounts are made, and otherwise the same.
+fn has_own_number(first: &[HostMount], space: &Space<'_>) -> bool
+    ensures { result ≡ has_own_number first.now space.now }
+{
+    if is_lockable(first, space) {
+        is_next(space.number, space.original)
+    } else {
+        space.number == space.original
+    }
+}
+
+/// The rows of the first table.
+fn first_rows<'s>(spaces: &'s [Space<'_>]) -> &'s [HostMount]
+    ensures { result.now ≡ first_rows spaces.now }
+{
+    match spaces {
+        [] => &[],
+        [space, ..] => space.tree.rows(),
+    }
+}
+
+/// Whether tables are numbered as they come, from 1, and their namespaces are, where these are the rows of the first table.
+fn are_numbered(first: &[HostMount], spaces: &[Space<'_>]) -> bool
+    ensures { result ≡ are_numbered first.now 1 0 spaces.now }
+{
+    let mut last = 0_usize;
     'spaces: for (before, space) in spaces.iter().enumerate() {
         let tree = &space.tree;
-        if tree.table != before + 1 || space.number != number {
+        if tree.table != before + 1
+            || !is_next(space.original, last)
+            || !has_own_number(first, space)
+        {
             return false;
         }
         if space.is_shown() {
-            number += 1;
+            last = space.number;
         }
     }
     true
@@ -205,5 +238,9 @@ pub(crate) fn is_sound(alloc: Global, groups: &Groups<'_>, spaces: &[Space<'_>])
     ensures { IfOk result (λ is. is ≡ is_sound groups.now.all spaces.now) }
 {
     let rows = rows_of(alloc, spaces)?;
-    Ok(are_numbered(spaces) && are_well_ordered(spaces) && are_grouped(groups, rows.as_slice()))
+    Ok(
+        are_numbered(first_rows(spaces), spaces)
+            && are_well_ordered(spaces)
+            && are_grouped(groups, rows.as_slice()),
+    )
 }

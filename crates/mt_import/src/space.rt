@@ -1,10 +1,12 @@
 //! A table with what a script makes of it, and how its mounts come to their places: which are made apart, and where hooks would
 //! be in their way.
 ghost use Rattle.std.specs.Prelude.{◌≡◌, map, IfOk};
-ghost use Rattle.mt_import.specs.Telling.{is_made, is_shown};
+ghost use Rattle.mt_import.specs.Telling.{is_made, is_shown, has_locks, has_unknown_locks};
 ghost use Rattle.mt_import.specs.Turns.{hooked_by};
 
 use crate::groups::Groups;
+use crate::host_mount::HostMount;
+use crate::locking::is_lockable;
 use crate::mount::Mount;
 use crate::path::{STAGE, path_behind};
 use crate::plan::Plan;
@@ -121,7 +123,9 @@ impl<'s, 'a> Site<'s, 'a> {
 /// A table, and the namespace that is made of it.
 #[derive(Drop)]
 pub(crate) struct Space<'a> {
-    /// The number of the namespace, if the root mount is made: otherwise that of the next one.
+    /// The number of the namespace in which its mounts are made, if the root mount is: otherwise that of the next one.
+    pub(crate) original: usize,
+    /// The number of its own namespace: the same, or with locks that of a copy.
     pub(crate) number: usize,
     /// The mounts of the table.
     pub(crate) tree: Tree<'a>,
@@ -136,6 +140,51 @@ impl<'a> Space<'a> {
     {
         is_made(self.ways.as_slice(), 0)
     }
+
+    /// Whether it is made with locks.
+    pub(crate) fn has_locks(&self) -> bool
+        ensures { result ≡ has_locks self.now }
+    {
+        self.original < self.number
+    }
+
+    /// Whether something is locked in it, and nothing tells what.
+    pub(crate) fn has_unknown_locks(&self) -> bool
+        ensures { result ≡ has_unknown_locks self.now }
+    {
+        self.tree.is_foreign() && self.is_shown() && !self.has_locks()
+    }
+
+    /// The number of the last namespace that is there once this one is made, if it is made, after the one of a number.
+    pub(crate) fn last_number(&self, before: usize) -> usize {
+        if self.is_shown() { self.number } else { before }
+    }
+}
+
+/// The rows of the first of the trees.
+fn first_rows<'a>(trees: &[Tree<'a>]) -> &'a [HostMount] {
+    match trees {
+        [] => &[],
+        [tree, ..] => tree.rows(),
+    }
+}
+
+/// A table, and the namespace that is made of it after the one of a number, where these are the rows of the first table: with locks it has
+/// the second number after that.
+fn space_after<'a>(last: usize, first: &[HostMount], tree: Tree<'a>, ways: Vec<Way>) -> Space<'a>
+    ensures { result.tree ≡ tree.entry }
+{
+    let original = last.saturating_add(1);
+    let mut space = Space {
+        original,
+        number: original,
+        tree,
+        ways,
+    };
+    if is_lockable(first, &space) {
+        space.number = original.saturating_add(1);
+    }
+    space
 }
 
 /// The tables with what is planned to be made of them.
@@ -144,7 +193,7 @@ pub(crate) fn spaces_of<'a>(
     trees: Vec<Tree<'a>>,
     plan: &Plan<'a>,
 ) -> Allocated<Vec<Space<'a>>>
-    ensures rows { IfOk result (λ spaces. map (λ space. space.tree.rows) spaces.items ≡ map (λ tree. tree.rows) trees.entry.items) }
+    ensures told { IfOk result (λ spaces. map (λ space. space.tree.told) spaces.items ≡ map (λ tree. tree.told) trees.entry.items) }
 {
     let site = Site {
         alloc,
@@ -153,15 +202,15 @@ pub(crate) fn spaces_of<'a>(
         stage: STAGE,
     };
     let mut spaces: Vec<Space<'a>> = Vec::new(alloc);
-    let mut rest = plan.left.as_slice();
-    let mut number = 1_usize;
+    let (mut rest, first) = (plan.left.as_slice(), first_rows(trees.as_slice()));
+    let mut last = 0_usize;
     'trees: for tree in trees {
         let (here, others) = rest.split_at(tree.mounts().len().min(rest.len()));
         rest = others;
         let ways = site.ways_of(tree.mounts(), here)?;
-        let is_shown = is_made(ways.as_slice(), 0);
-        spaces.push(Space { number, tree, ways })?;
-        number = number.saturating_add(usize::from(is_shown));
+        let space = space_after(last, first, tree, ways);
+        last = space.last_number(last);
+        spaces.push(space)?;
     }
     Ok(spaces)
 }

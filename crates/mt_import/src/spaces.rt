@@ -1,7 +1,7 @@
 //! The namespaces that a script makes.
 ghost use Rattle.std.specs.Prelude.{◌≡◌, ◌++◌, nat_lt, OnOk};
 ghost use Rattle.std.specs.List.{flat_map};
-ghost use Rattle.mt_import.specs.Spaces.{mounts_made, copied_if, space_text, made_if_shown, AreMade};
+ghost use Rattle.mt_import.specs.Spaces.{mounts_made, copied_if, locked_if, space_text, made_if_shown, AreMade};
 
 use crate::covers::covers_of;
 use crate::groups::Groups;
@@ -36,23 +36,38 @@ fn copy_for(script: &mut Script, number: usize) -> Written
     Ok(())
 }
 
+/// Puts a less privileged copy in which all is locked in the place of the namespace of a number, if the locks are known.
+#[tactic(auto, using(crate::proofs::CommandLaws::locked_pushed))]
+fn lock_copy(script: &mut Script, has_locks: bool, original: &[u8]) -> Written
+    ensures { OnOk result (script.new ≡ script.old ++ locked_if has_locks original.now) }
+{
+    if !has_locks {
+        return Ok(());
+    }
+    command(script, &[b"copyns", original, b"less", b"lock"])?;
+    command(script, &[b"dropns", original])?;
+    Ok(())
+}
+
 /// Makes the namespace of a table.
 #[tactic(auto, unfolding(crate::specs::Spaces::space_text))]
 fn make_space(script: &mut Script, groups: &Groups<'_>, space: &Space<'_>) -> Written
     ensures { OnOk result (script.new ≡ script.old ++ space_text groups.now.all space.now) }
 {
     let alloc = script.alloc();
-    let digits = digits_of(alloc, space.number as u64)?;
+    let number = digits_of(alloc, space.number as u64)?;
+    let original = digits_of(alloc, space.original as u64)?;
     let site = Site {
         alloc,
         groups,
-        space: digits.as_slice(),
+        space: original.as_slice(),
         stage: STAGE,
     };
     let tree = &space.tree;
-    table_comment(script, tree.table, b" is namespace ", digits.as_slice())?;
-    copy_for(script, space.number)?;
+    table_comment(script, tree.table, b" is namespace ", number.as_slice())?;
+    copy_for(script, space.original)?;
     site.make_mounts(script, space)?;
+    lock_copy(script, space.has_locks(), original.as_slice())?;
     Ok(())
 }
 

@@ -2,7 +2,7 @@
 ghost use Rattle.std.specs.Prelude.{◌≡◌, ◌++◌, OnOk};
 ghost use Rattle.std.specs.List.{flat_map, AllByRecursion};
 ghost use Rattle.mt_import.specs.Script.{left_row_text, mount_comment};
-ghost use Rattle.mt_import.specs.Telling.{rows_text, tree_rows, mounts_text, rootless_text, space_comments, HasMakingOrder};
+ghost use Rattle.mt_import.specs.Telling.{rows_text, tree_rows, mounts_text, rootless_text, lockless_text, space_comments, HasMakingOrder};
 
 use crate::host_mount::HostMount;
 use crate::mount::Mount;
@@ -45,7 +45,7 @@ pub(crate) fn tell_tables(script: &mut Script, spaces: &[Space<'_>]) -> Done
 {
     'spaces: for space in spaces {
         let tree = &space.tree;
-        tell_rows(script, tree.table, tree.rows, tree.left.as_slice())?;
+        tell_rows(script, tree.table, tree.rows(), tree.left.as_slice())?;
     }
     Ok(())
 }
@@ -89,6 +89,17 @@ fn tell_rootless(script: &mut Script, is_shown: bool, table: usize) -> Done
     table_comment(script, table, b" has no root mount", b"")
 }
 
+/// Tells that the locks of a namespace are not known, if they are not.
+fn tell_lockless(script: &mut Script, has_unknown_locks: bool, table: usize) -> Done
+    ensures { OnOk result (script.new ≡ script.old ++ lockless_text has_unknown_locks table) }
+{
+    if !has_unknown_locks {
+        return Ok(());
+    }
+    let text = b" is of another user namespace, and its locks are not known";
+    table_comment(script, table, text, b"")
+}
+
 /// Tells what is not made of a table.
 fn tell_space(script: &mut Script, space: &Space<'_>) -> Done
     ensures tree { OnOk result (HasMakingOrder space.now) }
@@ -98,6 +109,7 @@ fn tell_space(script: &mut Script, space: &Space<'_>) -> Done
     let table = tree.table;
     tell_mounts(script, table, tree.mounts(), space.ways.as_slice())?;
     tell_rootless(script, space.is_shown(), table)?;
+    tell_lockless(script, space.has_unknown_locks(), table)?;
     Ok(())
 }
 

@@ -4,6 +4,7 @@ ghost use Rattle.std.specs.Prelude.{◌≡◌, [], IfOk, OnOk};
 ghost use Rattle.mt_import.specs.Tree.{is_waiting, IsNextMount, IsMakingOrder};
 
 use crate::host_mount::HostMount;
+use crate::host_space::HostSpace;
 use crate::mount::{Mount, Placed, mount_on, root_mount};
 use crate::path::{below_root, names};
 use crate::reason::{Reason, Why};
@@ -17,8 +18,8 @@ use std::marker::Model;
 pub(crate) struct Tree<'a> {
     /// The number of the table, from 1.
     pub(crate) table: usize,
-    /// Its rows.
-    pub(crate) rows: &'a [HostMount],
+    /// What is told of its namespace.
+    told: &'a HostSpace,
     /// The mounts, each after the one that it stands on.
     mounts: Vec<Mount<'a>>,
     /// Why rows have no mount: those for which this is `None` have one.
@@ -32,9 +33,9 @@ impl<'a> Model for Tree<'a> {
 
     ghost Value = { TreeView };
 
-    ghost view = { λ t. record { table = t.table; rows = t.rows.now; mounts = t.mounts.items; left = t.left.items } };
+    ghost view = { λ t. record { table = t.table; told = t.told.now; mounts = t.mounts.items; left = t.left.items } };
 
-    ghost invariant = { λ t. IsMakingOrder t.rows.now t.mounts.items t.left.items };
+    ghost invariant = { λ t. IsMakingOrder t.told.now.rows t.mounts.items t.left.items };
 }
 
 /// Whether the turn of a row has not come: it is in a ring, if it never does.
@@ -59,34 +60,50 @@ impl<'a> Tree<'a> {
     pub(crate) fn new(
         alloc: Global,
         table: usize,
-        rows: &'a [HostMount],
+        told: &'a HostSpace,
         why: Reason,
     ) -> Allocated<Tree<'a>>
-        ensures rows { IfOk result (λ tree. tree.rows ≡ rows.now) }
+        ensures told { IfOk result (λ tree. tree.told ≡ told.now) }
         ensures numbered { IfOk result (λ tree. tree.table ≡ table) }
         ensures bare { IfOk result (λ tree. tree.mounts ≡ []) }
     {
-        let left = vec![in alloc; Some(why); rows.len()]?;
+        let left = vec![in alloc; Some(why); told.rows.len()]?;
         Ok(Tree {
             table,
-            rows,
+            told,
             mounts: Vec::new(alloc),
             left,
             places: BTreeSet::new(alloc),
         })
     }
 
+    /// The rows of the table.
+    pub(crate) fn rows(&self) -> &'a [HostMount]
+        ensures { result.now ≡ self.now.told.rows }
+    {
+        let told = self.told;
+        told.rows.as_slice()
+    }
+
+    /// Whether the namespace of the table is foreign.
+    pub(crate) fn is_foreign(&self) -> bool
+        ensures { result ≡ self.now.told.is_foreign }
+    {
+        let told = self.told;
+        told.is_foreign
+    }
+
     /// The mounts, each after the one that it stands on.
     pub(crate) fn mounts(&self) -> &[Mount<'a>]
         ensures mounts { result.now ≡ self.now.mounts }
-        ensures kept { IsMakingOrder self.now.rows self.now.mounts self.now.left }
+        ensures kept { IsMakingOrder self.now.told.rows self.now.mounts self.now.left }
     {
         self.mounts.as_slice()
     }
 
     /// Leaves out a row whose turn has not come; does nothing if it has.
     fn leave_out(&mut self, number: usize, why: Reason)
-        ensures { self.new.rows ≡ self.old.rows }
+        ensures { self.new.told ≡ self.old.told }
     {
         if is_waiting(self.left.as_slice(), number) {
             self.left[number] = Some(why);
@@ -96,10 +113,10 @@ impl<'a> Tree<'a> {
     /// The mount of the row of a number, on the mount of a number, or as the root mount if it is the first; or why it is left
     /// out.
     fn placed(&self, number: usize, above: usize) -> Allocated<Placed<'a>>
-        ensures { IfOk result (λ placed. IfOk placed (λ mount. IsNextMount self.now.rows self.now.mounts number mount)) }
+        ensures { IfOk result (λ placed. IfOk placed (λ mount. IsNextMount self.now.told.rows self.now.mounts number mount)) }
     {
         let (alloc, here) = (*self.mounts.allocator(), self.mounts.len());
-        let Some(row) = self.rows.get(number) else {
+        let Some(row) = self.rows().get(number) else {
             return Ok(Err(Reason::Ring));
         };
         if here == 0 {
@@ -116,7 +133,7 @@ impl<'a> Tree<'a> {
     /// Adds the mount of the row of a number, on the mount of a number, or as the root mount if it is the first; or says why it is
     /// left out.
     fn place(&mut self, number: usize, on: On) -> Allocated<Why>
-        ensures { OnOk result (self.new.rows ≡ self.old.rows) }
+        ensures { OnOk result (self.new.told ≡ self.old.told) }
     {
         let above = match on {
             Ok(above) => above,
@@ -142,9 +159,9 @@ impl<'a> Tree<'a> {
     /// Takes the turn of a row, unless it has come before: its mount is added, or it is left out. Then those that stand
     /// on it wait for their turns, the last one first.
     fn take(&mut self, next: Waiting, below: &[Below], waiting: &mut Vec<Waiting>) -> Done
-        ensures { OnOk result (self.new.rows ≡ self.old.rows) }
+        ensures { OnOk result (self.new.told ≡ self.old.told) }
     {
-        let (here, rows, number) = (self.mounts.len(), self.rows, next.number);
+        let (here, rows, number) = (self.mounts.len(), self.rows(), next.number);
         let Some(row) = rows.get(number) else {
             return Ok(());
         };
@@ -160,9 +177,9 @@ impl<'a> Tree<'a> {
 
     /// Takes the turns of the rows that wait, the last one first, and of those that stand on these.
     fn grow(&mut self, below: &[Below], waiting: &mut Vec<Waiting>) -> Done
-        ensures { OnOk result (self.new.rows ≡ self.old.rows) }
+        ensures { OnOk result (self.new.told ≡ self.old.told) }
     {
-        'turns: for _step in 0..=self.rows.len() {
+        'turns: for _step in 0..=self.rows().len() {
             let Some(next) = waiting.pop() else {
                 return Ok(());
             };
@@ -225,9 +242,9 @@ fn wait_for(waiting: &mut Vec<Waiting>, rows: &[Below], on: On) -> Done {
 
 /// The numbers of the mounts that rows tell. Rows whose mount was told before are left out.
 fn ids_of(tree: &mut Tree<'_>) -> Allocated<BTreeSet<u64>>
-    ensures { OnOk result (tree.new.rows ≡ tree.old.rows) }
+    ensures { OnOk result (tree.new.told ≡ tree.old.told) }
 {
-    let (mut ids, rows) = (BTreeSet::new(*tree.mounts.allocator()), tree.rows);
+    let (mut ids, rows) = (BTreeSet::new(*tree.mounts.allocator()), tree.rows());
     'rows: for (number, row) in rows.iter().enumerate() {
         if !ids.insert(row.id)? {
             tree.leave_out(number, Reason::SecondLine);
@@ -262,7 +279,7 @@ fn sorted(
     } else {
         Reason::NoRootMount
     };
-    for (number, row) in tree.rows.iter().enumerate() {
+    for (number, row) in tree.rows().iter().enumerate() {
         if root == Some(number) || !is_waiting(tree.left.as_slice(), number) {
             continue;
         }
@@ -290,18 +307,18 @@ fn sorted(
 pub(crate) fn tree_of<'a>(
     alloc: Global,
     table: usize,
-    rows: &'a [HostMount],
+    told: &'a HostSpace,
     is_told: bool,
     refused: &Refused,
 ) -> Allocated<Tree<'a>>
-    ensures { IfOk result (λ tree. tree.rows ≡ rows.now) }
+    ensures { IfOk result (λ tree. tree.told ≡ told.now) }
 {
     if is_told {
-        return Tree::new(alloc, table, rows, Reason::SameTable);
+        return Tree::new(alloc, table, told, Reason::SameTable);
     }
-    let mut tree = Tree::new(alloc, table, rows, Reason::Ring)?;
+    let mut tree = Tree::new(alloc, table, told, Reason::Ring)?;
     let ids = ids_of(&mut tree)?;
-    let (root, mut waiting) = (root_of(&ids, rows), Vec::new(alloc));
+    let (root, mut waiting) = (root_of(&ids, told.rows.as_slice()), Vec::new(alloc));
     let below = sorted(&tree, &ids, root, refused, &mut waiting)?;
     if let Some(number) = root {
         waiting.push(Waiting { number, on: Ok(0) })?;

@@ -33,7 +33,7 @@ fn skip(words: &mut Words<'_>)
 }
 
 /// Takes the next word if it is this one, and answers whether it was.
-fn take_word(words: &mut Words<'_>, word: &[u8]) -> bool
+pub(crate) fn take_word(words: &mut Words<'_>, word: &[u8]) -> bool
     ensures here { result ≡ is_first_word word.now words.old }
     ensures taken { words.old ≡ word_if result word.now ++ words.new }
 {

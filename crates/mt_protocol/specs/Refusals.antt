@@ -5,9 +5,9 @@ use Rattle.std.specs.List.{find}
 use Rattle.std.specs.Str.{bytes_eq}
 use Rattle.mt_skel.specs.Fault.{name_of}
 use Rattle.mt_skel.specs.declared.fault.Fault.{Fault}
-use Rattle.mt_skel.specs.declared.fault.Fault.TheVariants.{TooLong, NoEntry, EntryExists, NotMountRoot, RootPlace, Unbindable, SharedParent, IntoItself, UnbindableInside, Busy, BadAttr, NoMemory, Detached, NotDetached}
+use Rattle.mt_skel.specs.declared.fault.Fault.TheVariants.{TooLong, NoEntry, EntryExists, NotMountRoot, RootPlace, Unbindable, SharedParent, IntoItself, UnbindableInside, Busy, BadAttr, NoMemory, Detached, NotDetached, Locked, LockedInside, LockedAttr}
 use Rattle.mt_protocol.specs.declared.errno.Errno.{Errno}
-use Rattle.mt_protocol.specs.declared.errno.Errno.TheVariants.{Ebusy, Eexist, Einval, Eloop, Enametoolong, Enoent, Enomem}
+use Rattle.mt_protocol.specs.declared.errno.Errno.TheVariants.{Ebusy, Eexist, Einval, Eloop, Enametoolong, Enoent, Enomem, Eperm}
 use Rattle.mt_protocol.specs.declared.refusal.TheConstants.{REFUSALS}
 
 -- the refusal of a name, if it is that of one; a law says that `REFUSALS` lacks none
@@ -30,4 +30,7 @@ errnos_of BadAttr = Einval ∷ []
 errnos_of NoMemory = Enomem ∷ []
 errnos_of Detached = Einval ∷ []
 errnos_of NotDetached = Einval ∷ []
+errnos_of Locked = Einval ∷ []
+errnos_of LockedInside = Einval ∷ Eperm ∷ []
+errnos_of LockedAttr = Eperm ∷ []
 errnos_of refusal = []

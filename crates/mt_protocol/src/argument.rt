@@ -17,6 +17,8 @@ pub enum Argument {
     Path,
     /// `less`, which may be left out.
     Less,
+    /// `lock`, which may be left out.
+    Lock,
     /// `rec`, which may be left out.
     Recursive,
     /// `set=` with the attributes of a new mount, which may be left out.
@@ -31,7 +33,11 @@ impl Argument {
         ensures { result ≡ is_optional self }
     {
         match self {
-            Argument::Less | Argument::Recursive | Argument::Attributes | Argument::Setting => true,
+            Argument::Less
+            | Argument::Lock
+            | Argument::Recursive
+            | Argument::Attributes
+            | Argument::Setting => true,
             Argument::Space
             | Argument::Scope
             | Argument::Count(_)

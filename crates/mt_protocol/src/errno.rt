@@ -122,7 +122,7 @@ impl Errno {
         match self {
             Errno::Eperm => &[
                 "no CAP_SYS_ADMIN in the user namespace that owns the mount namespace",
-                "a locked mount, or an attribute that is locked with it",
+                "a new proc or sysfs where locked mounts cover parts of those that are there",
             ],
             Errno::Ebusy => &[
                 "an open file, a working directory or a swap file on it: fuser -vm PATH",
@@ -130,7 +130,6 @@ impl Errno {
                 "a remount with ro while files are open for writing",
             ],
             Errno::Einval => &[
-                "a locked mount",
                 "a filesystem that cannot be read, or is of another type: dmesg says more",
                 "the file of a mount namespace that would be bound into itself",
             ],

@@ -17,6 +17,8 @@ pub enum Form {
     Place,
     /// `ok`, a count and a number, and as many rows as the count says.
     Table,
+    /// `ok` and a count, and as many lines as it says, of mounts with what is locked of them.
+    Locks,
     /// `ok` and a count, and as many lines as it says, of namespaces with their rows.
     Opening,
     /// `ok` and a count, and as many lines as it says, of posts.

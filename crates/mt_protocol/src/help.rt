@@ -1,6 +1,7 @@
 //! The lines of a session in words, for the helps of programs.
 
-use crate::verb::{LineRow, VERBS};
+use crate::line_row::LineRow;
+use crate::verb::VERBS;
 use std::alloc::{AllocError, Global};
 
 /// The longest usage that has its sentence beside it.

@@ -7,13 +7,13 @@ ghost use Rattle.mt_protocol.specs.Linux.{errnos_in};
 ghost use Rattle.mt_protocol.specs.Refusals.{refusal_named, errnos_of};
 
 use crate::errno::Errno;
-use crate::errno::Errno::{Ebusy, Eexist, Einval, Eloop, Enametoolong, Enoent, Enomem};
+use crate::errno::Errno::{Ebusy, Eexist, Einval, Eloop, Enametoolong, Enoent, Enomem, Eperm};
 use crate::refusal::InLinux::{Errors, Nothing};
 use mt_skel::fault::Fault;
 use std::marker::Model;
 
 /// Every refusal of a server, in the order of the pages.
-pub const REFUSALS: [Fault; 26] = [
+pub const REFUSALS: [Fault; 29] = [
     Fault::BadLine,
     Fault::TooLong,
     Fault::BadPath,
@@ -40,6 +40,9 @@ pub const REFUSALS: [Fault; 26] = [
     Fault::NoMemory,
     Fault::Detached,
     Fault::NotDetached,
+    Fault::Locked,
+    Fault::LockedInside,
+    Fault::LockedAttr,
 ];
 
 /// A case in which Linux has an error in the place of a refusal: the error, and the calls that have it.
@@ -322,6 +325,39 @@ pub fn refusal_row(refusal: Fault) -> RefusalRow
             }]),
             "the number that opentree or newtree answered",
             "opentree NS / rec, then movetree of the tree",
+        ),
+        Fault::Locked => row(
+            "The mount is locked on its place.",
+            Errors(&[Case {
+                errno: Einval,
+                calls: "mount(2) with MS_MOVE, umount2(2) or pivot_root(2)",
+            }]),
+            "locks NS, which lists what is locked",
+            "the same line in the namespace that it came from, or an rbind of it, which can be moved",
+        ),
+        Fault::LockedInside => row(
+            "A copy would leave out a mount that is locked where it stands.",
+            Errors(&[
+                Case {
+                    errno: Einval,
+                    calls: "mount(2) with MS_BIND, or open_tree(2)",
+                },
+                Case {
+                    errno: Eperm,
+                    calls: "mount(2) with MS_BIND and MS_REC, or open_tree(2) with AT_RECURSIVE",
+                },
+            ]),
+            "the mounts on the source, hidden ones too, and locks NS",
+            "rbind, or opentree NS PATH rec, which takes them along",
+        ),
+        Fault::LockedAttr => row(
+            "An attribute that is locked would change.",
+            Errors(&[Case {
+                errno: Eperm,
+                calls: "mount_setattr(2)",
+            }]),
+            "locks NS, which lists what is locked",
+            "the same line without what is locked",
         ),
     }
 }

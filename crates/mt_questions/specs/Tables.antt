@@ -7,10 +7,12 @@ use Rattle.mt_import.specs.Reading.{ToldMount}
 use Rattle.mt_reach.specs.declared.row.SeenRow.{SeenRow}
 use Rattle.mt_questions.specs.declared.table.NamedSpace.{NamedSpace}
 
--- what people call a namespace, and what the lines of its table tell, in their order
+-- what people call a namespace, what the lines of its table tell, in their order, and whether its user namespace is another one than that of
+-- the first table (user_namespaces(7))
 pub record ToldTable : Type 0 where
   pub name : List ℕ
   pub rows : List ToldMount
+  pub is_foreign : Bool
 
 -- the rows of all tables by rising ID, the namespaces in their order, and whether none of the machine is missing
 pub record SeenView : Type 0 where

@@ -20,6 +20,8 @@ pub struct NamedTable {
     pub name: Vec<u8>,
     /// What its lines tell, in their order.
     pub rows: Vec<HostMount>,
+    /// Whether its namespace is foreign: its user namespace is another one than that of the first table (user_namespaces(7)).
+    pub is_foreign: bool,
 }
 
 impl Model for NamedTable {
@@ -27,7 +29,7 @@ impl Model for NamedTable {
 
     ghost Value = { ToldTable };
 
-    ghost view = { λ t. record { name = t.name.items; rows = t.rows.items } };
+    ghost view = { λ t. record { name = t.name.items; rows = t.rows.items; is_foreign = t.is_foreign } };
 }
 
 /// A namespace, and what people call it.

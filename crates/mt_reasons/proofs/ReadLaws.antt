@@ -8,7 +8,7 @@ use Rattle.mt_skel.specs.Outcome.{refuse_if, first_fault}
 use Rattle.mt_lines.specs.Words.{words}
 use Rattle.mt_protocol.specs.Verbs.{verb_of, verb_arguments, first_of}
 use Rattle.mt_protocol.specs.declared.argument.Argument.{Argument}
-use Rattle.mt_protocol.specs.declared.argument.Argument.TheVariants.{Space, Scope, Count, Label, Path, Less, Recursive, Attributes, Setting}
+use Rattle.mt_protocol.specs.declared.argument.Argument.TheVariants.{Space, Scope, Count, Label, Path, Less, Lock, Recursive, Attributes, Setting}
 use Rattle.mt_protocol.specs.declared.verb.Verb.{Verb}
 use Rattle.mt_protocol.specs.declared.verb.Verb.TheVariants as verb
 use Rattle.mt_requests.specs.Options.{option_keys, is_repeated, change_of}

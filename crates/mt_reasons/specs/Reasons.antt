@@ -8,7 +8,7 @@ use Rattle.mt_skel.specs.Escapes.{unescaped}
 use Rattle.mt_lines.specs.Words.{words, number_in_text}
 use Rattle.mt_protocol.specs.Verbs.{verb_of, verb_arguments, first_of}
 use Rattle.mt_protocol.specs.declared.argument.Argument.{Argument}
-use Rattle.mt_protocol.specs.declared.argument.Argument.TheVariants.{Space, Scope, Count, Label, Path, Less, Recursive, Attributes, Setting}
+use Rattle.mt_protocol.specs.declared.argument.Argument.TheVariants.{Space, Scope, Count, Label, Path, Less, Lock, Recursive, Attributes, Setting}
 use Rattle.mt_protocol.specs.declared.verb.Verb.{Verb}
 use Rattle.mt_protocol.specs.declared.verb.Verb.TheVariants.{Setattr}
 use Rattle.mt_requests.specs.declared.request.Request.{Request}
@@ -78,7 +78,7 @@ IsWrongAttributes word (reason.SetWord told) = (has_key (codes "set=") word ≡ 
 IsWrongAttributes word reason = ⊥
 
 -- What is told of a word as an argument is so: it is no number, neither one nor `all`, or none from 1 to `most`; a wrong text; not `less`,
--- or not `rec`; wrong attributes; or a wrong option.
+-- not `lock`, or not `rec`; wrong attributes; or a wrong option.
 abbrev pub IsWrong : Argument → List ℕ → Reason → Type 0
 IsWrong Space word (reason.Number told) = (told.now ≡ word) × (number_in_text word ≡ None)
 IsWrong Scope word (reason.Scope told) = (told.now ≡ word) × (number_in_text word ≡ None) × (bytes_eq word (codes "all") ≡ false)
@@ -86,6 +86,7 @@ IsWrong (Count most) word (reason.Range told bound) = (told.now ≡ word) × (bo
 IsWrong Label word reason = IsWrongText word reason
 IsWrong Path word reason = IsWrongText word reason
 IsWrong Less word (reason.Less told) = (told.now ≡ word) × (bytes_eq word (codes "less") ≡ false)
+IsWrong Lock word (reason.Lock told) = (told.now ≡ word) × (bytes_eq word (codes "lock") ≡ false)
 IsWrong Recursive word (reason.Recursive told) = (told.now ≡ word) × (bytes_eq word (codes "rec") ≡ false)
 IsWrong Attributes word reason = IsWrongAttributes word reason
 IsWrong Setting word reason = IsWrongOption word reason

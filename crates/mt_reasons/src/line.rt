@@ -101,6 +101,17 @@ fn less_reason(word: &[u8]) -> Option<Reason<'_>>
     }
 }
 
+/// What is wrong with a word that stands for `lock`.
+fn lock_reason(word: &[u8]) -> Option<Reason<'_>>
+    ensures { Judges arguments.Lock word.now result }
+{
+    if word == b"lock".as_slice() {
+        None
+    } else {
+        Some(Reason::Lock { word })
+    }
+}
+
 /// What is wrong with a word that stands for `rec`.
 fn recursive_reason(word: &[u8]) -> Option<Reason<'_>>
     ensures { Judges arguments.Recursive word.now result }
@@ -124,6 +135,7 @@ fn word_reason(argument: Argument, word: &[u8]) -> Option<Reason<'_>>
         Argument::Count(most) => count_reason(word, most),
         Argument::Label | Argument::Path => text_reason(word),
         Argument::Less => less_reason(word),
+        Argument::Lock => lock_reason(word),
         Argument::Recursive => recursive_reason(word),
         Argument::Attributes => attributes_reason(word),
         Argument::Setting => option_reason(word),

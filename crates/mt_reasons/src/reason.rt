@@ -52,6 +52,10 @@ pub enum Reason<'a> {
     Less {
         word: &'a [u8],
     },
+    /// Another word stands where `lock` may stand.
+    Lock {
+        word: &'a [u8],
+    },
     /// Another word stands where `rec` may stand.
     Recursive {
         word: &'a [u8],
@@ -151,6 +155,7 @@ impl<'a> Reason<'a> {
                 Shown(*word)
             ),
             Reason::Less { word } => { write!(f, "{}: only less may stand there", Shown(*word)) }
+            Reason::Lock { word } => { write!(f, "{}: only lock may stand there", Shown(*word)) }
             Reason::Recursive { word } => {
                 write!(f, "{}: only rec may stand there", Shown(*word))
             }

@@ -8,7 +8,7 @@ use Rattle.mt_refused.specs.declared.asked.Which.TheVariants.{First, Second}
 
 -- its namespace, in which its paths are looked up, if it has one
 abbrev pub asked_space : Command → Option ℕ
-asked_space (command.CopySpace n less) = Some n
+asked_space (command.CopySpace n privilege) = Some n
 asked_space (command.DropSpace n) = Some n
 asked_space (command.Mount n fs path) = Some n
 asked_space (command.MountWith n fs path set) = Some n
@@ -76,6 +76,13 @@ takes_mounts c = false
 abbrev pub is_set : Command → Bool
 is_set (command.SetAttr n path change) = true
 is_set c = false
+
+-- it is of a whole tree
+abbrev pub is_of_tree : Command → Bool
+is_of_tree (command.Bind n src dst recursive) = recursive
+is_of_tree (command.OpenTree n path recursive) = recursive
+is_of_tree (command.SetAttr n path change) = change.recursive
+is_of_tree c = false
 
 -- one of two names
 abbrev pub either : Which → List ℕ → List ℕ → List ℕ

@@ -72,6 +72,17 @@ module _ (rows : List SeenRow) (c : Command) where
   abbrev pub busy : Option Hindrance
   busy = option_and_then (λ on. if_any (seen_children rows on) (hindrance.Busy on)) (end_at rows c First)
 
+  -- `Locked`, `LockedInside`, `LockedAttr`: what came with a copy into another user namespace is locked, of which no row tells
+  -- (mount_namespaces(7), restrictions on mount namespaces)
+  abbrev pub locked : Option Hindrance
+  locked = option_map (λ i. hindrance.Locked i) (end_at rows c First)
+
+  abbrev pub locked_inside : Option Hindrance
+  locked_inside = option_map (λ on. hindrance.LockedInside on) (end_at rows c First)
+
+  abbrev pub locked_attr : Option Hindrance
+  locked_attr = option_map (λ i. hindrance.LockedAttr i) (end_at rows c First)
+
 -- `IntoItself` of a move: it would stand on itself, or on a mount below it (mount(2), MS_MOVE; move_mount(2))
 abbrev pub into_itself_met : List SeenRow → ℕ → ℕ → Option Hindrance
 into_itself_met rows tree onto = if_any (refusals.into_itself rows tree onto) (hindrance.IntoItself tree onto)
@@ -101,4 +112,7 @@ hindrance_of rows c fault.IntoItself = tree_onto rows c
 hindrance_of rows c fault.UnbindableInside = unbindable_inside_met rows c
 hindrance_of rows c fault.Busy = busy rows c
 hindrance_of rows c fault.BadAttr = clash c
+hindrance_of rows c fault.Locked = locked rows c
+hindrance_of rows c fault.LockedInside = locked_inside rows c
+hindrance_of rows c fault.LockedAttr = locked_attr rows c
 hindrance_of rows c refusal = None

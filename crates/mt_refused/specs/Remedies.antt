@@ -2,17 +2,27 @@
 -- A word with no source is this project's rule.
 use Rattle.std.specs.Prelude.{ℕ, Bool, false, ◌==◌, cond, not, ◌&&◌, ◌||◌, List, [], ◌∷◌, ◌++◌, Option, Some, None, is_none, codes, decimal}
 use Rattle.std.specs.Option.{option_map_or}
+use Rattle.mt_book.specs.declared.command.Command.{Command}
+use Rattle.mt_book.specs.declared.command.Command.TheVariants as command
 use Rattle.mt_reach.specs.declared.row.SeenRow.{SeenRow}
 use Rattle.mt_reach.specs.Rows.{seen_at}
 use Rattle.mt_reach.specs.Tree.{seen_parent_row}
 use Rattle.mt_reach.specs.Walking.{mount_in_front}
 use Rattle.mt_reach.specs.Refusals as refusals
-use Rattle.mt_refused.specs.declared.asked.Which.TheVariants.{First}
+use Rattle.mt_refused.specs.declared.asked.Which.TheVariants.{First, Second}
 use Rattle.mt_refused.specs.declared.hindrance.Hindrance.{Hindrance}
 use Rattle.mt_refused.specs.declared.hindrance.Hindrance.TheVariants as hindrance
-use Rattle.mt_refused.specs.Asked.{takes_mounts, is_set}
+use Rattle.mt_refused.specs.Asked.{takes_mounts, is_set, is_of_tree}
 use Rattle.mt_refused.specs.Pages.{PageView}
 use Rattle.mt_refused.specs.Parts.{all_texts, point_text, mount_told, asked_text}
+
+-- where a mount is locked on its place: what one mounts oneself is not (mount_namespaces(7), restrictions on mount namespaces)
+abbrev pub leave_help : List ℕ
+leave_help = codes "  to change that: leave it, or mount over it; what is mounted in this namespace itself can go\n"
+
+-- where its attributes are locked
+abbrev pub keep_help : List ℕ
+keep_help = codes "  to change that: keep ro, nosuid, nodev and noexec where they are set, and the access times\n"
 
 -- the mount of a list of one
 abbrev pub only_of : List ℕ → Option ℕ
@@ -99,6 +109,16 @@ module _ (v : PageView) where
   abbrev pub unshared_help : ℕ → List ℕ
   unshared_help on = private_help (codes " (or prop=slave, which still gets what the others mount)") on
 
+  -- a copy with all below it leaves out no mount but unbindable ones (`sharedsubtree`, rbind semantics)
+  abbrev pub whole_remedy : Command → List ℕ
+  whole_remedy (command.Bind n src dst recursive) =
+      all_texts (codes "  to change that: rbind " ∷ decimal n ∷ codes " " ∷ asked_text v First ∷ codes " " ∷ asked_text v Second ∷ codes " has all below it too\n" ∷ [])
+  whole_remedy (command.OpenTree n path recursive) = all_texts (codes "  to change that: opentree " ∷ decimal n ∷ codes " " ∷ asked_text v First ∷ codes " rec has all below it too\n" ∷ [])
+  whole_remedy c = []
+
+  abbrev pub whole_help : List ℕ
+  whole_help = cond (not (is_of_tree v.command)) (whole_remedy v.command) (codes "  to change that: setattr prop=private of each unbindable one below it\n")
+
   -- what would change a refusal
   abbrev pub remedies : Hindrance → List ℕ
   remedies (hindrance.NoNamespace n) = []
@@ -113,3 +133,6 @@ module _ (v : PageView) where
   remedies (hindrance.Busy on) = busy_help on
   remedies hindrance.TwoTimes = codes "  to change that: one access time\n"
   remedies hindrance.Clash = codes "  to change that: one access time, with clr=atime\n"
+  remedies (hindrance.Locked i) = leave_help
+  remedies (hindrance.LockedInside on) = whole_help
+  remedies (hindrance.LockedAttr i) = keep_help

@@ -7,6 +7,7 @@ use Rattle.mt_refused.specs.declared.asked.Which.{Which}
 use Rattle.mt_refused.specs.declared.asked.Which.TheVariants.{First, Second}
 use Rattle.mt_refused.specs.declared.hindrance.Hindrance.{Hindrance}
 use Rattle.mt_refused.specs.declared.hindrance.Hindrance.TheVariants as hindrance
+use Rattle.mt_refused.specs.Asked.{is_of_tree}
 use Rattle.mt_refused.specs.Pages.{PageView}
 use Rattle.mt_refused.specs.Parts.{all_texts, counted_text, mount_told, group_text, called_text}
 
@@ -73,6 +74,24 @@ module _ (v : PageView) where
   abbrev pub busy_words : ℕ → List ℕ
   busy_words on = busy_words_of on (length (seen_children v.rows on)) (length (refusals.tree_below v.rows on))
 
+  -- a mount came with a copy into another user namespace (mount_namespaces(7), restrictions on mount namespaces): it is locked on its place
+  abbrev pub locked_words : ℕ → List ℕ
+  locked_words i = all_texts (called_text v First ∷ codes " is " ∷ mount_told v i ∷ codes ", which is locked on its place" ∷ [])
+
+  -- or one below it is, which would be left out
+  abbrev pub locked_inside_words : ℕ → List ℕ
+  locked_inside_words on = all_texts (called_text v First ∷ codes " is on " ∷ mount_told v on ∷ codes ", and a mount below that is locked on its place would be left out" ∷ [])
+
+  -- what a path leads to, and what is said of that
+  abbrev pub led_words : ℕ → List ℕ → List ℕ
+  led_words i said = all_texts (called_text v First ∷ codes " is " ∷ mount_told v i ∷ said ∷ [])
+
+  -- or its attributes are, or those of a mount of its tree
+  abbrev pub locked_attr_words : ℕ → List ℕ
+  locked_attr_words i =
+      cond (is_of_tree v.command) (led_words i (codes ", in the tree of which an attribute is locked that would change"))
+      (led_words i (codes ", of which an attribute is locked that would change"))
+
   -- what is in the way
   abbrev pub sentence : Hindrance → List ℕ
   sentence (hindrance.NoNamespace n) = no_namespace_words n
@@ -87,3 +106,6 @@ module _ (v : PageView) where
   sentence (hindrance.Busy on) = busy_words on
   sentence hindrance.TwoTimes = two_times_words
   sentence hindrance.Clash = clash_words
+  sentence (hindrance.Locked i) = locked_words i
+  sentence (hindrance.LockedInside on) = locked_inside_words on
+  sentence (hindrance.LockedAttr i) = locked_attr_words i

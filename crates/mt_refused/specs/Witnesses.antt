@@ -62,3 +62,6 @@ witnesses rows c (hindrance.UnbindableInside tree onto) = unbindable_onto rows t
 witnesses rows c (hindrance.Busy on) = seen_children rows on
 witnesses rows c hindrance.TwoTimes = []
 witnesses rows c hindrance.Clash = []
+witnesses rows c (hindrance.Locked i) = i ∷ []
+witnesses rows c (hindrance.LockedInside on) = on ∷ below_path rows c on
+witnesses rows c (hindrance.LockedAttr i) = i ∷ []

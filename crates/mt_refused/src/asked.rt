@@ -1,6 +1,6 @@
 //! The namespace and the paths of a command.
 ghost use Rattle.std.specs.Prelude.{◌≡◌, None, Some, MatchOption};
-ghost use Rattle.mt_refused.specs.Asked.{asked_space, asked_tree, first_path, second_path, asked_path, copies_mounts, is_pivot, is_detach, takes_mounts, is_set, either, path_name};
+ghost use Rattle.mt_refused.specs.Asked.{asked_space, asked_tree, first_path, second_path, asked_path, copies_mounts, is_pivot, is_detach, takes_mounts, is_set, is_of_tree, either, path_name};
 
 use mt_book::command::Command;
 use mt_mounts::mount::SpaceId;
@@ -135,6 +135,18 @@ pub(crate) fn is_set(command: &Command) -> bool
 {
     match command {
         Command::SetAttr { .. } => true,
+        _ => false,
+    }
+}
+
+/// Whether it is of a whole tree: with `rec`, or as an `rbind`.
+pub(crate) fn is_of_tree(command: &Command) -> bool
+    ensures { result ≡ is_of_tree command.now }
+{
+    match command {
+        Command::Bind { recursive, .. } => *recursive,
+        Command::OpenTree { recursive, .. } => *recursive,
+        Command::SetAttr { change, .. } => change.recursive,
         _ => false,
     }
 }

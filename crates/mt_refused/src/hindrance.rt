@@ -1,7 +1,7 @@
 //! Why a command is refused, by the rows of the tables alone.
 ghost use Rattle.std.specs.Prelude.{◌≡◌, IfOk, IsOkUnless};
 ghost use Rattle.std.specs.Option.{option_and_then};
-ghost use Rattle.mt_refused.specs.Hindrances.{if_any, lacks_root, no_namespace, off_root_met, root_place_met_at, first_root_place, root_place_met, unbindable, parent_of_first, place_of_second, shared, into_itself_met, left_outside_met, tree_onto, unbindable_inside_met, busy, clash, hindrance_of};
+ghost use Rattle.mt_refused.specs.Hindrances.{if_any, lacks_root, no_namespace, off_root_met, root_place_met_at, first_root_place, root_place_met, unbindable, parent_of_first, place_of_second, shared, into_itself_met, left_outside_met, tree_onto, unbindable_inside_met, busy, clash, locked, locked_inside, locked_attr, hindrance_of};
 ghost use Rattle.mt_setattr.specs.Change.{clashes};
 
 use crate::asked::{Which, asked_space, asked_tree, copies_mounts, is_pivot};
@@ -42,6 +42,12 @@ pub enum Hindrance {
     TwoTimes,
     /// `BadAttr` of a change: two access times are set, or one without `clr=atime`.
     Clash,
+    /// `Locked`: this mount is locked on its place.
+    Locked(MountId),
+    /// `LockedInside`: the source is on this mount, and one that is locked on it would be left out.
+    LockedInside(MountId),
+    /// `LockedAttr`: of this mount, or in its tree, an attribute is locked that would change.
+    LockedAttr(MountId),
 }
 
 /// A hindrance, where it has mounts.
@@ -305,9 +311,50 @@ fn clash(command: &Command) -> Option<Hindrance>
     }
 }
 
+/// Why the mount of the first path is not taken from its place. Refused as `NoMemory` alone.
+fn locked(alloc: Global, rows: &SeenRows, command: &Command) -> Result<Option<Hindrance>, Fault>
+    ensures why { IfOk result (λ why. why ≡ locked rows.now command.now) }
+    ensures memory { IsOkUnless result Fault.NoMemory }
+{
+    match end_at(alloc, rows, command, Which::First)? {
+        Some(mount) => Ok(Some(Hindrance::Locked(mount))),
+        None => Ok(None),
+    }
+}
+
+/// Why the mount of the first path is not copied so. Refused as `NoMemory` alone.
+fn locked_inside(
+    alloc: Global,
+    rows: &SeenRows,
+    command: &Command,
+) -> Result<Option<Hindrance>, Fault>
+    ensures why { IfOk result (λ why. why ≡ locked_inside rows.now command.now) }
+    ensures memory { IsOkUnless result Fault.NoMemory }
+{
+    match end_at(alloc, rows, command, Which::First)? {
+        Some(on) => Ok(Some(Hindrance::LockedInside(on))),
+        None => Ok(None),
+    }
+}
+
+/// Why the attributes of the mount of the first path do not change so. Refused as `NoMemory` alone.
+fn locked_attr(
+    alloc: Global,
+    rows: &SeenRows,
+    command: &Command,
+) -> Result<Option<Hindrance>, Fault>
+    ensures why { IfOk result (λ why. why ≡ locked_attr rows.now command.now) }
+    ensures memory { IsOkUnless result Fault.NoMemory }
+{
+    match end_at(alloc, rows, command, Which::First)? {
+        Some(mount) => Ok(Some(Hindrance::LockedAttr(mount))),
+        None => Ok(None),
+    }
+}
+
 /// Why a command is refused so, by the rows of all tables before it; `None` where the rows say no such thing of it, as when
 /// somebody else has changed them in between, and of the refusals that are not of mounts. Every directory is taken to be there.
-/// Refused as `NoMemory` alone.
+/// No row tells what is locked: of a refusal for a lock the mount is answered that the command names. Refused as `NoMemory` alone.
 pub fn hindrance_of(
     alloc: Global,
     rows: &SeenRows,
@@ -327,6 +374,9 @@ pub fn hindrance_of(
         Fault::UnbindableInside => unbindable_inside_met(alloc, rows, command),
         Fault::Busy => busy(alloc, rows, command),
         Fault::BadAttr => Ok(clash(command)),
+        Fault::Locked => locked(alloc, rows, command),
+        Fault::LockedInside => locked_inside(alloc, rows, command),
+        Fault::LockedAttr => locked_attr(alloc, rows, command),
         _ => Ok(None),
     }
 }

@@ -6,6 +6,7 @@ ghost use Rattle.mt_refused.specs.Remedies.{only_of, is_front, setattr_remedy, u
 
 use crate::asked::{Which, is_set, takes_mounts};
 use crate::hindrance::Hindrance;
+use crate::locked::{push_keep, push_leave, push_whole};
 use crate::page::Page;
 use crate::part::{Part, push_parts};
 use mt_mounts::mount::{MountId, SpaceId};
@@ -357,5 +358,8 @@ pub(crate) fn push_remedies(
         Hindrance::Clash => {
             Ok(text.extend_from_slice(b"  to change that: one access time, with clr=atime\n")?)
         }
+        Hindrance::Locked(_mount) => Ok(push_leave(text)?),
+        Hindrance::LockedInside(_on) => Ok(push_whole(text, page)?),
+        Hindrance::LockedAttr(_mount) => Ok(push_keep(text)?),
     }
 }

@@ -4,6 +4,7 @@ ghost use Rattle.mt_refused.specs.Sentences.{no_namespace_words, off_root_words,
 
 use crate::asked::Which;
 use crate::hindrance::Hindrance;
+use crate::locked::{push_locked, push_locked_attr, push_locked_inside};
 use crate::page::Page;
 use crate::part::{Part, push_parts};
 use mt_mounts::mount::{MountId, SpaceId};
@@ -336,5 +337,8 @@ pub(crate) fn push_sentence(
         Hindrance::Busy(on) => push_busy(text, page, on),
         Hindrance::TwoTimes => Ok(push_two_times(text)?),
         Hindrance::Clash => Ok(push_clash(text)?),
+        Hindrance::Locked(mount) => Ok(push_locked(text, page, mount)?),
+        Hindrance::LockedInside(on) => Ok(push_locked_inside(text, page, on)?),
+        Hindrance::LockedAttr(mount) => Ok(push_locked_attr(text, page, mount)?),
     }
 }

@@ -152,5 +152,8 @@ pub(crate) fn witnesses(
         Hindrance::UnbindableInside { tree, onto } => unbindable_onto(rows, tree, onto),
         Hindrance::Busy(on) => refusals::standing_on(rows, on),
         Hindrance::TwoTimes | Hindrance::Clash => Ok(Vec::new(alloc)),
+        Hindrance::Locked(mount) => Ok(one(alloc, mount)?),
+        Hindrance::LockedInside(on) => below_path(alloc, rows, command, on),
+        Hindrance::LockedAttr(mount) => Ok(one(alloc, mount)?),
     }
 }

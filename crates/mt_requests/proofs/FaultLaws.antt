@@ -5,7 +5,7 @@ use Rattle.mt_skel.specs.declared.fault.Fault.{Fault}
 use Rattle.mt_skel.specs.declared.fault.Fault.TheVariants.{BadLine}
 use Rattle.mt_protocol.specs.Verbs.{is_optional}
 use Rattle.mt_protocol.specs.declared.argument.Argument.{Argument}
-use Rattle.mt_protocol.specs.declared.argument.Argument.TheVariants.{Space, Scope, Count, Label, Path, Less, Recursive, Attributes, Setting}
+use Rattle.mt_protocol.specs.declared.argument.Argument.TheVariants.{Space, Scope, Count, Label, Path, Less, Lock, Recursive, Attributes, Setting}
 use Rattle.mt_requests.specs.Requests.{is_bad_line, is_too_long, prior_of_two, prior_fault, are_counted, word_faults, words_fault, AreTexts}
 
 -- none of these is a fault
@@ -50,6 +50,7 @@ optional_texts : (arguments : List Argument) → list_all is_optional arguments 
 optional_texts [] e = tt
 optional_texts (Setting ∷ arguments) e = tt
 optional_texts (Less ∷ arguments) e = optional_texts arguments e
+optional_texts (Lock ∷ arguments) e = optional_texts arguments e
 optional_texts (Recursive ∷ arguments) e = optional_texts arguments e
 optional_texts (Attributes ∷ arguments) e = optional_texts arguments e
 optional_texts (Label ∷ arguments) e = cc
@@ -65,6 +66,7 @@ texts_of (Setting ∷ arguments) (word ∷ words) e h = tt
 texts_of (Label ∷ arguments) (word ∷ words) e h = (h.0, texts_of arguments words e h.1)
 texts_of (Path ∷ arguments) (word ∷ words) e h = (h.0, texts_of arguments words e h.1)
 texts_of (Less ∷ arguments) (word ∷ words) e h = texts_of arguments words e h.1
+texts_of (Lock ∷ arguments) (word ∷ words) e h = texts_of arguments words e h.1
 texts_of (Recursive ∷ arguments) (word ∷ words) e h = texts_of arguments words e h.1
 texts_of (Attributes ∷ arguments) (word ∷ words) e h = texts_of arguments words e h.1
 texts_of (Space ∷ arguments) (word ∷ words) e h = texts_of arguments words e h.1

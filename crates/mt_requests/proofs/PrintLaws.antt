@@ -16,6 +16,7 @@ use Rattle.mt_protocol.specs.declared.verb.Verb.{Verb}
 use Rattle.mt_protocol.specs.declared.verb.Verb.TheVariants as verb
 use Rattle.mt_book.specs.declared.command.Command.{Command}
 use Rattle.mt_book.specs.declared.command.Command.TheVariants as command
+use Rattle.mt_book.specs.declared.command.Privilege.TheVariants as privilege
 use Rattle.mt_requests.specs.declared.request.Request.{Request}
 use Rattle.mt_requests.specs.declared.request.Request.TheVariants.{Run}
 use Rattle.mt_requests.specs.Requests.{command_verb, label_bytes, label_fault, path_names, path_fault, prior_of_two, prior_fault, bad_unless, number_said, attributes_said, change_said, second_of, third_of, options_behind, are_counted, word_faults, words_fault, request_with, read_by, by_words, request_of}
@@ -32,7 +33,7 @@ abbrev IsSaid : Command → Type 0
 IsSaid (command.MakeFs name kind source) = (is_label name ≡ true) × (is_label kind ≡ true) × (is_label source ≡ true)
 IsSaid (command.MakeDir fs path) = (is_label fs ≡ true) × IsGoodPath path
 IsSaid (command.NewSpace fs) = is_label fs ≡ true
-IsSaid (command.CopySpace n less) = n < 2 ^ 64
+IsSaid (command.CopySpace n privilege) = n < 2 ^ 64
 IsSaid (command.DropSpace n) = n < 2 ^ 64
 IsSaid (command.Mount n fs path) = (n < 2 ^ 64) × (is_label fs ≡ true) × IsGoodPath path
 IsSaid (command.MountWith n fs path set) = (n < 2 ^ 64) × (is_label fs ≡ true) × IsGoodPath path × (words_there (set_rows set) ≢ [])
@@ -140,19 +141,26 @@ said_back (command.NewSpace fs) h = record {
   fine = (label_fine fs h, tt);
   made = λ i. Run (command.NewSpace (bytes_back fs i));
 }
-said_back (command.CopySpace n true) h = record {
-  known = refl;
-  bare = with_word (codes "copyns") refl (with_number n h (with_word (codes "less") refl none_left));
-  counted = refl;
-  fine = (number_fine n h, (refl, tt));
-  made = λ i. Run (command.CopySpace (number_back n h i) true);
-}
-said_back (command.CopySpace n false) h = record {
+said_back (command.CopySpace n privilege.Same) h = record {
   known = refl;
   bare = with_word (codes "copyns") refl (with_number n h none_left);
   counted = refl;
   fine = (number_fine n h, tt);
-  made = λ i. Run (command.CopySpace (number_back n h i) false);
+  made = λ i. Run (command.CopySpace (number_back n h i) privilege.Same);
+}
+said_back (command.CopySpace n privilege.Less) h = record {
+  known = refl;
+  bare = with_word (codes "copyns") refl (with_number n h (with_word (codes "less") refl none_left));
+  counted = refl;
+  fine = (number_fine n h, (refl, tt));
+  made = λ i. Run (command.CopySpace (number_back n h i) privilege.Less);
+}
+said_back (command.CopySpace n privilege.LessLocked) h = record {
+  known = refl;
+  bare = with_word (codes "copyns") refl (with_number n h (with_word (codes "less") refl (with_word (codes "lock") refl none_left)));
+  counted = refl;
+  fine = (number_fine n h, (refl, (refl, tt)));
+  made = λ i. Run (command.CopySpace (number_back n h i) privilege.LessLocked);
 }
 said_back (command.DropSpace n) h = record {
   known = refl;

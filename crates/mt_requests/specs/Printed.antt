@@ -13,6 +13,8 @@ use Rattle.mt_setattr.specs.declared.change.SetWords.{SetWords}
 use Rattle.mt_setattr.specs.declared.change.ClrWords.{ClrWords}
 use Rattle.mt_protocol.specs.Verbs.{verb_word}
 use Rattle.mt_book.specs.declared.command.Command.{Command}
+use Rattle.mt_book.specs.declared.command.Privilege.{Privilege}
+use Rattle.mt_book.specs.declared.command.Privilege.TheVariants.{Same, Less, LessLocked}
 use Rattle.mt_book.specs.declared.command.Command.TheVariants.{MakeFs, MakeDir, NewSpace, CopySpace, DropSpace, Mount, MountWith, Bind, Move, Pivot, Unmount, Detach, SetAttr, OpenTree, NewTree, MoveTree}
 use Rattle.mt_requests.specs.declared.request.Request.TheVariants.{Run}
 use Rattle.mt_requests.specs.Requests.{command_verb, request_of}
@@ -79,12 +81,18 @@ said_prop (Some kind) = (codes "prop=" ++ kind_word kind) ∷ []
 abbrev pub change_options : Change → List (List ℕ)
 change_options c = word_if c.recursive (codes "rec") ++ (said_set c.set ++ (said_clr c.clr ++ said_prop c.prop))
 
+-- how a copy of a namespace stands to it
+abbrev pub privilege_words : Privilege → List (List ℕ)
+privilege_words Same = []
+privilege_words Less = codes "less" ∷ []
+privilege_words LessLocked = codes "less" ∷ codes "lock" ∷ []
+
 -- the words of a command behind its verb
 abbrev pub command_words : Command → List (List ℕ)
 command_words (MakeFs name kind source) = sent name ∷ sent kind ∷ sent source ∷ []
 command_words (MakeDir fs path) = sent fs ∷ sent_path path ∷ []
 command_words (NewSpace fs) = sent fs ∷ []
-command_words (CopySpace n less) = decimal n ∷ word_if less (codes "less")
+command_words (CopySpace n privilege) = decimal n ∷ privilege_words privilege
 command_words (DropSpace n) = decimal n ∷ []
 command_words (Mount n fs path) = decimal n ∷ sent fs ∷ sent_path path ∷ []
 command_words (MountWith n fs path set) = decimal n ∷ sent fs ∷ sent_path path ∷ said_set set

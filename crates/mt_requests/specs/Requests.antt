@@ -12,7 +12,7 @@ use Rattle.mt_skel.specs.Outcome.{refuse_if, first_fault}
 use Rattle.mt_lines.specs.Words.{pieces, words, number_in_text}
 use Rattle.mt_protocol.specs.Verbs.{verb_of, verb_arguments, first_of, is_optional, most_taken, most_followed}
 use Rattle.mt_protocol.specs.declared.argument.Argument.{Argument}
-use Rattle.mt_protocol.specs.declared.argument.Argument.TheVariants.{Space, Scope as Scoped, Count, Label, Path, Less, Recursive, Attributes, Setting}
+use Rattle.mt_protocol.specs.declared.argument.Argument.TheVariants.{Space, Scope as Scoped, Count, Label, Path, Less, Lock, Recursive, Attributes, Setting}
 use Rattle.mt_protocol.specs.declared.verb.Verb.{Verb}
 use Rattle.mt_protocol.specs.declared.verb.Verb.TheVariants as verb
 use Rattle.mt_events.specs.declared.opening.Scope.{Scope}
@@ -22,6 +22,8 @@ use Rattle.mt_setattr.specs.declared.change.SetWords.{SetWords}
 use Rattle.mt_requests.specs.Options.{nothing_set, no_change, attributes_of, change_of}
 use Rattle.mt_book.specs.declared.command.Command.{Command}
 use Rattle.mt_book.specs.declared.command.Command.TheVariants as command
+use Rattle.mt_book.specs.declared.command.Privilege.{Privilege}
+use Rattle.mt_book.specs.declared.command.Privilege.TheVariants as privilege
 use Rattle.mt_requests.specs.declared.request.Query.{Query}
 use Rattle.mt_requests.specs.declared.request.Query.TheVariants as query
 use Rattle.mt_requests.specs.declared.request.Request.{Request}
@@ -100,6 +102,7 @@ word_fault (Count most) word = bad_unless (is_some (count_of most word))
 word_fault Label word = label_fault word
 word_fault Path word = path_fault word
 word_fault Less word = bad_unless (bytes_eq word (codes "less"))
+word_fault Lock word = bad_unless (bytes_eq word (codes "lock"))
 word_fault Recursive word = bad_unless (bytes_eq word (codes "rec"))
 word_fault Attributes word = bad_unless (is_some (attributes_of word))
 word_fault Setting word = None
@@ -143,6 +146,10 @@ options_behind words = drop 1 (drop 1 words)
 abbrev pub third_of : List (List ℕ) → List ℕ
 third_of words = first_of (options_behind words)
 
+-- how a copy of a namespace stands to it, by the words `less` and `lock` where they stand
+abbrev pub privilege_said : List ℕ → List ℕ → Privilege
+privilege_said less lock = if bytes_eq lock (codes "lock") then privilege.LessLocked else (if bytes_eq less (codes "less") then privilege.Less else privilege.Same)
+
 -- a mount, with attributes where a word says them
 abbrev pub mount_said : ℕ → List ℕ → List (List ℕ) → List (List ℕ) → Command
 mount_said n fs path [] = command.Mount n fs path
@@ -153,7 +160,7 @@ abbrev pub request_with : Verb → List (List ℕ) → Request
 request_with verb.Mkfs w = request.Run (command.MakeFs (label_bytes (first_of w)) (label_bytes (second_of w)) (label_bytes (third_of w)))
 request_with verb.Mkdir w = request.Run (command.MakeDir (label_bytes (first_of w)) (path_names (second_of w)))
 request_with verb.Newns w = request.Run (command.NewSpace (label_bytes (first_of w)))
-request_with verb.Copyns w = request.Run (command.CopySpace (number_said (first_of w)) (bytes_eq (second_of w) (codes "less")))
+request_with verb.Copyns w = request.Run (command.CopySpace (number_said (first_of w)) (privilege_said (second_of w) (third_of w)))
 request_with verb.Dropns w = request.Run (command.DropSpace (number_said (first_of w)))
 request_with verb.Mount w = request.Run (mount_said (number_said (first_of w)) (label_bytes (second_of w)) (path_names (third_of w)) (drop 1 (options_behind w)))
 request_with verb.Bind w = request.Run (command.Bind (number_said (first_of w)) (path_names (second_of w)) (path_names (third_of w)) false)
@@ -167,6 +174,7 @@ request_with verb.Opentree w = request.Run (command.OpenTree (number_said (first
 request_with verb.Newtree w = request.Run (command.NewTree (label_bytes (first_of w)))
 request_with verb.Movetree w = request.Run (command.MoveTree (number_said (first_of w)) (number_said (second_of w)) (path_names (third_of w)))
 request_with verb.Show w = request.Ask (query.Show (number_said (first_of w)))
+request_with verb.Locks w = request.Ask (query.Locks (number_said (first_of w)))
 request_with verb.Find w = request.Ask (query.Find (number_said (first_of w)) (path_names (second_of w)))
 request_with verb.Journal w = request.Ask (query.Journal (number_said (first_of w)) (number_said (second_of w)))
 request_with verb.Watch w = request.Watch (scope_said (first_of w))
@@ -214,7 +222,7 @@ abbrev pub command_verb : Command → Verb
 command_verb (command.MakeFs name kind source) = verb.Mkfs
 command_verb (command.MakeDir fs path) = verb.Mkdir
 command_verb (command.NewSpace fs) = verb.Newns
-command_verb (command.CopySpace n less) = verb.Copyns
+command_verb (command.CopySpace n privilege) = verb.Copyns
 command_verb (command.DropSpace n) = verb.Dropns
 command_verb (command.Mount n fs path) = verb.Mount
 command_verb (command.MountWith n fs path set) = verb.Mount
@@ -230,6 +238,7 @@ command_verb (command.MoveTree tree n path) = verb.Movetree
 
 abbrev pub query_verb : Query → Verb
 query_verb (query.Show n) = verb.Show
+query_verb (query.Locks n) = verb.Locks
 query_verb (query.Find n path) = verb.Find
 query_verb (query.Journal from most) = verb.Journal
 

@@ -97,6 +97,7 @@ pub fn word_fault(argument: Argument, word: &[u8]) -> Option<Fault>
         Argument::Label => label_fault(word),
         Argument::Path => path_fault(word),
         Argument::Less => bad_unless(word == b"less".as_slice()),
+        Argument::Lock => bad_unless(word == b"lock".as_slice()),
         Argument::Recursive => bad_unless(word == b"rec".as_slice()),
         Argument::Attributes => bad_unless(attributes_of(word).is_some()),
         Argument::Setting => None,

@@ -3,10 +3,10 @@ ghost use Rattle.std.specs.Prelude.{◌≡◌, ◌++◌, ◌∷◌, [], codes, d
 ghost use Rattle.mt_info.specs.Building.{behind};
 ghost use Rattle.mt_info.specs.RowLine.{word_if};
 ghost use Rattle.mt_requests.specs.Requests.{command_verb};
-ghost use Rattle.mt_requests.specs.Printed.{sent_byte, sent, sent_path, said_set, change_options, command_words, line_of_command, commands_text};
+ghost use Rattle.mt_requests.specs.Printed.{sent_byte, sent, sent_path, said_set, change_options, privilege_words, command_words, line_of_command, commands_text};
 
 use crate::listing::{push_changes, push_set};
-use mt_book::command::Command;
+use mt_book::command::{Command, Privilege};
 use mt_info::print::push_number;
 use mt_mounts::mount::SpaceId;
 use mt_protocol::verb::Verb;
@@ -113,17 +113,23 @@ fn push_label_path(line: &mut Vec<u8>, fs: &Label, path: &Names) -> Result<(), A
     Ok(())
 }
 
-/// Appends a namespace, and a word if something holds.
-fn push_space_word(
-    line: &mut Vec<u8>,
-    space: SpaceId,
-    holds: bool,
-    word: &[u8],
-) -> Result<(), AllocError>
-    ensures { OnOk result (line.new.items ≡ line.old.items ++ behind 32 (decimal space ∷ word_if holds word.now)) }
+/// Appends how a copy of a namespace stands to it.
+fn push_privilege(line: &mut Vec<u8>, privilege: Privilege) -> Result<(), AllocError>
+    ensures { OnOk result (line.new.items ≡ line.old.items ++ behind 32 (privilege_words privilege)) }
+{
+    match privilege {
+        Privilege::Same => Ok(()),
+        Privilege::Less => line.extend_from_slice(b" less"),
+        Privilege::LessLocked => line.extend_from_slice(b" less lock"),
+    }
+}
+
+/// Appends a namespace, and how its copy stands to it.
+fn push_copy(line: &mut Vec<u8>, space: SpaceId, privilege: Privilege) -> Result<(), AllocError>
+    ensures { OnOk result (line.new.items ≡ line.old.items ++ behind 32 (decimal space ∷ privilege_words privilege)) }
 {
     push_space(line, space)?;
-    push_word_if(line, holds, word)?;
+    push_privilege(line, privilege)?;
     Ok(())
 }
 
@@ -230,7 +236,7 @@ fn push_words(line: &mut Vec<u8>, command: &Command) -> Result<(), AllocError>
         Command::MakeFs { name, kind, source } => push_labels(line, name, kind, source),
         Command::MakeDir { fs, path } => push_label_path(line, fs, path),
         Command::NewSpace { fs } => push_label(line, fs),
-        Command::CopySpace { space, less } => push_space_word(line, *space, *less, b"less"),
+        Command::CopySpace { space, privilege } => push_copy(line, *space, *privilege),
         Command::DropSpace { space } => push_space(line, *space),
         Command::Mount { space, fs, path } => push_mount(line, *space, fs, path),
         Command::MountWith {

@@ -1,14 +1,14 @@
 //! Requests, as lines say them.
 ghost use Rattle.std.specs.Prelude.{◌≡◌, None, IfOk, IsOkUnless, Ok};
 ghost use Rattle.mt_protocol.specs.Verbs.{verb_arguments};
-ghost use Rattle.mt_requests.specs.Requests.{ReadsAs, request_of, label_fault, label_bytes, path_fault, path_names, AreTexts, mount_said, request_with, read_by, HasRightCount};
+ghost use Rattle.mt_requests.specs.Requests.{ReadsAs, request_of, label_fault, label_bytes, path_fault, path_names, AreTexts, privilege_said, mount_said, request_with, read_by, HasRightCount};
 
 use crate::arguments::{
     attributes_said, change_said, next_word, number_said, scope_said, words_fault,
 };
 use crate::label::label_of;
 use crate::path::path_of;
-use mt_book::command::Command;
+use mt_book::command::{Command, Privilege};
 use mt_events::opening::Scope;
 use mt_lines::words::{Words, words};
 use mt_protocol::verb::Verb;
@@ -21,6 +21,8 @@ use std::alloc::Global;
 pub enum Query {
     /// `show NS` shows the table of a namespace.
     Show(u64),
+    /// `locks NS` lists what is locked in a namespace.
+    Locks(u64),
     /// `find NS PATH` says where a path ends in a namespace.
     Find { space: u64, path: Names },
     /// `journal FROM K` lists up to so many accepted commands, 1 to 1,024, from the one of a number on. The first has
@@ -47,6 +49,19 @@ pub enum Request {
     Quit,
     /// `stop` stops the server, and ends the session.
     Stop,
+}
+
+/// How a copy of a namespace stands to it, by the words `less` and `lock` where they stand.
+fn privilege_said(less: &[u8], lock: &[u8]) -> Privilege
+    ensures { result ≡ privilege_said less.now lock.now }
+{
+    if lock == b"lock".as_slice() {
+        Privilege::LessLocked
+    } else if less == b"less".as_slice() {
+        Privilege::Less
+    } else {
+        Privilege::Same
+    }
 }
 
 /// A mount of a filesystem, with attributes where a word behind the path says them. Refused as `NoMemory` alone.
@@ -102,7 +117,7 @@ fn request_with(alloc: Global, verb: Verb, words: Words<'_>) -> Result<Request, 
         })),
         Verb::Copyns => Ok(Request::Run(Command::CopySpace {
             space,
-            less: second == b"less".as_slice(),
+            privilege: privilege_said(second, third),
         })),
         Verb::Dropns => Ok(Request::Run(Command::DropSpace { space })),
         Verb::Mount => Ok(Request::Run(mount_said(alloc, space, second, third, words)?)),
@@ -155,6 +170,7 @@ fn request_with(alloc: Global, verb: Verb, words: Words<'_>) -> Result<Request, 
             path: path_of(alloc, third)?,
         })),
         Verb::Show => Ok(Request::Ask(Query::Show(space))),
+        Verb::Locks => Ok(Request::Ask(Query::Locks(space))),
         Verb::Find => Ok(Request::Ask(Query::Find {
             space,
             path: path_of(alloc, second)?,

@@ -16,8 +16,9 @@ use Rattle.mt_events.specs.Texts.{count_text, table_text, opening_text, posts_te
 use Rattle.mt_book.specs.declared.command.Command.{Command}
 use Rattle.mt_book.specs.declared.command.Command.TheVariants.{MakeFs, MakeDir, NewSpace, CopySpace, DropSpace, Mount, MountWith, Bind, Move, Pivot, Unmount, Detach, SetAttr, OpenTree, NewTree, MoveTree}
 use Rattle.mt_book.specs.declared.command.Reply.TheVariants.{Done, Number}
-use Rattle.mt_book.specs.Step.{with_skel, with_made_number, with_done, step, after}
-use Rattle.mt_book.specs.Book.{found_at}
+use Rattle.mt_locks.specs.Locks.{LocksView}
+use Rattle.mt_book.specs.Step.{with_skel, with_made_number, with_done, act, judged, guarded, step, after}
+use Rattle.mt_book.specs.Book.{found_at, locks_in}
 use Rattle.mt_book.specs.History.{space_number}
 use Rattle.mt_floor.specs.declared.watch.Phase.{Phase}
 use Rattle.mt_floor.specs.declared.watch.Phase.TheVariants.{Open as IsOpen, Lagged, Ended}
@@ -26,10 +27,10 @@ use Rattle.mt_floor.specs.Schedule.{FloorView, command_refusal, opening_refusal,
 use Rattle.mt_requests.specs.declared.request.Request.{Request}
 use Rattle.mt_requests.specs.declared.request.Request.TheVariants.{Run, Ask, Watch, Take, Follow, Close, Quit, Stop}
 use Rattle.mt_requests.specs.declared.request.Query.{Query}
-use Rattle.mt_requests.specs.declared.request.Query.TheVariants.{Show, Find, Journal}
+use Rattle.mt_requests.specs.declared.request.Query.TheVariants.{Show, Locks, Find, Journal}
 use Rattle.mt_requests.specs.Requests.{command_verb, query_verb, request_verb}
 use Rattle.mt_requests.proofs.CountLaws.{lines_tell}
-use Rattle.mt_session.specs.Answers.{refusal, found_text, shown_text, commands_from, query_text, reply_text}
+use Rattle.mt_session.specs.Answers.{refusal, found_text, shown_text, commands_from, lock_lines_text, locks_text, query_text, reply_text}
 use Rattle.mt_session.specs.Requests.{SessionState, stepped_text, by_phase, rest_text, taken_text, end_of_followed, closed_text, next_posts, answer_to}
 use Rattle.mt_session.specs.Forms.{Refuses, HasForm, AnswersHaveForms}
 use Rattle.mt_session.specs.Session.{Growth, Granted, Refused, Unshown, request_of_line, may_fail, may_be_unshown, answer_of, answer_with, answer_to_turn}
@@ -63,25 +64,35 @@ done : (q : Result WorldView Fault) → IsAnswerOf form.Done (stepped_text (with
 done (Ok w) = inr refl
 done (Err x) = inl (x, refl)
 
+act_answer : (w : WorldView) (c : Command) → IsAnswerOf (verb_form (command_verb c)) (stepped_text (act w c))
+unfolding act
+act_answer w (MakeFs name kind source) = skelled form.Number w (λ s. Number (length s.filesystems)) _ (λ s. (length s.filesystems, refl))
+act_answer w (MakeDir fs path) = skelled form.Done w (λ s. Done) _ (λ s. refl)
+act_answer w (NewSpace fs) = made_number _
+act_answer w (CopySpace n privilege) = made_number _
+act_answer w (DropSpace n) = done _
+act_answer w (Mount n fs path) = made_number _
+act_answer w (MountWith n fs path set) = made_number _
+act_answer w (Bind n src dst true) = made_number _
+act_answer w (Bind n src dst false) = made_number _
+act_answer w (Move n src dst) = done _
+act_answer w (Pivot n new old) = done _
+act_answer w (Unmount n path) = done _
+act_answer w (Detach n path) = done _
+act_answer w (SetAttr n path change) = done _
+act_answer w (OpenTree n path recursive) = made_number _
+act_answer w (NewTree fs) = made_number _
+act_answer w (MoveTree tree n path) = done _
+
+-- or a refusal for a lock
+guarded_answer : (f : Form) (j : Result LocksView Fault) (q : Result (WorldView × Reply) Fault) → IsAnswerOf f (stepped_text q) → IsAnswerOf f (stepped_text (guarded j q))
+guarded_answer f (Ok l) (Ok p) answer = answer
+guarded_answer f (Ok l) (Err x) answer = answer
+guarded_answer f (Err x) q answer = inl (x, refl)
+
 command_answer : (w : WorldView) (c : Command) → IsAnswerOf (verb_form (command_verb c)) (stepped_text (step w c))
 unfolding step
-command_answer w (MakeFs name kind source) = skelled form.Number w (λ s. Number (length s.filesystems)) _ (λ s. (length s.filesystems, refl))
-command_answer w (MakeDir fs path) = skelled form.Done w (λ s. Done) _ (λ s. refl)
-command_answer w (NewSpace fs) = made_number _
-command_answer w (CopySpace n less) = made_number _
-command_answer w (DropSpace n) = done _
-command_answer w (Mount n fs path) = made_number _
-command_answer w (MountWith n fs path set) = made_number _
-command_answer w (Bind n src dst true) = made_number _
-command_answer w (Bind n src dst false) = made_number _
-command_answer w (Move n src dst) = done _
-command_answer w (Pivot n new old) = done _
-command_answer w (Unmount n path) = done _
-command_answer w (Detach n path) = done _
-command_answer w (SetAttr n path change) = done _
-command_answer w (OpenTree n path recursive) = made_number _
-command_answer w (NewTree fs) = made_number _
-command_answer w (MoveTree tree n path) = done _
+command_answer w c = guarded_answer (verb_form (command_verb c)) (judged w c) (act w c) (act_answer w c)
 
 -- tables and places
 table_answer : (journal : List Command) (n : ℕ) → IsAnswerOf form.Table (shown_text journal n)
@@ -91,12 +102,20 @@ table_answer journal n =
       | false ↦ inl (NoNamespace, refl)
     ]
 
+locks_answer : (journal : List Command) (n : ℕ) → IsAnswerOf form.Locks (locks_text journal n)
+locks_answer journal n =
+    elim (is_space (after journal) n) as (λ b. IsAnswerOf form.Locks (cond b (lock_lines_text (locks_in (after journal) n)) (refusal NoNamespace))) [
+      | true ↦ inr (locks_in (after journal) n, refl)
+      | false ↦ inl (NoNamespace, refl)
+    ]
+
 place_answer : (found : Result (ℕ × List (List ℕ)) Fault) → IsAnswerOf form.Place (found_text found)
 place_answer (Ok p) = inr (p.0, p.1, refl)
 place_answer (Err x) = inl (x, refl)
 
 query_answer : (journal : List Command) (q : Query) → IsAnswerOf (verb_form (query_verb q)) (query_text journal q)
 query_answer journal (Show n) = table_answer journal n
+query_answer journal (Locks n) = locks_answer journal n
 query_answer journal (Find n path) = place_answer (found_at (after journal) n path)
 query_answer journal (Journal from most) = inr (commands_from from most journal, refl)
 

@@ -7,12 +7,12 @@ use Rattle.mt_skel.specs.declared.fault.Fault.{Fault}
 use Rattle.mt_skel.specs.declared.fault.Fault.TheVariants.{NoMemory as WantsMemory}
 use Rattle.mt_desk.specs.Calls.{WatcherView}
 use Rattle.mt_requests.specs.declared.request.Request.{Request}
-use Rattle.mt_requests.specs.declared.request.Request.TheVariants.{Follow}
+use Rattle.mt_requests.specs.declared.request.Request.TheVariants.{Take, Follow}
 use Rattle.mt_session.specs.declared.serving.End.TheVariants.{Memory}
 use Rattle.mt_session.specs.declared.shared_answer.Then.{Then}
 use Rattle.mt_session.specs.declared.shared_answer.Then.TheVariants.{More}
 use Rattle.mt_session.specs.Answers.{refusal}
-use Rattle.mt_session.specs.SharedSession.{IsSpent, FollowsFewer, IsFollowed, IsTurn, IsLost}
+use Rattle.mt_session.specs.SharedSession.{IsSpent, FollowsFewer, IsTaken, IsFollowed, IsTurn, IsLost}
 use Rattle.mt_session.specs.SharedServing.{Follows, IsSoFar, IsPiece, IsPortion, EndsWith}
 use Rattle.mt_events.specs.Posts.{PostView, post_text}
 use Rattle.mt_events.specs.Texts.{count_text}
@@ -105,6 +105,21 @@ follow_refused s (Some mid) v s' most told limit f out p n so_far h sees within 
       sees_then s.sight v s'.sight (so_far_sees s before (Follow most) out told so_far) sees,
       refl,
     ))
+
+-- a `take` is refused: the session has no watcher, or there was no memory to print what was taken
+pub take_refused : (s s' : SharedView) (most : ℕ) (f : Fault) (p : Option (List ℕ)) (n : Then) → IsPortion s.own most (Err f) s'.own s'.sight.seen → SeesOn s.sight s'.sight
+    → (f ≡ WantsMemory → EndsWith (refusal WantsMemory) (Some Memory) p n) → (f ≢ WantsMemory → EndsWith (refusal f) None p n) → IsPiece s (Take most) [] p n s'
+take_refused s s' most f p n h sees lost others = by s.own refl h
+  where
+    by : (w : Option WatcherView) → s.own ≡ w → IsPortion w most (Err f) s'.own s'.sight.seen → IsPiece s (Take most) [] p n s'
+    by None none h =
+        let last = others (λ is. let why = h.0 in cc) in
+        let taken : IsTaken None most (refusal f) s'.own s'.sight.seen = (ap refusal h.0, h.1) in
+        rw (last.0, last.1) (inl (inl (subst (λ (x : Option WatcherView). IsTaken x most (refusal f) s'.own s'.sight.seen) (sym none) taken, sees), refl))
+    by (Some w) some h =
+        let last = lost h.0 in
+        let gone : IsLost (Some w) (Ok (Take most)) (refusal WantsMemory) s'.sight.seen = (h.1, h.2, h.3, h.5, refl) in
+        rw (last.0, last.1) (inr (subst (λ (x : Option WatcherView). IsLost x (Ok (Take most)) (refusal WantsMemory) s'.sight.seen) (sym some) gone, rw (some, h.4) (h.1, h.3.0, h.3.2), sees, refl))
 
 -- what was told so far was taken, and is a run
 record HasRun (w : Option WatcherView) (out : List ℕ) (told : ℕ) (mid : WatcherView) : Type 0 where

@@ -1,6 +1,7 @@
 -- The texts of answers: a refusal, what a command answers, a table, the place where a path ends. Those of what a watcher found and of posts are in mt_events.
 -- A word with no source is this project's rule.
 use Rattle.std.specs.Prelude.{ℕ, ◌-◌, List, [], ◌∷◌, ◌++◌, length, take, drop, Result, Ok, Err, codes, decimal, cond}
+use Rattle.std.specs.List.{flat_map}
 use Rattle.mt_skel.specs.declared.fault.Fault.{Fault}
 use Rattle.mt_skel.specs.declared.fault.Fault.TheVariants.{NoNamespace}
 use Rattle.mt_skel.specs.Fault.{name_of}
@@ -12,10 +13,12 @@ use Rattle.mt_book.specs.declared.command.Command.{Command}
 use Rattle.mt_book.specs.declared.command.Reply.{Reply}
 use Rattle.mt_book.specs.declared.command.Reply.TheVariants.{Done, Number}
 use Rattle.mt_book.specs.Step.{after}
-use Rattle.mt_book.specs.Book.{found_at}
+use Rattle.mt_book.specs.Book.{found_at, locks_in}
+use Rattle.mt_locks.specs.declared.mount_locks.MountLocks.{MountLocks}
+use Rattle.mt_info.specs.LockLine.{whole_lock_line}
 use Rattle.mt_book.specs.History.{space_number}
 use Rattle.mt_requests.specs.declared.request.Query.{Query}
-use Rattle.mt_requests.specs.declared.request.Query.TheVariants.{Show, Find, Journal}
+use Rattle.mt_requests.specs.declared.request.Query.TheVariants.{Show, Locks, Find, Journal}
 use Rattle.mt_requests.specs.Printed.{commands_text}
 
 -- the line of a refusal
@@ -33,6 +36,13 @@ reply_text (Number n) = count_text n
 -- the table of a namespace after these commands, and how many posts it has had
 abbrev pub shown_text : List Command → ℕ → List ℕ
 shown_text journal n = cond (is_space (after journal) n) (table_text (space_number n journal) (table_of (after journal) n)) (refusal NoNamespace)
+
+-- what is locked in a namespace after these commands: how many mounts something is locked of, and what
+abbrev pub lock_lines_text : List MountLocks → List ℕ
+lock_lines_text rows = count_text (length rows) ++ flat_map whole_lock_line rows
+
+abbrev pub locks_text : List Command → ℕ → List ℕ
+locks_text journal n = cond (is_space (after journal) n) (lock_lines_text (locks_in (after journal) n)) (refusal NoNamespace)
 
 -- `ok`, the mount where the path ends, and the path of the directory in the mount's filesystem
 abbrev pub place_text : ℕ → List (List ℕ) → List ℕ
@@ -53,5 +63,6 @@ listed_text cs = count_text (length cs) ++ commands_text cs
 -- what a query is answered after these commands
 abbrev pub query_text : List Command → Query → List ℕ
 query_text journal (Show n) = shown_text journal n
+query_text journal (Locks n) = locks_text journal n
 query_text journal (Find n path) = found_text (found_at (after journal) n path)
 query_text journal (Journal from most) = listed_text (commands_from from most journal)

@@ -4,7 +4,7 @@ use Rattle.std.specs.Prelude.{◌≡◌, ◌⊎◌, ℕ, List, length, Ok}
 use Rattle.mt_skel.specs.declared.fault.Fault.{Fault}
 use Rattle.mt_protocol.specs.Verbs.{form_of}
 use Rattle.mt_protocol.specs.declared.form.Form.{Form}
-use Rattle.mt_protocol.specs.declared.form.Form.TheVariants.{Done, Number, Place, Table, Opening as OpeningForm, Posts, Commands, Followed, Never}
+use Rattle.mt_protocol.specs.declared.form.Form.TheVariants.{Done, Number, Place, Table, Locks as LocksForm, Opening as OpeningForm, Posts, Commands, Followed, Never}
 use Rattle.mt_info.specs.declared.row.Row.{Row}
 use Rattle.mt_events.specs.Posts.{PostView}
 use Rattle.mt_events.specs.declared.opening.Opening.{Opening}
@@ -12,7 +12,8 @@ use Rattle.mt_events.specs.Texts.{count_text, table_text, opening_text, posts_te
 use Rattle.mt_book.specs.declared.command.Command.{Command}
 use Rattle.mt_requests.specs.declared.request.Request.{Request}
 use Rattle.mt_requests.specs.Requests.{request_of}
-use Rattle.mt_session.specs.Answers.{refusal, done_text, place_text, listed_text}
+use Rattle.mt_locks.specs.declared.mount_locks.MountLocks.{MountLocks}
+use Rattle.mt_session.specs.Answers.{refusal, done_text, place_text, listed_text, lock_lines_text}
 use Rattle.mt_session.specs.Requests.{SessionState, answer_to}
 
 -- a line that refuses
@@ -25,6 +26,7 @@ HasForm Done text = text ≡ done_text
 HasForm Number text = (n : ℕ) × (text ≡ count_text n)
 HasForm Place text = (mount : ℕ) × (names : List (List ℕ)) × (text ≡ place_text mount names)
 HasForm Table text = (number : ℕ) × (rows : List Row) × (text ≡ table_text number rows)
+HasForm LocksForm text = (rows : List MountLocks) × (text ≡ lock_lines_text rows)
 HasForm OpeningForm text = (opening : Opening) × (text ≡ opening_text opening)
 HasForm Posts text = (posts : List PostView) × (text ≡ posts_text posts)
 HasForm Commands text = (commands : List Command) × (text ≡ listed_text commands)

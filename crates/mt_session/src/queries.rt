@@ -2,12 +2,13 @@
 ghost use Rattle.std.specs.Prelude.{◌≡◌, ◌≢◌, take, drop, IfOk, IfErr};
 ghost use Rattle.mt_book.specs.Step.{after};
 ghost use Rattle.mt_book.specs.Book.{found_at};
-ghost use Rattle.mt_session.specs.Answers.{refusal, shown_text, found_text, commands_from, listed_text, query_text};
+ghost use Rattle.mt_session.specs.Answers.{refusal, shown_text, locks_text, found_text, commands_from, listed_text, query_text};
 
 use crate::text::Text;
 use mt_book::book::Book;
 use mt_book::command::Command;
 use mt_events::texts::push_heading;
+use mt_info::lock_line::push_lock_lines;
 use mt_requests::print::push_commands;
 use mt_requests::request::Query;
 use mt_skel::fault::Fault;
@@ -51,6 +52,20 @@ fn find(alloc: Global, book: &Book, space: u64, path: &Names) -> Result<Text, Fa
         Err(Fault::NoMemory) => Err(Fault::NoMemory),
         Err(fault) => Ok(Text::refusal(fault)),
     }
+}
+
+/// The lines that tell what is locked in a namespace.
+fn locks(alloc: Global, book: &Book, space: u64) -> Result<Text, Fault>
+    ensures ok { IfOk result (λ text. text ≡ locks_text book.now.journal space) }
+    ensures memory { IfErr result (λ fault. fault ≡ Fault.NoMemory) }
+{
+    let rows = match book.locks(space) {
+        Ok(rows) => rows,
+        Err(fault) => return told_refusal(fault),
+    };
+    let mut lines = Vec::new(alloc);
+    push_lock_lines(&mut lines, &rows)?;
+    Ok(Text::counted(alloc, rows.len() as u64, &lines)?)
 }
 
 /// The first commands, this many at most.
@@ -101,6 +116,7 @@ pub(crate) fn asked(alloc: Global, book: &Book, query: &Query) -> Result<Text, F
 {
     match query {
         Query::Show(space) => show(alloc, book, *space),
+        Query::Locks(space) => locks(alloc, book, *space),
         Query::Find { space, path } => find(alloc, book, *space, path),
         Query::Journal { from, most } => list_commands(alloc, book, *from, *most),
     }

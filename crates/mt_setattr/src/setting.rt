@@ -18,7 +18,7 @@ use mt_skel::fault::Fault;
 use mt_skel::name::Name;
 
 /// Whether a change sets two access times, or one for which it makes no room.
-fn clashes(change: &Change) -> bool
+pub fn clashes(change: &Change) -> bool
     ensures { result ≡ clashes change.now }
 {
     let set = &change.set;
@@ -49,7 +49,7 @@ fn flag_after(had: bool, clear: bool, set: bool) -> bool
 }
 
 /// The attributes of a mount after a change.
-fn attrs_after(change: &Change, attrs: &Attrs) -> Attrs
+pub fn attrs_after(change: &Change, attrs: &Attrs) -> Attrs
     ensures { result ≡ changed_attrs change.now attrs.now }
 {
     let clr = &change.clr;
@@ -130,7 +130,7 @@ fn change_from(world: &mut World, top: MountId, change: &Change) -> Result<(), F
 }
 
 /// Whether attributes are to be changed in a detached tree, below its root mount.
-fn changes_inside(world: &World, space: SpaceId, place: Place, change: &Change) -> bool
+pub fn changes_inside(world: &World, space: SpaceId, place: Place, change: &Change) -> bool
     ensures { result ≡ changes_inside (world_view world.now) space place change.now }
 {
     world.is_tree(space)

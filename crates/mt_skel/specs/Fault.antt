@@ -2,7 +2,7 @@
 -- A word with no source is this project's rule.
 use Rattle.std.specs.Prelude.{ℕ, List, codes}
 use Rattle.mt_skel.specs.declared.fault.Fault.{Fault}
-use Rattle.mt_skel.specs.declared.fault.Fault.TheVariants.{BadLine, TooLong, BadPath, JournalFull, NoFilesystem, FilesystemExists, NoNamespace, NoEntry, EntryExists, NotMountRoot, RootPlace, Unbindable, SharedParent, IntoItself, UnbindableInside, Busy, BadAttr, TooMany, NoWatcher, WatcherOpen, TooManyWatchers, Lagged, Stopped, NoMemory, Detached, NotDetached}
+use Rattle.mt_skel.specs.declared.fault.Fault.TheVariants.{BadLine, TooLong, BadPath, JournalFull, NoFilesystem, FilesystemExists, NoNamespace, NoEntry, EntryExists, NotMountRoot, RootPlace, Unbindable, SharedParent, IntoItself, UnbindableInside, Busy, BadAttr, TooMany, NoWatcher, WatcherOpen, TooManyWatchers, Lagged, Stopped, NoMemory, Detached, NotDetached, Locked, LockedInside, LockedAttr}
 
 -- the name of a refusal is that of its variant
 abbrev pub name_of : Fault → List ℕ
@@ -32,3 +32,6 @@ name_of Stopped = codes "Stopped"
 name_of NoMemory = codes "NoMemory"
 name_of Detached = codes "Detached"
 name_of NotDetached = codes "NotDetached"
+name_of Locked = codes "Locked"
+name_of LockedInside = codes "LockedInside"
+name_of LockedAttr = codes "LockedAttr"

@@ -61,6 +61,12 @@ pub enum Fault {
     Detached,
     /// The namespace that is to be attached is no detached tree.
     NotDetached,
+    /// The mount is locked on its place.
+    Locked,
+    /// A copy would leave out a mount that is locked where it stands.
+    LockedInside,
+    /// An attribute that is locked would change.
+    LockedAttr,
 }
 
 impl From<AllocError> for Fault {
@@ -112,6 +118,9 @@ impl Fault {
             Fault::NoMemory => b"NoMemory",
             Fault::Detached => b"Detached",
             Fault::NotDetached => b"NotDetached",
+            Fault::Locked => b"Locked",
+            Fault::LockedInside => b"LockedInside",
+            Fault::LockedAttr => b"LockedAttr",
         }
     }
 }

@@ -19,9 +19,9 @@ use Rattle.mt_propagate.specs.WellFormed.{IsWellFormed}
 use Rattle.mt_propagate.proofs.ContainedLaws.{ended-inside}
 use Rattle.mt_unmount.specs.Sliding.{once_gone}
 use Rattle.mt_unmount.specs.Taking.{AreGone}
-use Rattle.mt_unmount.specs.Detaching.{is_detached, without_tree, named_place, detached_refusals, detached_effect, detached}
+use Rattle.mt_unmount.specs.Detaching.{is_taken, without_tree, named_place, detached_refusals, detached_effect, detached}
 use Rattle.mt_unmount.proofs.AcceptedLaws.{path_end, detach_accepted}
-use Rattle.mt_unmount.proofs.CandidateLaws.{detached-inside, detached-can-go}
+use Rattle.mt_unmount.proofs.GoingLaws.{taken-inside, taken-can-go}
 use Rattle.mt_unmount.proofs.FoundLaws.{listed-is}
 use Rattle.mt_unmount.proofs.LeftLaws.{Takes, takes-kept}
 use Rattle.mt_unmount.proofs.StandingLaws.{found-on, under-space}
@@ -34,11 +34,11 @@ module _ (w : WorldView) (n : ℕ) (path : List (List ℕ)) (end p : Place) (nam
   abbrev rest : Place → Result WorldView Fault
   rest q = outcome (refuse_if (not (is_mount_root w q)) NotMountRoot ∷ refuse_if (is_root_mount w q) RootPlace ∷ []) (without_tree w q.mount)
 
-  pub detached-done : is_tree w n ≡ false → walk w.skel w.forest n path ≡ Ok end → is_mount_root w p ≡ true → is_root_mount w p ≡ false → (ids : List ℕ) → AreGone (is_detached w p.mount) ids → detached w n path ≡ Ok (once_gone w (among ids))
+  pub detached-done : is_tree w n ≡ false → walk w.skel w.forest n path ≡ Ok end → is_mount_root w p ≡ true → is_root_mount w p ≡ false → (ids : List ℕ) → AreGone (is_taken w p.mount) ids → detached w n path ≡ Ok (once_gone w (among ids))
   unfolding without_tree
   detached-done attached ended root off ids gone =
       passed (is_tree w n) Detached _ _ attached ∙ ap answer ended ∙ ap rest (sym named) ∙ passed (not (is_mount_root w p)) NotMountRoot _ _ (ap not root) ∙ passed (is_root_mount w p) RootPlace [] _ off
-      ∙ ap (λ (goes : ℕ → Bool). Ok (once_gone w goes)) (sym (listed-is (is_detached w p.mount) ids gone))
+      ∙ ap (λ (goes : ℕ → Bool). Ok (once_gone w goes)) (sym (listed-is (is_taken w p.mount) ids gone))
 
 -- the topmost mount at a place is of the namespace of the mount that the place is on
 top-space : (w : WorldView) → IsWellFormed w → (p : Place) → space_of w (top w.forest p).mount ≡ space_of w p.mount
@@ -55,10 +55,10 @@ detached-takes w h n path v e =
     let a = detach_accepted w n path v e in
     let i = (named_place w n path).mount in
     record {
-      goes = is_detached w i;
-      can = detached-can-go w h i a.placed;
+      goes = is_taken w i;
+      can = taken-can-go w h i a.placed;
       world = a.world;
-      within = λ family c here. detached-inside w h i family c (ap family (top-space w h (path_end w n path) ∙ ended-inside w h n path a.ended) ∙ here);
+      within = λ family c here. taken-inside w h i family c (ap family (top-space w h (path_end w n path) ∙ ended-inside w h n path a.ended) ∙ here);
     }
 
 -- an accepted detach keeps a world well-formed

@@ -9,6 +9,7 @@ use Rattle.std.specs.Result.{is_ok}
 use Rattle.std.proofs.lemmas.Grind.{get_or_default_zero}
 use Rattle.std.proofs.lemmas.List.Folds.{Any-from_list_any, list_any_at}
 use Rattle.std.proofs.lemmas.Bool.{cases_lt, false_from_ne_true}
+use Rattle.std.proofs.lemmas.Bool.Decides.{nat_tests}
 use Rattle.std.proofs.lemmas.List.Kept.{AllPairs-from_increasing}
 use Rattle.std.proofs.lemmas.List.Sorted.{searched}
 use Rattle.std.proofs.lemmas.Map.Views.{any-filter_same}
@@ -76,3 +77,8 @@ among-without xs off j =
 -- a list of the mounts that go has the IDs that the test of them passes
 pub listed-is : (goes : ℕ → Bool) (ids : List ℕ) → AreGone goes ids → among ids ≡ goes
 listed-is goes ids are = λ t. λ j. are.each j t
+
+-- a number is left by a filter if it is there and passes
+pub among-filter : (p : ℕ → Bool) (xs : List ℕ) (q : ℕ) → among (filter p xs) q ≡ (among xs q && p q)
+among-filter p [] q = refl
+among-filter p (x ∷ xs) q = let ih = among-filter p xs q in grind (arith, nat_tests)

@@ -1,7 +1,7 @@
 -- The mounts of each namespace stay one tree where mounts go.
-use Rattle.std.proofs.Common.{◌≡◌, ℕ, ◌<◌, Bool, false, not, List, map, Some, None, refl, sym, ap, subst, ◌∙◌}
+use Rattle.std.proofs.Common.{◌≡◌, ℕ, ◌<◌, Bool, true, false, not, List, map, Some, None, refl, sym, ap, subst, ◌∙◌}
 use Rattle.std.specs.Option.{option_map}
-use Rattle.std.proofs.lemmas.Bool.{false_from_ne_true}
+use Rattle.std.proofs.lemmas.Bool.{false_from_ne_true, true≢false}
 use Rattle.std.proofs.lemmas.Option.{none-some}
 use Rattle.std.proofs.NetLemmas.Options.{map_some}
 use Rattle.mt_skel.specs.Keyed.{without}
@@ -47,6 +47,10 @@ module _ (w : WorldView) (h : IsWellFormed w) (goes : ℕ → Bool) where
   stays-in k m e off =
       row-mapped id_of (moved w goes) (λ m. refl) (without (leaves w goes) w.forest) k m
       (row-kept id_of (leaves w goes) w.forest h.forest.rising k m (ap goes (row_at-key id_of k w.forest m e) ∙ off) e)
+
+  -- one that goes is not there then
+  pub gone-from : (k : ℕ) → goes k ≡ true → mount_at (left_mounts w goes) k ≡ None
+  gone-from k is = none_found _ (λ y e. true≢false (sym is ∙ (row-of k y e).stays))
 
   -- where it came from
   place-was : (k : ℕ) (y : Mount) (q : Place) (s : Stays k y) → y.place ≡ Some q → (p : Place) × StaysAt w h goes k s.mount p × (q ≡ slid w goes p)

@@ -12,4 +12,5 @@ mod MayGoLaws
 pub mod InsideLaws
 mod HoldingLaws
 pub mod CandidateLaws
+pub mod GoingLaws
 pub mod DetachedLaws

@@ -1,8 +1,9 @@
 -- Which mounts an unmount takes away, and that their children stand at their root directories.
 use Rattle.std.proofs.Common.{◌≡◌, ◌⊎◌, ℕ, Bool, true, false, ◌==◌, eqb-true, eq-eqb, [], Option, Some, None, refl, sym, ap, ◌∙◌, subst, inl, inr}
 use Rattle.std.specs.List.{filter, filter_map, list_any}
-use Rattle.std.specs.Option.{option_map_or, is_none}
+use Rattle.std.specs.Option.{option_map, option_map_or, is_none}
 use Rattle.std.proofs.lemmas.Bool.{true≢false}
+use Rattle.mt_skel.specs.Keyed.{among}
 use Rattle.mt_skel.proofs.ElementLaws.{In, in_map, in_filter}
 use Rattle.mt_skel.proofs.KeyedLaws.{row_at-key}
 use Rattle.mt_mounts.specs.declared.mount.Mount.{Mount}
@@ -12,13 +13,14 @@ use Rattle.mt_propagate.specs.World.{WorldView, root_dir, space_of}
 use Rattle.mt_propagate.specs.Receivers.{hits}
 use Rattle.mt_propagate.specs.WellFormed.{IsWellFormed}
 use Rattle.mt_propagate.specs.Contained.{IsContained}
-use Rattle.mt_propagate.proofs.BelowGroupLaws.{in-among}
+use Rattle.mt_propagate.proofs.BelowGroupLaws.{in-among, among-in}
 use Rattle.mt_propagate.proofs.RowLaws.{row-picked, all-row, any-row}
 use Rattle.mt_propagate.proofs.CopyRowLaws.{root_is}
 use Rattle.mt_unmount.specs.Sliding.{place_of, stands_inside, CanGo}
 use Rattle.mt_unmount.specs.Unmounting.{may_go, going_at, removed, is_removed}
+use Rattle.mt_unmount.specs.Detaching.{standing_at, received}
 use Rattle.mt_unmount.proofs.StandingLaws.{place-at, placed-mount, within-place, any-is, IsReceived, received-at, received-placed, received-inside}
-use Rattle.mt_unmount.proofs.FoundLaws.{in_filter_map}
+use Rattle.mt_unmount.proofs.FoundLaws.{in_filter_map, in_filter_mapped}
 
 module _ (w : WorldView) (h : IsWellFormed w) (i : ℕ) where
   -- a mount that is received, and may go
@@ -84,3 +86,16 @@ module _ (w : WorldView) (h : IsWellFormed w) (i : ℕ) where
                   let dir : p.dir ≡ too.0.mount.root = child-at-root too.0.mount too.1 j m.0 p m.1 m.2 (on ∙ sym id) in
                   absurd (true≢false (sym (eq-eqb p.dir (root_dir w k) (dir ∙ sym (root_is w k too.0.mount too.0.there))) ∙ off))
             ]
+
+-- what goes but for the mount itself is what that one receives
+pub removed-received : (w : WorldView) (i j : ℕ) → is_removed w i j ≡ true → (i ≡ j) ⊎ (among (received w i) j ≡ true)
+removed-received w i j e = elim (in-among (removed w i) j e) [ inl here ↦ inl here | inr other ↦ inr (among-in (received w i) j (by (place_of w i) other)) ]
+  where
+    by : (o : Option Place) → In j (option_map_or (λ (p : Place). going_at w (hits w p) p.dir) o []) → In j (option_map_or (λ (p : Place). standing_at w (hits w p) p.dir) o [])
+    by None e = e
+    by (Some p) e =
+        let at : ℕ → Option Mount = λ t. on w.forest (record { mount = t; dir = p.dir }) in
+        let m = in_map id_of j (filter (may_go w) (filter_map at (hits w p))) e in
+        let f = in_filter (may_go w) m.0 (filter_map at (hits w p)) m.1 in
+        let t = in_filter_map at m.0 (hits w p) f.0 in
+        in_filter_mapped (λ (s : ℕ). option_map id_of (at s)) j t.0 (hits w p) t.1 (ap (option_map id_of) t.2 ∙ ap (λ k. Some k) m.2)

@@ -9,7 +9,7 @@ use Rattle.mt_propagate.specs.World.{WorldView}
 use Rattle.mt_propagate.proofs.SizeLaws.{IsSized, few_pass}
 use Rattle.mt_unmount.specs.Sliding.{slid, once_gone}
 use Rattle.mt_unmount.specs.Unmounting.{unmounted, without_mount, is_removed}
-use Rattle.mt_unmount.specs.Detaching.{is_detached, without_tree, named_place, detached}
+use Rattle.mt_unmount.specs.Detaching.{is_taken, without_tree, named_place, detached}
 use Rattle.mt_unmount.proofs.AcceptedLaws.{path_end, unmount_accepted, detach_accepted}
 
 -- mounts that go add nothing
@@ -32,4 +32,4 @@ gone_sized w v n path few e = subst (λ (x : WorldView). IsSized w x 0) (unmount
 
 pub detached_sized : (w v : WorldView) (n : ℕ) (path : List (List ℕ)) → length w.forest ≤ 4096 → detached w n path ≡ Ok v → IsSized w v 0
 unfolding without_tree
-detached_sized w v n path few e = subst (λ (x : WorldView). IsSized w x 0) (detach_accepted w n path v e).world (once_sized w (is_detached w (named_place w n path).mount) few)
+detached_sized w v n path few e = subst (λ (x : WorldView). IsSized w x 0) (detach_accepted w n path v e).world (once_sized w (is_taken w (named_place w n path).mount) few)

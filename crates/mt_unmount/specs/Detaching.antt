@@ -1,6 +1,6 @@
 -- detach, umount2(2) with MNT_DETACH: the world after the call, or the first refusal whose condition holds.
 -- A word with no source is this project's rule.
-use Rattle.std.specs.Prelude.{ℕ, Bool, not, ◌&&◌, ◌++◌, List, [], ◌∷◌, Option, Result}
+use Rattle.std.specs.Prelude.{ℕ, Bool, false, not, ◌&&◌, ◌||◌, ◌++◌, List, [], ◌∷◌, Option, Result}
 use Rattle.std.specs.List.{filter_map, flat_map, list_all}
 use Rattle.std.specs.Option.{option_map, option_map_or}
 use Rattle.mt_skel.specs.declared.fault.Fault.{Fault}
@@ -8,8 +8,9 @@ use Rattle.mt_skel.specs.declared.fault.Fault.TheVariants.{NotMountRoot, RootPla
 use Rattle.mt_skel.specs.Keyed.{among}
 use Rattle.mt_skel.specs.Outcome.{refuse_if, refusal_of, outcome}
 use Rattle.mt_mounts.specs.declared.mount.Place.{Place}
-use Rattle.mt_mounts.specs.Forest.{id_of, on, subtree, top}
+use Rattle.mt_mounts.specs.Forest.{id_of, on, parents_up, subtree, top}
 use Rattle.mt_mounts.specs.Walk.{walk}
+use Rattle.mt_locks.specs.Locks.{is_locked}
 use Rattle.mt_propagate.specs.World.{WorldView, is_tree}
 use Rattle.mt_propagate.specs.Named.{place_or_nowhere, is_mount_root, is_root_mount}
 use Rattle.mt_propagate.specs.Receivers.{hits}
@@ -32,14 +33,31 @@ candidates w i = subtree w.forest i ++ flat_map (received w) (subtree w.forest i
 abbrev pub is_candidate : WorldView → ℕ → ℕ → Bool
 is_candidate w i j = among (candidates w i) j
 
--- each candidate goes if everything inside it is a candidate (`propagate_umount`)
+-- each candidate may go if everything inside it is a candidate (`propagate_umount`)
 abbrev pub is_detached : WorldView → ℕ → ℕ → Bool
 is_detached w i j = is_candidate w i j && list_all (is_candidate w i) (inside w j)
+
+-- an unmount meets the mount that it names, and what that one receives
+abbrev pub met_mounts : WorldView → ℕ → List ℕ
+met_mounts w i = i ∷ received w i
+
+-- a mount goes for itself if it was met, or is not locked on its place (mount_namespaces(7), restrictions on mount namespaces)
+abbrev pub is_free : WorldView → ℕ → ℕ → Bool
+is_free w i j = among (met_mounts w i) j || not (is_locked w.locks j)
+
+-- a mount that may go goes if it goes for itself, or if the mount on which it stands goes: so it is told by the mounts from it up
+abbrev pub goes_up : (ℕ → Bool) → (ℕ → Bool) → List ℕ → Bool
+goes_up may free [] = false
+goes_up may free (j ∷ up) = may j && (free j || goes_up may free up)
+
+-- so each candidate goes (`propagate_umount`: the mounts that go are not revealing)
+abbrev pub is_taken : WorldView → ℕ → ℕ → Bool
+is_taken w i j = goes_up (is_detached w i) (is_free w i) (parents_up w.forest j)
 
 -- the world once a mount is detached, with all mounts below it, there and wherever that propagates (umount2(2), MNT_DETACH; the
 -- masters after it: this project's rule)
 unfoldable pub without_tree : WorldView → ℕ → WorldView
-without_tree w i = once_gone w (is_detached w i)
+without_tree w i = once_gone w (is_taken w i)
 
 -- detach names the topmost mount at the end of a path, so with `/` the one on top of what stands on the root place (umount2(2):
 -- the topmost mount)

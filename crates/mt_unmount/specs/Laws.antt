@@ -1,12 +1,13 @@
 -- What the laws of this crate say.
 -- A word with no source is this project's rule.
-use Rattle.std.specs.Prelude.{◌≡◌, ℕ, Bool, true, false, is_none, List, Ok, IsTrue}
+use Rattle.std.specs.Prelude.{◌≡◌, ◌⊎◌, ℕ, Bool, true, false, is_none, List, Some, Ok, IsTrue}
+use Rattle.mt_mounts.specs.Forest.{parent}
 use Rattle.mt_propagate.specs.World.{WorldView}
 use Rattle.mt_propagate.specs.WellFormed.{IsWellFormed}
 use Rattle.mt_propagate.specs.Contained.{IsContained, IsSameOutside}
 use Rattle.mt_unmount.specs.Sliding.{place_of, CanGo}
 use Rattle.mt_unmount.specs.Unmounting.{unmounted}
-use Rattle.mt_unmount.specs.Detaching.{is_candidate, is_detached, detached}
+use Rattle.mt_unmount.specs.Detaching.{is_candidate, is_free, is_taken, detached}
 
 -- a world stays well-formed when an unmount is accepted, that is, of a mount that is not a root mount and has no child
 abbrev pub UnmountingKeeps : Type 0
@@ -36,8 +37,19 @@ DetachingStaysInside =
 
 -- all that goes can go if the mount is not a root mount
 abbrev pub DetachingTakesWhole : Type 0
-DetachingTakesWhole = (w : WorldView) → IsWellFormed w → (i : ℕ) → is_none (place_of w i) ≡ false → CanGo w (is_detached w i)
+DetachingTakesWhole = (w : WorldView) → IsWellFormed w → (i : ℕ) → is_none (place_of w i) ≡ false → CanGo w (is_taken w i)
 
--- and no more of the candidates can: what goes is the greatest set of candidates that is not shifting (`propagate_umount`)
+-- mounts reveal nothing if each of them goes for itself or with the one on which it stands (`propagate_umount`)
+abbrev pub RevealsNothing : WorldView → ℕ → (ℕ → Bool) → Type 0
+RevealsNothing w i goes = (j : ℕ) → goes j ≡ true → IsTrue (is_free w i j) ⊎ ((k : ℕ) × (parent w.forest j ≡ Some k) × (goes k ≡ true))
+
+-- what goes does
+abbrev pub DetachingRevealsNothing : Type 0
+DetachingRevealsNothing = (w : WorldView) → IsWellFormed w → (i : ℕ) → RevealsNothing w i (is_taken w i)
+
+-- and no more of the candidates can: what goes is the greatest set of candidates that is neither shifting nor revealing
+-- (`propagate_umount`)
 abbrev pub DetachingTakesMost : Type 0
-DetachingTakesMost = (w : WorldView) → IsWellFormed w → (i : ℕ) (goes : ℕ → Bool) → ((j : ℕ) → goes j ≡ true → IsTrue (is_candidate w i j)) → CanGo w goes → (j : ℕ) → goes j ≡ true → IsTrue (is_detached w i j)
+DetachingTakesMost =
+    (w : WorldView) → IsWellFormed w → (i : ℕ) (goes : ℕ → Bool) → ((j : ℕ) → goes j ≡ true → IsTrue (is_candidate w i j)) → CanGo w goes → RevealsNothing w i goes → (j : ℕ) → goes j ≡ true
+    → IsTrue (is_taken w i j)

@@ -2,7 +2,7 @@
 //! do nothing: their contracts are the laws.
 ghost use Rattle.mt_unmount.specs.Laws.{UnmountingKeeps, UnmountingKeepsContained, UnmountingStaysInside};
 ghost use Rattle.mt_unmount.specs.Laws.{DetachingKeeps, DetachingKeepsContained, DetachingStaysInside};
-ghost use Rattle.mt_unmount.specs.Laws.{DetachingTakesWhole, DetachingTakesMost};
+ghost use Rattle.mt_unmount.specs.Laws.{DetachingTakesWhole, DetachingRevealsNothing, DetachingTakesMost};
 
 /// An accepted unmount leaves a well-formed world well-formed: no two mounts slide to one place, each
 /// stands on a mount that stays, and no mount is left with a master that has no member.
@@ -30,9 +30,11 @@ pub fn detaching_stays_inside()
     ensures inside { DetachingStaysInside }
 {}
 
-/// With each mount that a detach takes away goes everything inside it, and none that goes is a root mount (`whole`). No
-/// set of candidates for which this is true has a mount that the detach leaves (`most`).
+/// With each mount that a detach takes away goes everything inside it, and none that goes is a root mount (`whole`). One
+/// that is locked on its place goes only with the mount on which it stands, unless the named mount receives it
+/// (`reveals`). No set of candidates for which both are true has a mount that the detach leaves (`most`).
 pub fn detaching_takes_most()
     ensures whole { DetachingTakesWhole }
+    ensures reveals { DetachingRevealsNothing }
     ensures most { DetachingTakesMost }
 {}

@@ -1,17 +1,21 @@
 //! The world of tables, on which lines are tried.
-ghost use Rattle.std.specs.Prelude.{◌≡◌, [], map, IfOk, IsOkUnless};
+ghost use Rattle.std.specs.Prelude.{◌≡◌, [], not, map, IfOk, IsOkUnless};
+ghost use Rattle.std.specs.List.{filter};
 ghost use Rattle.mt_propagate.specs.World.{world_view};
 ghost use Rattle.mt_propagate.specs.WellFormed.{IsWellFormed};
 ghost use Rattle.mt_what_if.specs.Gathered.{rows_gathered};
-ghost use Rattle.mt_what_if.specs.Scenes.{called_from, IsWorldOfTables};
+ghost use Rattle.mt_world.specs.Locked.{all_may_be_locked};
+ghost use Rattle.mt_what_if.specs.Scenes.{called_from, foreign_from, IsWorldOfTables};
 
 use crate::gathered::{Gathered, Missed, RowPlace, gather};
 use crate::known_space::KnownSpace;
 use crate::trial::Trial;
+use mt_mounts::mount::SpaceId;
 use mt_propagate::world::World;
 use mt_questions::table::NamedTable;
 use mt_skel::fault::Fault;
 use mt_skel::name::Label;
+use mt_world::locked::lock_foreign;
 use mt_world::made::{Made, world_of};
 use mt_world::misfit::Misfit;
 use mt_world::row::TableRow;
@@ -37,6 +41,8 @@ pub struct Begun {
     pub names: Vec<KnownSpace>,
     /// The rows that the world has not as they are told.
     pub missed: Vec<Missed>,
+    /// The foreign namespaces in which nothing is locked, since no table tells what is.
+    pub lockless: Vec<SpaceId>,
 }
 
 impl Drop for Begun {
@@ -45,6 +51,7 @@ impl Drop for Begun {
             scene: _scene,
             names: _names,
             missed: _missed,
+            lockless: _lockless,
         } = self;
     }
 }
@@ -91,6 +98,19 @@ fn names_of(alloc: Global, tables: &[NamedTable]) -> Result<Vec<KnownSpace>, All
     Ok(spaces)
 }
 
+/// The numbers of the tables of foreign namespaces.
+fn foreign_of(alloc: Global, tables: &[NamedTable]) -> Result<Vec<SpaceId>, AllocError>
+    ensures { IfOk result (λ foreign. foreign.items ≡ foreign_from 1 tables.now) }
+{
+    let mut foreign = Vec::new(alloc);
+    'tables: for (table, named) in tables.iter().enumerate() {
+        if named.is_foreign {
+            foreign.push(table as u64 + 1)?;
+        }
+    }
+    Ok(foreign)
+}
+
 /// The scene of the world of tables, of which these are the rows.
 fn scene_of(alloc: Global, rows: &[TableRow], world: &World) -> Result<Scene, Fault>
     requires { IsWellFormed (world_view world.now) }
@@ -113,20 +133,29 @@ fn missed_of(alloc: Global, gathered: &Gathered, made: &Made) -> Result<Vec<Miss
 }
 
 /// The world of these tables, on which no line was tried yet, and which rows it has not as they are told. The namespaces have the
-/// numbers of their tables, from 1, and the mounts and peer groups their own. Refused as `NoMemory` alone.
+/// numbers of their tables, from 1, and the mounts and peer groups their own.
+///
+/// In a foreign namespace all places and attributes are locked, if the first table has a row of each of its mounts, by mount
+/// point, root and device, and none of them is in a peer group (mount_namespaces(7), restrictions on mount namespaces; that
+/// such mounts came with a copy of the first namespace is this project's rule). The other foreign ones are answered as
+/// `lockless`. Refused as `NoMemory` alone.
 pub fn begin(alloc: Global, tables: &[NamedTable]) -> Result<Begun, Fault>
-    ensures begun { IfOk result (λ begun. IsWorldOfTables (rows_gathered 1 tables.now) begun.scene.trial) }
+    ensures begun { IfOk result (λ begun. IsWorldOfTables (rows_gathered 1 tables.now) (foreign_from 1 tables.now) begun.scene.trial) }
     ensures names { IfOk result (λ begun. begun.names.items ≡ called_from 1 tables.now) }
+    ensures lockless { IfOk result (λ begun. begun.lockless.items ≡ filter (λ n. not (all_may_be_locked (rows_gathered 1 tables.now) n)) (foreign_from 1 tables.now)) }
     ensures memory { IsOkUnless result Fault.NoMemory }
 {
     let gathered = gather(alloc, tables)?;
-    let made = world_of(alloc, &gathered.rows)?;
+    let mut made = world_of(alloc, &gathered.rows)?;
     let missed = missed_of(alloc, &gathered, &made)?;
     let names = names_of(alloc, tables)?;
+    let foreign = foreign_of(alloc, tables)?;
+    let lockless = lock_foreign(alloc, &mut made.world, &gathered.rows, &foreign)?;
     let scene = scene_of(alloc, &gathered.rows, &made.world)?;
     Ok(Begun {
         scene,
         names,
         missed,
+        lockless,
     })
 }

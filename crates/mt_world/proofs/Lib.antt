@@ -13,3 +13,4 @@ pub mod PlainLaws
 pub mod OrderLaws
 pub mod PutLaws
 pub mod RoundLaws
+pub mod LockedLaws

@@ -35,22 +35,23 @@ raised-kept w group mount space h g m s = record {
 }
 
 -- a world by its parts
-pub raised_world : (w v : WorldView) → v.skel ≡ w.skel → v.forest ≡ w.forest → v.peering.peers ≡ w.peering.peers → v.trees ≡ w.trees → v ≡ raised w v.peering.next v.next_mount v.next_space
-raised_world w v skel forest peers trees i = record {
+pub raised_world : (w v : WorldView) → v.skel ≡ w.skel → v.forest ≡ w.forest → v.peering.peers ≡ w.peering.peers → v.trees ≡ w.trees → v.locks ≡ w.locks → v ≡ raised w v.peering.next v.next_mount v.next_space
+raised_world w v skel forest peers trees locks i = record {
   skel = skel i;
   forest = forest i;
   peering = record { peers = peers i; next = v.peering.next };
   next_mount = v.next_mount;
   next_space = v.next_space;
   trees = trees i;
+  locks = locks i;
 }
 
 -- a bare world stays bare
-pub bare_raised : (w v : WorldView) → HasNoMounts w → v.skel ≡ w.skel → v.forest ≡ w.forest → v.peering.peers ≡ w.peering.peers → v.trees ≡ w.trees → w.peering.next ≤ v.peering.next → w.next_mount ≤ v.next_mount → w.next_space ≤ v.next_space
+pub bare_raised : (w v : WorldView) → HasNoMounts w → v.skel ≡ w.skel → v.forest ≡ w.forest → v.peering.peers ≡ w.peering.peers → v.trees ≡ w.trees → v.locks ≡ w.locks → w.peering.next ≤ v.peering.next → w.next_mount ≤ v.next_mount → w.next_space ≤ v.next_space
     → v.peering.next ≤ 2 ^ 62 → v.next_mount ≤ 2 ^ 62 → v.next_space ≤ 2 ^ 62 → HasNoMounts v
-bare_raised w v b skel forest peers trees g m s few_groups few_mounts few_spaces = record {
+bare_raised w v b skel forest peers trees locks g m s few_groups few_mounts few_spaces = record {
   sound = record {
-    well_formed = subst IsWellFormed (sym (raised_world w v skel forest peers trees)) (raised-kept w v.peering.next v.next_mount v.next_space b.sound.well_formed g m s);
+    well_formed = subst IsWellFormed (sym (raised_world w v skel forest peers trees locks)) (raised-kept w v.peering.next v.next_mount v.next_space b.sound.well_formed g m s);
     skel = subst IsSkeleton (sym skel) b.sound.skel;
   };
   forest = forest ∙ b.forest;

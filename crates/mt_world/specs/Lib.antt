@@ -8,3 +8,4 @@ pub mod States
 pub mod Hidden
 pub mod Plain
 pub mod Made
+pub mod Locked

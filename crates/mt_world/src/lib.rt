@@ -6,7 +6,8 @@
 //!
 //! [`row`] is a row of a table. [`put`] adds the mount of one row, over [`directory`], [`fit`] and [`leaf`]; [`grown`] adds
 //! those of all rows, each after its parent, in an [`order`] that is good for that. [`joined`] then gives mounts their
-//! peer groups and masters, and [`hidden`] makes a mount for each master that no row is in.
+//! peer groups and masters, and [`hidden`] makes a mount for each master that no row is in. [`locked`] locks what came with a
+//! copy into another user namespace.
 #![tactic(auto)]
 
 pub mod directory;
@@ -15,6 +16,7 @@ pub mod grown;
 pub mod hidden;
 pub mod joined;
 pub mod leaf;
+pub mod locked;
 pub mod made;
 pub mod misfit;
 mod order;

@@ -57,7 +57,7 @@ is_copy : (c : goal.After-drop-originals-2) → world_view c.add_space.new.world
 unfolding with_copies
 is_copy c =
     copies-made _ _ _ _ (originals-shown (world_view c.args.world.now) c.requires.well_formed c.args.space) c.args.less _ _ _ _ (made (goal.at.returns-clause-done c).After-deref-4) (world_view c.add_space.new.world)
-    c.add_space.ensures.forest c.add_space.ensures.peers c.add_space.ensures.same c.add_space.ensures.next c.add_space.ensures.trees
+    c.add_space.ensures.forest c.add_space.ensures.peers c.add_space.ensures.same c.add_space.ensures.next c.add_space.ensures.trees c.add_space.ensures.locks
 
 pub returns-clause-done : goal.returns-clause-done
 returns-clause-done c =

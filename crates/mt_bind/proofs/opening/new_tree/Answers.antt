@@ -50,7 +50,7 @@ is_made c =
     (peers_after w _ _ c.requires.well_formed (c.add_root.ensures.peers ∙ ap (λ (m : Mount). put mount_of (new_peer m.id) c.add_tree.new.self.peers.peers) root) (ap (λ (v : WorldView). v.peering.peers) still))
     (c.add_root.ensures.same.1 ∙ ap (λ (v : WorldView). v.peering.next) still)
     (c.add_root.ensures.next.0 ∙ ap (λ (v : WorldView). v.next_mount + 1) still) (c.add_root.ensures.next.1 ∙ ap (λ (v : WorldView). v.next_space + 1) still)
-    (c.add_root.ensures.same.2 ∙ ap (λ (v : WorldView). v.trees) still)
+    (c.add_root.ensures.same.2 ∙ ap (λ (v : WorldView). v.trees) still) (c.add_root.ensures.same.3 ∙ ap (λ (v : WorldView). v.locks) still)
 
 pub returns-clause-done : goal.returns-clause-done
 returns-clause-done c =

@@ -73,7 +73,7 @@ unfolding with_copies
 is_opened c =
     let d = goal.at.returns-clause-done c in
     copies-made _ _ _ (tree d.After-deref-4) (shown d.After-deref-4) false _ _ _ _ (made d.After-deref-4) (world_view c.add_space.new.world)
-    c.add_space.ensures.forest c.add_space.ensures.peers c.add_space.ensures.same c.add_space.ensures.next c.add_space.ensures.trees
+    c.add_space.ensures.forest c.add_space.ensures.peers c.add_space.ensures.same c.add_space.ensures.next c.add_space.ensures.trees c.add_space.ensures.locks
 
 pub returns-clause-done : goal.returns-clause-done
 returns-clause-done c =

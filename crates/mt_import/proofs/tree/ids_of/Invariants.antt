@@ -2,4 +2,4 @@ use Rattle.std.proofs.Common.{◌≡◌}
 use Rattle.mt_import.proofs.tree.ids_of.Given as goal
 
 abbrev pub invariant-rows : goal.invariant-rows
-invariant-rows l = l.tree.rows ≡ l.initial.tree.rows
+invariant-rows l = l.tree.told ≡ l.initial.tree.told

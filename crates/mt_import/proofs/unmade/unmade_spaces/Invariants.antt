@@ -2,10 +2,10 @@ use Rattle.std.proofs.Common.{◌≡◌, ◌++◌, drop, length, map}
 use Rattle.mt_import.specs.Unmade.{AreUnmade}
 use Rattle.mt_import.proofs.unmade.unmade_spaces.Given as goal
 
--- the rows of those that are there and those of the other tables are all
+-- what those tell that are there and what the other tables do are all
 abbrev pub invariant-tables : goal.invariant-tables
 invariant-tables l = record {
-  rows : map (λ space. space.tree.rows) l.spaces.items ++ map (λ rows. rows.items) (drop l.before l.tables) ≡ map (λ rows. rows.items) l.tables;
+  told : map (λ space. space.tree.told) l.spaces.items ++ drop l.before l.tables ≡ l.tables;
   unmade : AreUnmade 1 l.spaces.items;
   count : length l.spaces.items ≡ l.before;
 }

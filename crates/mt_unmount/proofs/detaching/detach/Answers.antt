@@ -1,8 +1,8 @@
 use Rattle.std.proofs.Common.{Ok, sym, ap, ◌∙◌, subst}
 use Rattle.mt_propagate.specs.World.{WorldView, world_view}
 use Rattle.mt_unmount.specs.Sliding.{CanGo}
-use Rattle.mt_unmount.specs.Detaching.{is_detached}
-use Rattle.mt_unmount.proofs.CandidateLaws.{detached-can-go}
+use Rattle.mt_unmount.specs.Detaching.{is_taken}
+use Rattle.mt_unmount.proofs.GoingLaws.{taken-can-go}
 use Rattle.mt_unmount.proofs.DetachedLaws.{detached-done}
 use Rattle.mt_unmount.proofs.FoundLaws.{listed-is}
 use Rattle.mt_unmount.proofs.detaching.detach.Goals as goal
@@ -11,8 +11,8 @@ pub take_away-requires-clause-can_go : goal.take_away-requires-clause-can_go
 take_away-requires-clause-can_go c =
     let w = world_view c.args.world.now in
     let i = c.top-place.result.mount in
-    subst (CanGo w) (sym (listed-is (is_detached w i) c.in_ok-gone.gone c.in_ok-gone.ensures.gone))
-    (detached-can-go w c.requires.well_formed i (sym c.is_root_mount.ensures ∙ c.if-is_root_mount.false))
+    subst (CanGo w) (sym (listed-is (is_taken w i) c.in_ok-gone.gone c.in_ok-gone.ensures.gone))
+    (taken-can-go w c.requires.well_formed i (sym c.is_root_mount.ensures ∙ c.if-is_root_mount.false))
 
 pub returns-clause-done : goal.returns-clause-done
 returns-clause-done c =

@@ -14,6 +14,7 @@ is_made : (c : goal.After-set_state) → world_view (record {
   next_mount = c.args.world.now.next_mount;
   next_space = c.args.world.now.next_space;
   trees = c.args.world.now.trees;
+  locks = c.args.world.now.locks;
 }) ≡ with_joined (world_view c.args.world.now) c.args.id c.args.state
 is_made c =
     let w = world_view c.args.world.now in

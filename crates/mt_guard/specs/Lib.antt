@@ -1,0 +1,4 @@
+pub mod Refusals
+pub mod Coming
+pub mod Changing
+pub mod Judging

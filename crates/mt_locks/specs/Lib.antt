@@ -1,0 +1,2 @@
+pub mod MountLocks
+pub mod Locks
