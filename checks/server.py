@@ -45,6 +45,7 @@ from clients.rootless import check_rootless
 from clients.saves import check_saves
 from clients.starts import check_starts
 from clients.terminals import check_terminals
+from clients.traces import check_traces
 from clients.transcripts import check_transcripts
 from clients.worlds import check_worlds
 from clients.writes import check_writes
@@ -118,6 +119,7 @@ CLIENT_PARTS = {
     "own sessions": check_own_sessions,
     "saves": check_saves,
     "foretold": check_foretold,
+    "traces": check_traces,
     "paged": check_paged,
 }
 
