@@ -12,7 +12,7 @@ use Rattle.mt_protocol.specs.declared.argument.Argument.TheVariants.{Space, Scop
 use Rattle.mt_protocol.specs.declared.form.Form.{Form}
 use Rattle.mt_protocol.specs.declared.form.Form.TheVariants.{Done, Number, Place, Table, Locks as LocksForm, Opening, Posts, Commands, Followed, Never}
 use Rattle.mt_protocol.specs.declared.verb.Verb.{Verb}
-use Rattle.mt_protocol.specs.declared.verb.Verb.TheVariants.{Mkfs, Mkdir, Newns, Copyns, Dropns, Mount, Bind, Rbind, Move, Pivot, Umount, Detach, Setattr, Opentree, Newtree, Movetree, Show, Locks, Find, Journal, Watch, Take, Follow, Close, Quit, Stop}
+use Rattle.mt_protocol.specs.declared.verb.Verb.TheVariants.{Mkfs, Mkdir, Newns, Copyns, Dropns, Mount, Bind, Rbind, Move, Pivot, Umount, Detach, Setattr, Opentree, Newtree, Movetree, Show, Locks, Tally, Find, Journal, Watch, Take, Follow, Close, Quit, Stop}
 use Rattle.mt_protocol.specs.Rows.{VerbRow}
 
 -- the most posts of one `take`, and commands of one `journal`; and the most posts of one `follow`
@@ -50,6 +50,7 @@ verb_row Newtree = command (codes "newtree") (Label ∷ []) Number (NoFilesystem
 verb_row Movetree = command (codes "movetree") (Space ∷ Space ∷ Path ∷ []) Done (NoNamespace ∷ NotDetached ∷ NoEntry ∷ RootPlace ∷ IntoItself ∷ UnbindableInside ∷ TooMany ∷ []) (codes "movetree 2 1 /mnt")
 verb_row Show = other (codes "show") (Space ∷ []) Table (NoNamespace ∷ []) (codes "show 1")
 verb_row Locks = other (codes "locks") (Space ∷ []) LocksForm (NoNamespace ∷ []) (codes "locks 2")
+verb_row Tally = other (codes "count") (Space ∷ []) Number (NoNamespace ∷ []) (codes "count 1")
 verb_row Find = other (codes "find") (Space ∷ Path ∷ []) Place (NoNamespace ∷ NoEntry ∷ []) (codes "find 1 /media/old")
 verb_row Journal = other (codes "journal") (Count 18446744073709551615 ∷ Count most_taken ∷ []) Commands [] (codes "journal 1 8")
 verb_row Watch = other (codes "watch") (Scope ∷ []) Opening (WatcherOpen ∷ NoNamespace ∷ TooManyWatchers ∷ Stopped ∷ []) (codes "watch all")
@@ -94,7 +95,7 @@ is_optional argument = false
 
 -- every verb
 abbrev pub verbs : List Verb
-verbs = Mkfs ∷ Mkdir ∷ Newns ∷ Copyns ∷ Dropns ∷ Mount ∷ Bind ∷ Rbind ∷ Move ∷ Pivot ∷ Umount ∷ Detach ∷ Setattr ∷ Opentree ∷ Newtree ∷ Movetree ∷ Show ∷ Locks ∷ Find ∷ Journal ∷ Watch ∷ Take ∷ Follow ∷ Close ∷ Quit ∷ Stop ∷ []
+verbs = Mkfs ∷ Mkdir ∷ Newns ∷ Copyns ∷ Dropns ∷ Mount ∷ Bind ∷ Rbind ∷ Move ∷ Pivot ∷ Umount ∷ Detach ∷ Setattr ∷ Opentree ∷ Newtree ∷ Movetree ∷ Show ∷ Locks ∷ Tally ∷ Find ∷ Journal ∷ Watch ∷ Take ∷ Follow ∷ Close ∷ Quit ∷ Stop ∷ []
 
 -- the verb of a word, if it is that of one
 unfoldable pub verb_of : List ℕ → Option Verb

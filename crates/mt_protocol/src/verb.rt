@@ -58,6 +58,8 @@ pub enum Verb {
     Show,
     /// `locks` lists what is locked in a namespace.
     Locks,
+    /// `count` counts the mounts of a namespace.
+    Tally,
     /// `find` says where a path ends.
     Find,
     /// `journal` lists accepted commands.
@@ -77,7 +79,7 @@ pub enum Verb {
 }
 
 /// Every verb, in the order of the help.
-pub const VERBS: [Verb; 26] = [
+pub const VERBS: [Verb; 27] = [
     Verb::Mkfs,
     Verb::Mkdir,
     Verb::Newns,
@@ -96,6 +98,7 @@ pub const VERBS: [Verb; 26] = [
     Verb::Movetree,
     Verb::Show,
     Verb::Locks,
+    Verb::Tally,
     Verb::Find,
     Verb::Journal,
     Verb::Watch,
@@ -308,6 +311,9 @@ impl Verb {
                     "lists what is locked of the mounts of a namespace",
                     "locks 2",
                 ),
+            Verb::Tally => other(b"count", &[Space], Number)
+                .refused(&[NoNamespace])
+                .says("count NS", "counts the mounts of a namespace", "count 1"),
             Verb::Find => other(b"find", &[Space, Path], Place)
                 .refused(&[NoNamespace, NoEntry])
                 .says(

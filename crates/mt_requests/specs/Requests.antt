@@ -175,6 +175,7 @@ request_with verb.Newtree w = request.Run (command.NewTree (label_bytes (first_o
 request_with verb.Movetree w = request.Run (command.MoveTree (number_said (first_of w)) (number_said (second_of w)) (path_names (third_of w)))
 request_with verb.Show w = request.Ask (query.Show (number_said (first_of w)))
 request_with verb.Locks w = request.Ask (query.Locks (number_said (first_of w)))
+request_with verb.Tally w = request.Ask (query.Count (number_said (first_of w)))
 request_with verb.Find w = request.Ask (query.Find (number_said (first_of w)) (path_names (second_of w)))
 request_with verb.Journal w = request.Ask (query.Journal (number_said (first_of w)) (number_said (second_of w)))
 request_with verb.Watch w = request.Watch (scope_said (first_of w))
@@ -239,6 +240,7 @@ command_verb (command.MoveTree tree n path) = verb.Movetree
 abbrev pub query_verb : Query → Verb
 query_verb (query.Show n) = verb.Show
 query_verb (query.Locks n) = verb.Locks
+query_verb (query.Count n) = verb.Tally
 query_verb (query.Find n path) = verb.Find
 query_verb (query.Journal from most) = verb.Journal
 

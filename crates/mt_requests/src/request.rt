@@ -23,6 +23,8 @@ pub enum Query {
     Show(u64),
     /// `locks NS` lists what is locked in a namespace.
     Locks(u64),
+    /// `count NS` counts the mounts of a namespace.
+    Count(u64),
     /// `find NS PATH` says where a path ends in a namespace.
     Find { space: u64, path: Names },
     /// `journal FROM K` lists up to so many accepted commands, 1 to 1,024, from the one of a number on. The first has
@@ -171,6 +173,7 @@ fn request_with(alloc: Global, verb: Verb, words: Words<'_>) -> Result<Request, 
         })),
         Verb::Show => Ok(Request::Ask(Query::Show(space))),
         Verb::Locks => Ok(Request::Ask(Query::Locks(space))),
+        Verb::Tally => Ok(Request::Ask(Query::Count(space))),
         Verb::Find => Ok(Request::Ask(Query::Find {
             space,
             path: path_of(alloc, second)?,

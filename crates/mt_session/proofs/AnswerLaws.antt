@@ -27,10 +27,10 @@ use Rattle.mt_floor.specs.Schedule.{FloorView, command_refusal, opening_refusal,
 use Rattle.mt_requests.specs.declared.request.Request.{Request}
 use Rattle.mt_requests.specs.declared.request.Request.TheVariants.{Run, Ask, Watch, Take, Follow, Close, Quit, Stop}
 use Rattle.mt_requests.specs.declared.request.Query.{Query}
-use Rattle.mt_requests.specs.declared.request.Query.TheVariants.{Show, Locks, Find, Journal}
+use Rattle.mt_requests.specs.declared.request.Query.TheVariants.{Show, Locks, Count, Find, Journal}
 use Rattle.mt_requests.specs.Requests.{command_verb, query_verb, request_verb}
 use Rattle.mt_requests.proofs.CountLaws.{lines_tell}
-use Rattle.mt_session.specs.Answers.{refusal, found_text, shown_text, commands_from, lock_lines_text, locks_text, query_text, reply_text}
+use Rattle.mt_session.specs.Answers.{refusal, found_text, shown_text, commands_from, lock_lines_text, locks_text, query_text, reply_text, tally_text}
 use Rattle.mt_session.specs.Requests.{SessionState, stepped_text, by_phase, rest_text, taken_text, end_of_followed, closed_text, next_posts, answer_to}
 use Rattle.mt_session.specs.Forms.{Refuses, HasForm, AnswersHaveForms}
 use Rattle.mt_session.specs.Session.{Growth, Granted, Refused, Unshown, request_of_line, may_fail, may_be_unshown, answer_of, answer_with, answer_to_turn}
@@ -113,9 +113,17 @@ place_answer : (found : Result (ℕ × List (List ℕ)) Fault) → IsAnswerOf fo
 place_answer (Ok p) = inr (p.0, p.1, refl)
 place_answer (Err x) = inl (x, refl)
 
+tally_answer : (journal : List Command) (n : ℕ) → IsAnswerOf form.Number (tally_text journal n)
+tally_answer journal n =
+    elim (is_space (after journal) n) as (λ b. IsAnswerOf form.Number (cond b (count_text (length (table_of (after journal) n))) (refusal NoNamespace))) [
+      | true ↦ inr (length (table_of (after journal) n), refl)
+      | false ↦ inl (NoNamespace, refl)
+    ]
+
 query_answer : (journal : List Command) (q : Query) → IsAnswerOf (verb_form (query_verb q)) (query_text journal q)
 query_answer journal (Show n) = table_answer journal n
 query_answer journal (Locks n) = locks_answer journal n
+query_answer journal (Count n) = tally_answer journal n
 query_answer journal (Find n path) = place_answer (found_at (after journal) n path)
 query_answer journal (Journal from most) = inr (commands_from from most journal, refl)
 

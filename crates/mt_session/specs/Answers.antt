@@ -18,7 +18,7 @@ use Rattle.mt_locks.specs.declared.mount_locks.MountLocks.{MountLocks}
 use Rattle.mt_info.specs.LockLine.{whole_lock_line}
 use Rattle.mt_book.specs.History.{space_number}
 use Rattle.mt_requests.specs.declared.request.Query.{Query}
-use Rattle.mt_requests.specs.declared.request.Query.TheVariants.{Show, Locks, Find, Journal}
+use Rattle.mt_requests.specs.declared.request.Query.TheVariants.{Show, Locks, Count, Find, Journal}
 use Rattle.mt_requests.specs.Printed.{commands_text}
 
 -- the line of a refusal
@@ -60,9 +60,14 @@ commands_from from most journal = take most (drop (from - 1) journal)
 abbrev pub listed_text : List Command → List ℕ
 listed_text cs = count_text (length cs) ++ commands_text cs
 
+-- how many mounts a namespace has after these commands
+abbrev pub tally_text : List Command → ℕ → List ℕ
+tally_text journal n = cond (is_space (after journal) n) (count_text (length (table_of (after journal) n))) (refusal NoNamespace)
+
 -- what a query is answered after these commands
 abbrev pub query_text : List Command → Query → List ℕ
 query_text journal (Show n) = shown_text journal n
 query_text journal (Locks n) = locks_text journal n
+query_text journal (Count n) = tally_text journal n
 query_text journal (Find n path) = found_text (found_at (after journal) n path)
 query_text journal (Journal from most) = listed_text (commands_from from most journal)

@@ -2,11 +2,11 @@
 ghost use Rattle.std.specs.Prelude.{◌≡◌, ◌≢◌, take, drop, IfOk, IfErr};
 ghost use Rattle.mt_book.specs.Step.{after};
 ghost use Rattle.mt_book.specs.Book.{found_at};
-ghost use Rattle.mt_session.specs.Answers.{refusal, shown_text, locks_text, found_text, commands_from, listed_text, query_text};
+ghost use Rattle.mt_session.specs.Answers.{refusal, shown_text, locks_text, found_text, commands_from, listed_text, query_text, tally_text};
 
 use crate::text::Text;
 use mt_book::book::Book;
-use mt_book::command::Command;
+use mt_book::command::{Command, Reply};
 use mt_events::texts::push_heading;
 use mt_info::lock_line::push_lock_lines;
 use mt_requests::print::push_commands;
@@ -68,6 +68,16 @@ fn locks(alloc: Global, book: &Book, space: u64) -> Result<Text, Fault>
     Ok(Text::counted(alloc, rows.len() as u64, &lines)?)
 }
 
+/// The line that counts a namespace's mounts.
+fn count(book: &Book, space: u64) -> Text
+    ensures { result ≡ tally_text book.now.journal space }
+{
+    match book.number(space) {
+        Ok(_) => Text::reply(Reply::Number(book.row_count(space) as u64)),
+        Err(fault) => Text::refusal(fault),
+    }
+}
+
 /// The first commands, this many at most.
 fn first_commands(commands: &[Command], most: usize) -> &[Command]
     ensures { result.now ≡ take most commands.now }
@@ -117,6 +127,7 @@ pub(crate) fn asked(alloc: Global, book: &Book, query: &Query) -> Result<Text, F
     match query {
         Query::Show(space) => show(alloc, book, *space),
         Query::Locks(space) => locks(alloc, book, *space),
+        Query::Count(space) => Ok(count(book, *space)),
         Query::Find { space, path } => find(alloc, book, *space, path),
         Query::Journal { from, most } => list_commands(alloc, book, *from, *most),
     }
