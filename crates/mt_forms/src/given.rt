@@ -138,38 +138,34 @@ fn runs_command(tool: Tool) -> bool
 
 impl<'a> Given<'a> {
     /// The same, where something is wrong.
-    pub(crate) fn slipped(self, slip: Slip<'a>) -> Given<'a>
+    pub(crate) fn slipped(mut self, slip: Slip<'a>) -> Given<'a>
         ensures { result ≡ slipped slip.entry self.entry }
     {
         if self.slip.is_some() {
             return self;
         }
-        Given {
-            slip: Some(slip),
-            ..self
-        }
+        self.slip = Some(slip);
+        self
     }
 
     /// The same, where more is said of attributes.
-    fn with_said(self, said: Said) -> Given<'a>
+    fn with_said(mut self, said: Said) -> Given<'a>
         ensures { result ≡ with_said said self.entry }
     {
-        Given {
-            said,
-            has_list: true,
-            ..self
-        }
+        self.said = said;
+        self.has_list = true;
+        self
     }
 
     /// The same, with one change, which is no second one.
-    fn with_one_change(self, change: Change) -> Given<'a>
+    fn with_one_change(mut self, change: Change) -> Given<'a>
         ensures { result ≡ with_one_change change self.entry }
     {
         match self.change {
-            None => Given {
-                change: Some(change),
-                ..self
-            },
+            None => {
+                self.change = Some(change);
+                self
+            }
             Some(first) => {
                 if is_same_change(first, change) {
                     self
@@ -181,36 +177,32 @@ impl<'a> Given<'a> {
     }
 
     /// The same, with one propagation, which is no second one.
-    fn with_propagation(self, propagation: Propagation) -> Given<'a>
+    fn with_propagation(mut self, propagation: Propagation) -> Given<'a>
         ensures { result ≡ with_propagation propagation self.entry }
     {
         match self.propagation {
-            None => Given {
-                propagation: Some(propagation),
-                ..self
-            },
+            None => {
+                self.propagation = Some(propagation);
+                self
+            }
             Some(_) => self.slipped(Slip::TwoPropagations),
         }
     }
 
     /// The same, with an option of a filesystem.
-    fn with_foreign(self, word: &'a [u8]) -> Given<'a>
+    fn with_foreign(mut self, word: &'a [u8]) -> Given<'a>
         ensures { result ≡ with_foreign word.entry.now self.entry }
     {
         if self.foreign.is_some() {
-            return Given {
-                has_more_foreign: true,
-                ..self
-            };
+            self.has_more_foreign = true;
+            return self;
         }
-        Given {
-            foreign: Some(Word::new(word)),
-            ..self
-        }
+        self.foreign = Some(Word::new(word));
+        self
     }
 
     /// The same, with a word of the list of `-o`.
-    fn with_listed(self, word: &'a [u8]) -> Given<'a>
+    fn with_listed(mut self, word: &'a [u8]) -> Given<'a>
         ensures { result ≡ with_listed self.entry word.entry.now }
     {
         let Some(listed) = listed_of(word) else {
@@ -232,10 +224,10 @@ impl<'a> Given<'a> {
                 self.with_said(said)
             }
             Listed::Changes(change) => self.with_one_change(change),
-            Listed::Remounts => Given {
-                remounts: true,
-                ..self
-            },
+            Listed::Remounts => {
+                self.remounts = true;
+                self
+            }
             Listed::Makes(propagation) => self.with_propagation(propagation),
             Listed::Unseen => self,
         }
@@ -246,10 +238,8 @@ impl<'a> Given<'a> {
     pub(crate) fn with_list(self, list: &'a [u8]) -> Given<'a>
         ensures { result ≡ with_list list.entry.now self.entry }
     {
-        let mut given = Given {
-            has_list: true,
-            ..self
-        };
+        let mut given = self;
+        given.has_list = true;
         let mut words = Pieces::new(b',', list);
         'words: while let Some(word) = words.next() {
             given = given.with_listed(word);
@@ -258,7 +248,7 @@ impl<'a> Given<'a> {
     }
 
     /// The same, with what the mounts of a new namespace are made.
-    fn with_spread(self, word: &'a [u8]) -> Given<'a>
+    fn with_spread(mut self, word: &'a [u8]) -> Given<'a>
         ensures { result ≡ with_spread word.entry.now self.entry }
     {
         let kind = if word == b"shared".as_slice() {
@@ -268,26 +258,22 @@ impl<'a> Given<'a> {
         } else if word == b"slave".as_slice() {
             PropagationKind::Slave
         } else if word == b"unchanged".as_slice() {
-            return Given {
-                is_unchanged: true,
-                ..self
-            };
+            self.is_unchanged = true;
+            return self;
         } else {
             return self.slipped(Slip::NoKind {
                 word: Word::new(word),
             });
         };
-        Given {
-            propagation: Some(Propagation {
-                kind,
-                recursive: true,
-            }),
-            ..self
-        }
+        self.propagation = Some(Propagation {
+            kind,
+            recursive: true,
+        });
+        self
     }
 
     /// The same, with an option that has no value.
-    pub(crate) fn with_option(self, tool: Tool, means: Means) -> Given<'a>
+    pub(crate) fn with_option(mut self, tool: Tool, means: Means) -> Given<'a>
         ensures { result ≡ with_option tool means self.entry }
     {
         match means {
@@ -297,23 +283,26 @@ impl<'a> Given<'a> {
                 let said = self.said.turned(attribute, on);
                 self.with_said(said)
             }
-            Means::Mounts => Given {
-                has_mounts: true,
-                ..self
-            },
-            Means::Lazy => Given {
-                is_lazy: true,
-                ..self
-            },
-            Means::Reaches(reach) => Given { reach, ..self },
-            Means::Forced => Given {
-                is_forced: true,
-                ..self
-            },
-            Means::Less => Given {
-                is_less: true,
-                ..self
-            },
+            Means::Mounts => {
+                self.has_mounts = true;
+                self
+            }
+            Means::Lazy => {
+                self.is_lazy = true;
+                self
+            }
+            Means::Reaches(reach) => {
+                self.reach = reach;
+                self
+            }
+            Means::Forced => {
+                self.is_forced = true;
+                self
+            }
+            Means::Less => {
+                self.is_less = true;
+                self
+            }
             Means::Fstab => self.slipped(Slip::Fstab { tool }),
             Means::Options
             | Means::FilesystemType
@@ -326,32 +315,32 @@ impl<'a> Given<'a> {
     }
 
     /// The same, with an option and its value.
-    pub(crate) fn with_value(self, tool: Tool, means: Means, value: &'a [u8]) -> Given<'a>
+    pub(crate) fn with_value(mut self, tool: Tool, means: Means, value: &'a [u8]) -> Given<'a>
         ensures { result ≡ with_value tool means value.entry.now self.entry }
     {
         match means {
             Means::Options => self.with_list(value),
-            Means::FilesystemType => Given {
-                kind: Some(Word::new(value)),
-                ..self
-            },
-            Means::Source => Given {
-                source: Some(Word::new(value)),
-                ..self
-            },
-            Means::Target => Given {
-                target: Some(Word::new(value)),
-                ..self
-            },
-            Means::Space => Given {
-                space: Some(Word::new(value)),
-                ..self
-            },
-            Means::Mounts => Given {
-                has_mounts: true,
-                space: Some(Word::new(value)),
-                ..self
-            },
+            Means::FilesystemType => {
+                self.kind = Some(Word::new(value));
+                self
+            }
+            Means::Source => {
+                self.source = Some(Word::new(value));
+                self
+            }
+            Means::Target => {
+                self.target = Some(Word::new(value));
+                self
+            }
+            Means::Space => {
+                self.space = Some(Word::new(value));
+                self
+            }
+            Means::Mounts => {
+                self.has_mounts = true;
+                self.space = Some(Word::new(value));
+                self
+            }
             Means::Spread => self.with_spread(value),
             Means::Changes(_)
             | Means::Makes(_)
@@ -369,8 +358,9 @@ impl<'a> Given<'a> {
     pub(crate) fn with_plain(self, tool: Tool, word: &'a [u8]) -> Given<'a>
         ensures { result ≡ with_plain tool word.entry.now self.entry }
     {
+        let places = self.places.with(Word::new(word));
         Given {
-            places: self.places.with(Word::new(word)),
+            places,
             has_command: runs_command(tool),
             ..self
         }

@@ -52,14 +52,12 @@ fn takes_value(takes: Takes) -> bool
 
 impl<'a> Given<'a> {
     /// The same, with an option of one letter that takes a value: what comes after it in its word, or the next word.
-    fn with_value_behind(self, tool: Tool, means: Means, behind: &'a [u8]) -> Given<'a>
+    fn with_value_behind(mut self, tool: Tool, means: Means, behind: &'a [u8]) -> Given<'a>
         ensures { result ≡ value_behind tool means behind.entry.now self.entry }
     {
         if behind.is_empty() {
-            return Given {
-                waiting: Some(means),
-                ..self
-            };
+            self.waiting = Some(means);
+            return self;
         }
         self.with_value(tool, means, behind)
     }
@@ -88,7 +86,7 @@ impl<'a> Given<'a> {
 
     /// The same, with an option, and a value after `=` if there is one.
     fn with_taken(
-        self,
+        mut self,
         tool: Tool,
         word: &'a [u8],
         takes: Takes,
@@ -104,10 +102,10 @@ impl<'a> Given<'a> {
             }),
             (Takes::Nothing, None) => self.with_option(tool, means),
             (Takes::Value, Some(value)) => self.with_value(tool, means, value),
-            (Takes::Value, None) => Given {
-                waiting: Some(means),
-                ..self
-            },
+            (Takes::Value, None) => {
+                self.waiting = Some(means);
+                self
+            }
             (Takes::Maybe, Some(value)) => self.with_value(tool, means, value),
             (Takes::Maybe, None) => self.with_option(tool, means),
         }
@@ -140,33 +138,28 @@ impl<'a> Given<'a> {
     }
 
     /// The same, with a word that is not the value of the option before it.
-    fn with_free_word(self, tool: Tool, word: &'a [u8]) -> Given<'a>
+    fn with_free_word(mut self, tool: Tool, word: &'a [u8]) -> Given<'a>
         ensures { result ≡ with_free_word tool self.entry word.entry.now }
     {
         if self.has_ended || self.has_command || is_no_option(word) {
             return self.with_plain(tool, word);
         }
         if word == b"--".as_slice() {
-            return Given {
-                has_ended: true,
-                ..self
-            };
+            self.has_ended = true;
+            return self;
         }
         self.with_dashed(tool, word)
     }
 
     /// The same, with one word more.
-    pub(crate) fn with_word(self, tool: Tool, word: &'a [u8]) -> Given<'a>
+    pub(crate) fn with_word(mut self, tool: Tool, word: &'a [u8]) -> Given<'a>
         ensures { result ≡ with_word tool self.entry word.entry.now }
     {
         let Some(means) = self.waiting else {
             return self.with_free_word(tool, word);
         };
-        let given = Given {
-            waiting: None,
-            ..self
-        };
-        given.with_value(tool, means, word)
+        self.waiting = None;
+        self.with_value(tool, means, word)
     }
 
     /// The same, with these words.

@@ -1,0 +1,2 @@
+pub mod CallNameLaws
+pub mod ChangeLaws

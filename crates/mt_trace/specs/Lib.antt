@@ -1,0 +1,9 @@
+pub mod Flags
+pub mod StringArguments
+pub mod CallNames
+pub mod CallFlags
+pub mod MountFlags
+pub mod SystemCalls
+pub mod Asking
+pub mod Joining
+pub mod Laws
