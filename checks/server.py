@@ -43,6 +43,7 @@ from clients.reasons import check_reasons
 from clients.refusals import check_refusals
 from clients.rootless import check_rootless
 from clients.saves import check_saves
+from clients.screens import check_screens
 from clients.starts import check_starts
 from clients.terminals import check_terminals
 from clients.transcripts import check_transcripts
@@ -116,6 +117,7 @@ CLIENT_PARTS = {
     "played": check_played,
     "transcripts": check_transcripts,
     "own sessions": check_own_sessions,
+    "screens": check_screens,
     "saves": check_saves,
     "foretold": check_foretold,
     "paged": check_paged,

@@ -16,6 +16,9 @@ use mt_mounts::mount::MountId;
 /// How many states can be copied in about the time in which one is looked up and written.
 const SWEEP: usize = 32;
 
+/// How many states are taken out one after another at most: each moves all behind it.
+const MOST_TAKEN: usize = 4;
+
 /// Lists a mount by its group and its master, or takes it out of both lists if it has no state.
 fn list_state(members: &mut Lists, slaves: &mut Lists, id: MountId, state: Option<State>)
     requires members_room { 0 < members.old.room }
@@ -96,8 +99,8 @@ fn follow_each(entries: &mut Vec<Entry>, others: &[Entry], ids: &[MountId])
     }
 }
 
-/// Makes the states equal to others, from which only those of these mounts differ: each of them is written, or all
-/// states are copied in one pass.
+/// Makes the states equal to others, from which only those of these mounts differ: each of them is written, or, where they
+/// are many or several go, all states are copied in one pass.
 pub(crate) fn follow_entries(entries: &mut Vec<Entry>, others: &[Entry], ids: &[MountId])
     requires rising { IsTrue (rises mount_of (now_peers entries.old.items)) }
     requires others_rising { IsTrue (rises mount_of (now_peers others.now)) }
@@ -106,7 +109,8 @@ pub(crate) fn follow_entries(entries: &mut Vec<Entry>, others: &[Entry], ids: &[
     requires alike { AreAlikeBut ids.now (state_at (now_peers entries.old.items)) (state_at (now_peers others.now)) }
     ensures peers { now_peers entries.new.items ≡ now_peers others.now }
 {
-    if ids.len() < others.len() / SWEEP {
+    let is_no_less = entries.len() <= others.len();
+    if (is_no_less || ids.len() <= MOST_TAKEN) && ids.len() < others.len() / SWEEP {
         return follow_each(entries, others, ids);
     }
     entries.clear();

@@ -1,22 +1,17 @@
 //! Peer groups that are seen differently after a change, and the mounts below them, which may tell another group above
 //! their master.
-ghost use Rattle.std.specs.Prelude.{◌≡◌, ℕ, ◌++◌, ◌||◌, false, map, nat_eq, IsTrue, OnOk, IfOk, IsOkUnless};
-ghost use Rattle.std.specs.List.{filter_map, flat_map, list_any};
+ghost use Rattle.std.specs.Prelude.{◌≡◌, ℕ, ◌||◌, false, map, nat_eq, IsTrue, OnOk, IfOk, IsOkUnless};
+ghost use Rattle.std.specs.List.{flat_map};
 ghost use Rattle.std.specs.Option.{option_map_or};
 ghost use Rattle.mt_skel.specs.Keyed.{among};
-ghost use Rattle.mt_peers.specs.Peers.{slaves};
-ghost use Rattle.mt_peers.specs.Masters.{masters_up, reaches};
-ghost use Rattle.mt_peers.specs.Members.{group_at};
-ghost use Rattle.mt_peers.specs.Entered.{entered};
-ghost use Rattle.mt_peers.specs.WellFormed.{IsPeering};
-ghost use Rattle.mt_propagate.specs.World.{world_view, space_of};
+ghost use Rattle.mt_propagate.specs.World.{world_view, space_of, is_space};
 ghost use Rattle.mt_propagate.specs.FromGroup.{is_seen};
 ghost use Rattle.mt_propagate.specs.WellFormed.{IsWellFormed};
 ghost use Rattle.mt_propagate.specs.Touched.{AreNoted, IsTouched};
-ghost use Rattle.mt_propagate.specs.Turned.{IsSteady, IsQuiet, is_alike, is_below_group, groups_of_changed};
+ghost use Rattle.mt_propagate.specs.Turned.{IsSteady, IsQuiet, IsLedAlike, is_alike, groups_of_changed, lasts, lasting_group, groups_lasting};
 
-use crate::order::Order;
-use crate::receivers::{entered, group_of, push_some};
+use crate::below_groups::{push_all_below, push_below_in};
+use crate::receivers::group_of;
 use crate::sorted::in_order;
 use crate::world::{World, space_of, state_of};
 use mt_mounts::mount::{MountId, SpaceId};
@@ -112,6 +107,100 @@ fn changed_groups(before: &World, after: &World, ids: &[MountId]) -> Result<Vec<
     Ok(in_order(groups))
 }
 
+/// Whether a namespace is there.
+fn is_space(world: &World, space: SpaceId) -> bool
+    ensures { result ≡ is_space (world_view world.now) space }
+{
+    world.forest.root(space).is_some()
+}
+
+/// Whether a namespace is there both before and after.
+fn lasts(before: &World, after: &World, space: SpaceId) -> bool
+    ensures { result ≡ lasts (world_view before.now) (world_view after.now) space }
+{
+    is_space(before, space) && is_space(after, space)
+}
+
+/// The peer group of a mount in a world, if its namespace there lasts.
+fn lasting_group(world: &World, before: &World, after: &World, id: MountId) -> Option<GroupId>
+    ensures { result ≡ lasting_group (world_view world.now) (world_view before.now) (world_view after.now) id }
+{
+    let group = group_of(world, id)?;
+    if lasts(before, after, space_of(world, id)) {
+        Some(group)
+    } else {
+        None
+    }
+}
+
+/// Appends the groups of a mount before and after that it has in namespaces that last, unless it has the same group, master
+/// and namespace.
+fn push_lasting(
+    groups: &mut Vec<GroupId>,
+    before: &World,
+    after: &World,
+    id: MountId,
+) -> Result<(), Fault>
+    ensures groups { OnOk result ((g : ℕ) → among groups.new.items g ≡ (among groups.old.items g || among (groups_lasting (world_view before.now) (world_view after.now) id) g)) }
+    ensures memory { IsOkUnless result Fault.NoMemory }
+{
+    let (old, new) = (
+        lasting_group(before, before, after, id),
+        lasting_group(after, before, after, id),
+    );
+    let is_groupless = old.is_none() && new.is_none();
+    if is_groupless || is_alike(before, after, id) {
+        return Ok(());
+    }
+    push_next(groups, old)?;
+    push_next(groups, new)
+}
+
+/// The groups that some of these mounts joined or left, or stay in with another master, in namespaces that last, rising,
+/// each once.
+fn lasting_groups(before: &World, after: &World, ids: &[MountId]) -> Result<Vec<GroupId>, Fault>
+    ensures groups { IfOk result (λ groups. (g : ℕ) → among groups.items g ≡ among (flat_map (groups_lasting (world_view before.now) (world_view after.now)) ids.now) g) }
+    ensures memory { IsOkUnless result Fault.NoMemory }
+{
+    let mut groups = Vec::new(after.peers.allocator());
+    for id in ids {
+        push_lasting(&mut groups, before, after, *id)?;
+    }
+    Ok(in_order(groups))
+}
+
+/// Appends a peer group that has slaves, if it has another master before than after.
+fn push_led(
+    groups: &mut Vec<GroupId>,
+    before: &World,
+    after: &World,
+    group: GroupId,
+) -> Result<(), Fault>
+    ensures kept { OnOk result ((g : ℕ) → IsTrue (among groups.old.items g) → IsTrue (among groups.new.items g)) }
+    ensures led { OnOk result (among groups.new.items group ≡ false → IsLedAlike (world_view before.now) (world_view after.now) group) }
+    ensures memory { IsOkUnless result Fault.NoMemory }
+{
+    if after.peers.first_slave(group).is_none()
+        || before.peers.master_of(group) == after.peers.master_of(group)
+    {
+        return Ok(());
+    }
+    groups.push(group)?;
+    Ok(())
+}
+
+/// Those of these groups that have slaves and another master before than after.
+fn led_groups(before: &World, after: &World, groups: &[GroupId]) -> Result<Vec<GroupId>, Fault>
+    ensures led { IfOk result (λ led. (g : ℕ) → IsTrue (among groups.now g) → among led.items g ≡ false → IsLedAlike (world_view before.now) (world_view after.now) g) }
+    ensures memory { IsOkUnless result Fault.NoMemory }
+{
+    let mut led = Vec::new(after.peers.allocator());
+    'groups: for group in groups {
+        push_led(&mut led, before, after, *group)?;
+    }
+    Ok(led)
+}
+
 /// Appends a peer group that has slaves, unless it is steady.
 fn push_turned(
     groups: &mut Vec<GroupId>,
@@ -142,100 +231,21 @@ fn turned_groups(before: &World, after: &World, groups: &[GroupId]) -> Result<Ve
     Ok(turned)
 }
 
-/// Appends the groups that are entered at slaves of a group, when the search began at `start`.
-fn push_entered(
-    groups: &mut Vec<GroupId>,
-    world: &World,
-    start: GroupId,
-    slaves: &[MountId],
-) -> Result<(), Fault>
-    ensures groups { OnOk result (groups.new.items ≡ groups.old.items ++ filter_map (λ i. entered world.now.peers.peers start i (group_at world.now.peers.peers i)) slaves.now) }
+/// The namespaces of these mounts before and after, rising, each once.
+fn spaces_around(before: &World, after: &World, ids: &[MountId]) -> Result<Vec<SpaceId>, Fault>
+    ensures spaces { IfOk result (λ spaces. (n : ℕ) → among spaces.items n ≡ (among (map (space_of (world_view before.now)) ids.now) n || among (map (space_of (world_view after.now)) ids.now) n)) }
     ensures memory { IsOkUnless result Fault.NoMemory }
 {
-    'slaves: for id in slaves {
-        let own = group_of(world, *id);
-        push_some(groups, entered(&world.peers, start, *id, own))?;
-    }
-    Ok(())
-}
-
-/// A peer group and all below it, at whatever height, each once.
-fn groups_below(world: &World, group: GroupId) -> Result<Vec<GroupId>, Fault>
-    ensures groups { IfOk result (λ groups. (h : ℕ) → among groups.items h ≡ reaches world.now.peers.peers h group) }
-    ensures memory { IsOkUnless result Fault.NoMemory }
-{
-    let mut groups = Vec::new(world.peers.allocator());
-    groups.push(group)?;
-    let mut visited = 0usize;
-    'groups: while visited < groups.len() {
-        let slaves = world.peers.slaves(groups[visited])?;
-        push_entered(&mut groups, world, group, &slaves)?;
-        visited += 1;
-    }
-    Ok(groups)
-}
-
-/// Appends the slaves of these groups.
-fn push_slaves(ids: &mut Vec<MountId>, world: &World, groups: &[GroupId]) -> Result<(), Fault>
-    ensures ids { OnOk result (ids.new.items ≡ ids.old.items ++ flat_map (slaves world.now.peers.peers) groups.now) }
-    ensures memory { IsOkUnless result Fault.NoMemory }
-{
-    'groups: for group in groups {
-        let slaves = world.peers.slaves(*group)?;
-        ids.extend_from_slice(&slaves)?;
-    }
-    Ok(())
-}
-
-/// Whether one of these groups is above another group. Takes no memory.
-fn has_one_above(world: &World, groups: &Order, group: GroupId) -> bool
-    ensures { result ≡ list_any (λ h. list_any (nat_eq h) groups.now) (masters_up world.now.peers.peers group) }
-{
-    for above in world.peers.masters_up(group) {
-        if groups.has(above) {
-            return true;
-        }
-    }
-    false
-}
-
-/// Appends the mounts below a group, unless one of these groups is above it, since they are found below that one as
-/// well.
-fn push_below(
-    ids: &mut Vec<MountId>,
-    world: &World,
-    groups: &Order,
-    group: GroupId,
-) -> Result<(), Fault>
-    ensures kept { OnOk result ((i : ℕ) → IsTrue (among ids.old.items i) → IsTrue (among ids.new.items i)) }
-    ensures below { OnOk result (list_any (λ h. list_any (nat_eq h) groups.now) (masters_up world.now.peers.peers group) ≡ false → (i : ℕ) → IsTrue (is_below_group world.now.peers.peers group i) → IsTrue (among ids.new.items i)) }
-    ensures memory { IsOkUnless result Fault.NoMemory }
-{
-    if has_one_above(world, groups, group) {
-        return Ok(());
-    }
-    let below = groups_below(world, group)?;
-    push_slaves(ids, world, &below)?;
-    Ok(())
-}
-
-/// Appends the mounts below these groups, at whatever height. No group is gone over twice.
-fn push_all_below(ids: &mut Vec<MountId>, world: &World, groups: &[GroupId]) -> Result<(), Fault>
-    requires order { IsPeering (world_view world.now).peering }
-    ensures kept { OnOk result ((i : ℕ) → IsTrue (among ids.old.items i) → IsTrue (among ids.new.items i)) }
-    ensures below { OnOk result ((g i : ℕ) → IsTrue (among groups.now g) → IsTrue (is_below_group world.now.peers.peers g i) → IsTrue (among ids.new.items i)) }
-    ensures memory { IsOkUnless result Fault.NoMemory }
-{
-    let order = Order::new(Vec::from_slice(world.peers.allocator(), groups)?);
-    'groups: for group in groups {
-        push_below(ids, world, &order, *group)?;
-    }
-    Ok(())
+    let mut spaces = spaces_of(before, ids)?;
+    let others = spaces_of(after, ids)?;
+    spaces.extend_from_slice(&others)?;
+    Ok(in_order(spaces))
 }
 
 /// Appends, to the mounts that came, went or changed, those that may tell another group above their master because of
-/// it: those below a group that got another master, or that has members in a namespace only before or only after. If no
-/// mount has a master, none is looked at.
+/// it: those below a group that got another master; and below a group that has members in a namespace only before or only
+/// after, those in the namespaces of the mounts that came, went or changed. Of a namespace that comes or goes all mounts do
+/// so too, and it does not matter which groups are seen there. If no mount has a master, none is looked at.
 pub(crate) fn push_turned_below(
     ids: &mut Vec<MountId>,
     before: &World,
@@ -251,7 +261,11 @@ pub(crate) fn push_turned_below(
         return Ok(());
     }
     let groups = changed_groups(before, after, ids)?;
-    let turned = turned_groups(before, after, &groups)?;
-    push_all_below(ids, after, &turned)?;
+    let led = led_groups(before, after, &groups)?;
+    let lasting = lasting_groups(before, after, ids)?;
+    let turned = turned_groups(before, after, &lasting)?;
+    let spaces = spaces_around(before, after, ids)?;
+    push_all_below(ids, after, &led)?;
+    push_below_in(ids, after, &turned, &spaces)?;
     Ok(())
 }

@@ -1,6 +1,6 @@
 use Rattle.std.proofs.Common.{suc, ◌-◌, take, length}
 use Rattle.mt_peers.proofs.WorklistLaws.{IsWorklist}
-use Rattle.mt_propagate.proofs.turned_groups.groups_below.Given as goal
+use Rattle.mt_propagate.proofs.below_groups.groups_below.Given as goal
 
 -- the slaves of the groups visited were gone over
 abbrev pub invariant-groups : goal.invariant-groups

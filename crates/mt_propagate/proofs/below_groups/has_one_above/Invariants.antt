@@ -2,7 +2,7 @@ use Rattle.std.proofs.Common.{◌≡◌}
 use Rattle.std.specs.Prelude.{nat_eq}
 use Rattle.std.specs.List.{list_any}
 use Rattle.mt_peers.specs.Above.{masters_to_come}
-use Rattle.mt_propagate.proofs.turned_groups.has_one_above.Given as goal
+use Rattle.mt_propagate.proofs.below_groups.has_one_above.Given as goal
 
 -- no group passed is one of them
 abbrev pub invariant-loop-above : goal.invariant-loop-above

@@ -3,7 +3,7 @@ use Rattle.std.proofs.lemmas.List.{take_all}
 use Rattle.mt_skel.specs.Keyed.{among}
 use Rattle.mt_propagate.specs.World.{world_view}
 use Rattle.mt_propagate.proofs.BelowGroupLaws.{below-top}
-use Rattle.mt_propagate.proofs.turned_groups.push_all_below.Goals as goal
+use Rattle.mt_propagate.proofs.below_groups.push_all_below.Goals as goal
 
 pub returns-clause-below : goal.returns-clause-below
 returns-clause-below c g i e b =

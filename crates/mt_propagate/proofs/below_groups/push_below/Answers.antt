@@ -4,7 +4,7 @@ use Rattle.mt_skel.specs.Keyed.{among}
 use Rattle.mt_skel.proofs.ElementLaws.{in_right}
 use Rattle.mt_peers.specs.Peers.{slaves}
 use Rattle.mt_propagate.proofs.BelowGroupLaws.{in-among, among-in, below-slaves}
-use Rattle.mt_propagate.proofs.turned_groups.push_below.Goals as goal
+use Rattle.mt_propagate.proofs.below_groups.push_below.Goals as goal
 
 pub returns-clause-below : goal.returns-clause-below
 returns-clause-below c none i b =

@@ -4,7 +4,7 @@ use Rattle.mt_peers.specs.Members.{group_at}
 use Rattle.mt_peers.specs.Entered.{entered}
 use Rattle.mt_peers.proofs.WorklistLaws.{IsWorklist, worklist-start, worklist-all, worklist-reach}
 use Rattle.mt_peers.proofs.VisitLaws.{visit-bound, visit-next}
-use Rattle.mt_propagate.proofs.turned_groups.groups_below.Goals as goal
+use Rattle.mt_propagate.proofs.below_groups.groups_below.Goals as goal
 
 pub groups-init : goal.groups-init
 groups-init c =

@@ -1,7 +1,7 @@
 use Rattle.std.proofs.Common.{◌≡◌, ◌++◌, drop}
 use Rattle.std.specs.List.{flat_map}
 use Rattle.mt_peers.specs.Peers.{slaves}
-use Rattle.mt_propagate.proofs.turned_groups.push_slaves.Given as goal
+use Rattle.mt_propagate.proofs.below_groups.push_slaves.Given as goal
 
 -- the slaves of the groups passed were appended
 abbrev pub invariant-groups : goal.invariant-groups

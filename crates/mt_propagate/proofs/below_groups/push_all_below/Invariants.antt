@@ -3,7 +3,7 @@ use Rattle.std.specs.Prelude.{IsTrue}
 use Rattle.mt_skel.specs.Keyed.{among}
 use Rattle.mt_propagate.specs.Turned.{is_below_group}
 use Rattle.mt_propagate.proofs.BelowGroupLaws.{has_above}
-use Rattle.mt_propagate.proofs.turned_groups.push_all_below.Given as goal
+use Rattle.mt_propagate.proofs.below_groups.push_all_below.Given as goal
 
 -- the mounts below each group passed that has none of the others above it are there, and so are all that were
 abbrev pub invariant-groups : goal.invariant-groups

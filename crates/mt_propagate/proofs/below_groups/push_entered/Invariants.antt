@@ -2,7 +2,7 @@ use Rattle.std.proofs.Common.{◌≡◌, ◌++◌, drop}
 use Rattle.std.specs.List.{filter_map}
 use Rattle.mt_peers.specs.Members.{group_at}
 use Rattle.mt_peers.specs.Entered.{entered}
-use Rattle.mt_propagate.proofs.turned_groups.push_entered.Given as goal
+use Rattle.mt_propagate.proofs.below_groups.push_entered.Given as goal
 
 -- the groups entered at the slaves passed were appended
 abbrev pub invariant-slaves : goal.invariant-slaves
