@@ -1,11 +1,12 @@
 """Large tables that are imported: each in a second, and as many of the mounts as a server has room for. A module, a part of server.py.
 
-Those after are told in comments, each with its row, and each command of the script is accepted.
+Those after are told in comments, each with its row, and each command of the script is accepted. Where no room is said, the
+script says which one it takes, and none is left out.
 """
 import time
 
 from clients.imports import check_table, imported
-from clients.outcomes import left_out
+from clients.outcomes import left_out, room_words
 from harness.runs import check, shown
 
 NO_ROOM = b"the server has no room for it"
@@ -71,14 +72,27 @@ CROWDS = (
 )
 
 
+def check_roomy(program, mountctl, name, lines):
+    """A table for which a room of 1 is too small takes a greater one, the least that does, and is whole there."""
+    script = imported(mountctl, b"".join(line + b"\n" for line in lines))[1].split(b"\n")
+    said = room_words(script)
+    check(f"{name} says its room", said, shown(script[0]))
+    if said:
+        check(f"{name} in its room", check_table(program, mountctl, name, lines, *said))
+        lesser = imported(mountctl, b"".join(line + b"\n" for line in lines), "--room", str(int(said[1]) - 1))[1]
+        check(f"{name} in a lesser room", NO_ROOM in lesser)
+
+
 def check_crowds(program, mountctl):
     for rows, count, left in CROWDS:
         name, lines = f"import of {count} {rows.__name__}", list(rows(count))
         start = time.monotonic()
-        script = imported(mountctl, b"".join(line + b"\n" for line in lines))[1].split(b"\n")
+        script = imported(mountctl, b"".join(line + b"\n" for line in lines), "--room", "1")[1].split(b"\n")
         took = time.monotonic() - start
         check(f"{name} in a second", took < 1, f"{took:.1f} s")
         told = left_out(script)
         found = len(told), sum(NO_ROOM in line for line in script)
         check(f"{name} as far as there is room", found == (left, left), shown(b"\n".join([b"%d %d" % found, *told[:3]])))
-        check_table(program, mountctl, name, lines)
+        check_table(program, mountctl, name, lines, "--room", "1")
+        if left:
+            check_roomy(program, mountctl, name, lines)

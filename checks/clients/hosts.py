@@ -13,9 +13,9 @@ import os
 import re
 import tempfile
 
-from clients.outcomes import Imported, check_world
+from clients.outcomes import Imported, check_world, room_words
 from harness.protocol import row_of
-from harness.runs import check, read, run, shown
+from harness.runs import answer_groups, check, read, run, session, shown
 from harness.servers import Server
 from kernels import syscalls
 
@@ -140,6 +140,29 @@ def check_machine(program, mountctl):
         print(f"{len(tables)} tables of this machine imported, {sum(map(len, tables))} rows, {len(world.left())} left out", flush=True)
 
 
+# What a script says of the process of a table.
+PROCESS = re.compile(rb"# table \d+ is that of process (\d+)(?: .*)?")
+
+
+def space_of(pid):
+    return os.stat(f"/proc/{int(pid)}/ns/mnt").st_ino
+
+
+def check_every_space(program, mountctl):
+    """An import of all has each mount namespace of this machine that may be looked at once, and each of its commands is accepted."""
+    with contextlib.ExitStack() as stack:
+        guests = [stack.enter_context(Guest(*how)).process.pid for how in ((), (PRIVATE,))]
+        status, text, complaint = run(mountctl, b"", "import", "--all")
+        script = text.split(b"\n")[:-1]
+        spaces = [space_of(found[1]) for found in map(PROCESS.fullmatch, script) if found]
+        good = len(set(spaces)) == len(spaces) and {*map(space_of, guests)} <= {*spaces}
+        check("an import of all has each namespace once", status == 0 and good, f"{status}, {spaces}, {shown(complaint)}")
+    commands = [line for line in script if not line.startswith(b"#")]
+    answers = answer_groups(session(program, commands, *room_words(script))[1], commands)
+    refused = [line for line, answer in zip(commands, answers) if not answer[0].startswith(b"ok")]
+    check("each command of an import of all is accepted", commands and not refused, shown(b"\n".join(refused[:3])))
+
+
 def mounted_steps(folder):
     """What is mounted below a folder in the place of the first namespace, each as a call, and as a command."""
     one, other = folder + b"/one", folder + b"/one/other"
@@ -200,4 +223,5 @@ def check_hosts(program, mountctl):
         print(f"no namespaces of this machine are imported: {error}", flush=True)
         return
     check_machine(program, mountctl)
+    check_every_space(program, mountctl)
     check_mounted(program, mountctl)

@@ -50,13 +50,13 @@ def made_rows(name, lines, script):
     return kept_rows(name, lines, script)
 
 
-def imported(mountctl, text):
-    return run(mountctl, text, "import")
+def imported(mountctl, text, *words):
+    return run(mountctl, text, "import", *words)
 
 
-def check_table(program, mountctl, name, lines):
-    """Imports a table and builds it: whether nothing is left out."""
-    status, text, complaint = imported(mountctl, b"".join(line + b"\n" for line in lines))
+def check_table(program, mountctl, name, lines, *words):
+    """Imports a table and builds it, both with further arguments: whether nothing is left out."""
+    status, text, complaint = imported(mountctl, b"".join(line + b"\n" for line in lines), *words)
     check(f"{name}: imported", (status, complaint) == (0, b""), shown(complaint))
     script = text.split(b"\n")[:-1]
     check(f"{name}: each line is read", UNREAD not in script, shown(text))
@@ -65,7 +65,7 @@ def check_table(program, mountctl, name, lines):
         check(f"{name}: all is left out", made_rows(name, lines, script) == [])
         return False
     asked = commands + [b"show 1"]
-    groups = answer_groups(session(program, asked)[1], asked)
+    groups = answer_groups(session(program, asked, *words)[1], asked)
     refused = [line for line, answer in zip(asked, groups) if not answer or not answer[0].startswith(b"ok")]
     check(f"{name}: each command is accepted", not refused, shown(b"\n".join(refused[:3] + lines + script)))
     if not refused:
@@ -181,7 +181,7 @@ def check_any(program, mountctl):
 
 # Words after `import` that name no tables: none of a process, and options.
 NO_WORDS = ("-",), ("--pid",), ("--pid", "x"), ("--pid", "1", "01"), ("--ascii",), ("-h", "1"), ("tree", "-e")
-NO_WORDS_SAID = b"mountctl: import takes files, or --pid and processes, or no words\n"
+NO_WORDS_SAID = b"mountctl: import takes files, --pid and processes, --all, or no words\n"
 
 
 def check_words(mountctl, text):

@@ -38,6 +38,7 @@ SPACE = re.compile(rb"# table (\d+) is namespace (\d+)")
 ROOTLESS = re.compile(rb"# table (\d+) has no root mount")
 KEEPER = re.compile(rb"# namespace (\d+) keeps masters of which no table has a mount")
 FILESYSTEM = re.compile(rb"# (\d+:\d+) is filesystem (\d+)")
+ROOM = re.compile(rb"# for a server with --room (\d+), or more")
 GROUP = re.compile(rb"# shared:(\d+) of the tables is shared:(\d+)")
 
 ESCAPE = re.compile(rb"\\([0-3][0-7]{2})")
@@ -96,6 +97,12 @@ def told(script, what, table=None):
 def left_out(script, table=None):
     """The rows of a table that a script says are not made."""
     return told(script, NOT_MADE, table)
+
+
+def room_words(script):
+    """The arguments of a server that has the room which a script takes."""
+    said = ROOM.fullmatch(script[0]) if script else None
+    return ["--room", shown(said[1])] if said else []
 
 
 def has_other_options(line):
@@ -223,9 +230,10 @@ class Imported:
         self.check("each line is read", UNREAD not in script)
         self.spaces = {found[1]: int(found[2]) for found in map(SPACE.match, script) if found}
         self.commands = [line for line in script if not line.startswith(b"#")] + list(behind)
+        self.room = room_words(script)
         # A table may take two numbers.
         asked = self.commands + [b"show %d" % space for space in range(1, 2 * MOST_TABLES + 1)]
-        groups = answer_groups(session(program, asked)[1], asked)
+        groups = answer_groups(session(program, asked, *self.room)[1], asked)
         answers = zip(self.commands, [b"".join(group[:1]) for group in groups])
         self.refused = [b"%b: %b" % (line, answer) for line, answer in answers if not answer.startswith(b"ok")]
         self.check("each command is accepted", not self.refused, shown(b"\n".join(self.refused[:3])))

@@ -93,7 +93,7 @@ def check_own_sessions(program, mountctl):
         count += check_reasons(program, mountctl, f"case {case}", lines_of(case))
     check("reasons that sessions of one's own tell", count > 0)
     found = run(mountctl, b"", "session", "a")
-    check("session with a word", found == (2, b"", b"mountctl: session takes no words\n"), repr(found))
+    check("session with a word", found == (2, b"", b"mountctl: session takes no words but --room\n"), repr(found))
     found = run(mountctl, b"x" * 8_193 + b"\nmkfs a b c\nnewns", "session")
     check("long lines, and no line end", found[:2] == (0, b"no TooLong\nok 1\nno BadLine\n"), repr(found))
     check_in_place(program, mountctl)

@@ -195,7 +195,7 @@ def check_refused(program, mountctl):
         found = printed_page(mountctl, b"mkfs a b c\n%b 1\nnewns a\n" % word)
         check(f"a page with {shown(word)}", found == (2, b"", OWN_SAID % 2), repr(found))
     found = printed_page(mountctl, b"", "a", "b")
-    check("a page with two titles", found == (2, b"", b"mountctl: page takes --journal and a title, or one of them, or no words\n"), repr(found))
+    check("a page with two titles", found == (2, b"", b"mountctl: page takes --journal and a title, or one of them, or no words; where it has no socket also --room\n"), repr(found))
     with tempfile.TemporaryDirectory() as folder:
         path = os.path.join(folder, "none")
         found = run(mountctl, b"", path, "page")

@@ -183,7 +183,7 @@ def imported(program, mountctl, name, guests):
 def asked(program, world, *lines):
     """The answers to lines behind the script of an import."""
     sent = [*world.commands, *lines]
-    return answer_groups(session(program, sent)[1], sent)[len(world.commands) :]
+    return answer_groups(session(program, sent, *world.room)[1], sent)[len(world.commands) :]
 
 
 def lock_lines(script):

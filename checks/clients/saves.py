@@ -116,7 +116,7 @@ def check_words(mountctl):
     environment = {name: value for name, value in os.environ.items() if name != "MOUNTD_SOCKET"}
     for words, complaint in (
         (["none", "save", "all"], b"mountctl: save takes no words\n"),
-        (["none", "page", "--journal", "a", "b"], b"mountctl: page takes --journal and a title, or one of them, or no words\n"),
+        (["none", "page", "--journal", "a", "b"], b"mountctl: page takes --journal and a title, or one of them, or no words; where it has no socket also --room\n"),
         (["page", "--journal"], b"mountctl: no SOCKET, and MOUNTD_SOCKET is not set\n"),
     ):
         found = run(mountctl, b"", *words, environment=environment)

@@ -158,7 +158,7 @@ def check_hooked(program, mountctl):
 
 
 def check_files(mountctl):
-    """Files that cannot be read and lines that are none are refused by name, and more than 64 files, and nothing is printed."""
+    """Files that cannot be read and lines that are none are refused by name, and nothing is printed; so many files may be given."""
     good = b"1 1 0:1 / / rw,relatime - tmpfs none rw"
     with files_of([[good], [good, b"none"], [], [good]]) as names:
         first, second, empty, folder = names
@@ -175,8 +175,10 @@ def check_files(mountctl):
         check("import of an empty file", found[0] == 0 and b"# table 2 has no root mount\n" in found[1] and not found[2], repr(found))
         for count in MOST_TABLES, MOST_TABLES + 1:
             status, script, complaint = run(mountctl, b"", "import", *[first] * count)
-            good = (status, script != b"", complaint) == (0, True, b"") if count == MOST_TABLES else (status, script, complaint != b"") == (2, b"", True)
-            check(f"import of {count} files", good, shown(complaint))
+            check(f"import of {count} files", (status, script != b"", complaint) == (0, True, b""), shown(complaint))
+        for words in ["--room"], ["--room", "0"], ["--room", "257"], ["--room", "x"], ["--room", "2", "--room", "2"]:
+            status, script, complaint = run(mountctl, b"", "import", first, *words)
+            check(f"import with {' '.join(words)}", (status, script, b"a room is given once" in complaint) == (2, b"", True), shown(complaint))
 
 
 def check_refused(mountctl):
@@ -221,7 +223,7 @@ def check_large(program, mountctl):
         check(f"import of {name} in a second", took < SECONDS, f"{took:.1f} s")
         world = check_world(program, mountctl, name, tables)
         start = time.monotonic()
-        session(program, world.commands)
+        session(program, world.commands, *world.room)
         built = time.monotonic() - start
         counts = f"{sum(map(len, tables))} rows, {len(world.left())} left out, {len(world.commands)} commands, {len(world.refused)} refused"
         print(f"{name}: imported in {took:.2f} s, built in {built:.2f} s: {counts}", flush=True)

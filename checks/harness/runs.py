@@ -47,9 +47,9 @@ def run(program, text, *arguments, environment=None):
     return done.returncode, done.stdout, done.stderr
 
 
-def session(program, lines):
-    """Status, standard output and standard error of a session of these lines."""
-    return run(program, b"".join(line + b"\n" for line in lines))
+def session(program, lines, *arguments):
+    """Status, standard output and standard error of a session of these lines, with further arguments."""
+    return run(program, b"".join(line + b"\n" for line in lines), "-", *arguments)
 
 
 class Served:

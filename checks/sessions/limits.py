@@ -22,16 +22,16 @@ LINES = 16_777_216
 BLOCK = 1 << 16
 
 
-def answers(program, lines, name):
-    """The answer to each line of a session, which has to end well."""
-    status, output, complaint = session(program, lines)
+def answers(program, lines, name, *arguments):
+    """The answer to each line of a session with further arguments, which has to end well."""
+    status, output, complaint = session(program, lines, *arguments)
     check(f"end of the session of {name}", (status, complaint) == (0, b""), f"status {status}: {shown(complaint)}")
     return [b"\n".join(group) for group in answer_groups(output, lines)]
 
 
-def check_turns(program, turns, name):
-    """Each line of these pairs has its answer."""
-    found = answers(program, [line for line, _ in turns], name)
+def check_turns(program, turns, name, *arguments):
+    """Each line of these pairs has its answer in a session with further arguments."""
+    found = answers(program, [line for line, _ in turns], name, *arguments)
     for number, ((line, wanted), answer) in enumerate(zip(turns, found), 1):
         if answer != wanted:
             told = f"line {number}, {shown(line)}: wanted {shown(wanted[:200])}, answered {shown(answer[:200])}"
@@ -273,6 +273,42 @@ def lines(program):
     check(f"{LINES} lines", found == (1, b"mountd: too many lines\n", LINES // BLOCK, b""), repr(found))
 
 
+# A room that is greater than that of a server without the option.
+ROOM = 2
+
+
+def rooms(program):
+    """In a greater room there are so many times as many filesystems, directories, namespaces and mounts, and no more; depth is as
+    in each room; and the room is no command of the journal."""
+    start = [(b"mkfs a tmpfs none", b"ok 1"), (b"newns a", b"ok 1"), (b"mkdir a /m", b"ok")]
+    doublings = (ROOM * MOUNTS).bit_length() - 1
+    parts = {
+        "filesystems": [
+            *((b"mkfs f%d tmpfs none" % n, b"ok %d" % n) for n in range(2, ROOM * FILESYSTEMS + 1)),
+            (b"mkfs more tmpfs none", b"no TooMany"),
+        ],
+        "directories": [
+            *((b"mkdir a /d%d" % n, b"ok") for n in range(ROOM * DIRECTORIES - 2)),
+            (b"mkdir a /more", b"no TooMany"),
+        ],
+        "namespaces": [
+            *((b"newns a", b"ok %d" % n) for n in range(2, ROOM * NAMESPACES + 1)),
+            (b"newns a", b"no TooMany"),
+        ],
+        "mounts": [
+            *((b"rbind 1 / /m", b"ok %d" % (2**n + 1)) for n in range(doublings)),
+            (b"mount 1 a /m", b"no TooMany"),
+        ],
+        "depth": [
+            *((b"mkdir a " + b"/d" * names, b"ok") for names in range(1, DEPTH + 1)),
+            (b"mkdir a " + b"/d" * (DEPTH + 1), b"no TooMany"),
+        ],
+        "commands": [(b"journal 1 2", b"ok 2\nmkfs a tmpfs none\nnewns a"), (b"journal 4 1", b"ok 0")],
+    }
+    for name, turns in parts.items():
+        check_turns(program, start + turns, f"{name} in a room of {ROOM}", "--room", str(ROOM))
+
+
 def check_limits(program):
-    for limit in (filesystems, directories, depth, namespaces, mounts, peers_at_the_limit, commands, lines):
+    for limit in (filesystems, directories, depth, namespaces, mounts, peers_at_the_limit, rooms, commands, lines):
         limit(program)

@@ -82,7 +82,7 @@ def check_arguments(program):
     for words, said in (["a", "b"], b"'b'"), (["--frobnicate"], b"'--frobnicate'"), (["--queue", "2"], b"SOCKET"):
         status, text, complaint = run(program, b"", *words)
         check(f"faulty arguments {words}", (status, text) == (2, b"") and said in complaint, shown(complaint))
-    for option, most in ("--queue", 1024), ("--sessions", 32):
+    for option, most in ("--queue", 16384), ("--sessions", 32), ("--room", 256):
         for number in "0", str(most + 1), "-1", "x", "99999999999999999999":
             status, text, complaint = run(program, b"", "-", f"{option}={number}")
             check(f"{option} {number}", (status, text) == (2, b""), shown(complaint))

@@ -149,7 +149,7 @@ _mountctl()
     fi
     if [[ ${words[0]} == what-if && " ${words[*]} " != *" -- "* ]]; then
         # Tables stand here: files, which readline completes itself.
-        [[ $current == -* ]] && mapfile -t COMPREPLY < <(compgen -W "-- --all --each --fail-if-elsewhere --json --page --pid" -- "$current")
+        [[ $current == -* ]] && mapfile -t COMPREPLY < <(compgen -W "-- --all --each --fail-if-elsewhere --json --page --pid --room" -- "$current")
         compopt -o default 2> /dev/null
         return
     fi
@@ -159,7 +159,7 @@ _mountctl()
     fi
     if [[ ${words[0]} == import || ${words[1]-} == what-if ]]; then
         # Files stand here, which readline completes itself.
-        [[ $current == -* ]] && mapfile -t COMPREPLY < <(compgen -W "-- --pid" -- "$current")
+        [[ $current == -* ]] && mapfile -t COMPREPLY < <(compgen -W "-- --all --pid --room" -- "$current")
         compopt -o default 2> /dev/null
         return
     fi

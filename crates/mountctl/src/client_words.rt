@@ -37,7 +37,7 @@ pub(crate) const IN_PLACE_OF_LINES: [Usage; 14] = [
         says: "lists the namespaces, each with its name and the number of its mounts",
     },
     Usage {
-        words: "what-if FILE.. -- LINE..",
+        words: "what-if [--room N] FILE.. -- LINE..",
         says: "makes the namespaces of an import in a new server, and tells what a line changes there;\nfurther lines may stand in front of it, each behind --",
     },
     Usage {
@@ -57,28 +57,32 @@ pub(crate) const IN_PLACE_OF_LINES: [Usage; 14] = [
         says: "prints the session that makes what is there: the commands that were accepted, as lines for a new server",
     },
     Usage {
-        words: "page [--journal] [TITLE]",
+        words: "page [--journal|--room N] [TITLE]",
         says: "plays the lines of standard input, and prints what they do as a page for a browser;\nwithout SOCKET, also where MOUNTD_SOCKET is set, in a new server of its own;\nwith --journal plays what the server has accepted since its start, and sends it nothing",
     },
 ];
 
 /// What may stand in the place of a socket and a line.
-pub(crate) const IN_PLACE_OF_SOCKETS: [Usage; 11] = [
+pub(crate) const IN_PLACE_OF_SOCKETS: [Usage; 12] = [
     Usage {
         words: "what-if [OPTION].. TABLE.. -- LINE [-- LINE]..",
-        says: "tells what lines would change in the namespaces of tables, with no server: each TABLE is a file, or\nwith --pid a process; --all stands for each mount namespace of this machine. A LINE is one of\nmount, umount, unshare, nsenter, pivot_root or of a session; - stands for those of standard input.\n--each tells what each line changes, --json prints objects, and --page a page for a browser that plays\nthe lines; with --fail-if-elsewhere the status is 4 where a namespace changes that no line names",
+        says: "tells what lines would change in the namespaces of tables, with no server: each TABLE is a file, or\nwith --pid a process; --all stands for each mount namespace of this machine. A LINE is one of\nmount, umount, unshare, nsenter, pivot_root or of a session; - stands for those of standard input.\n--each tells what each line changes, --json prints objects, and --page a page for a browser that plays\nthe lines; with --fail-if-elsewhere the status is 4 where a namespace changes that no line names; --room N\nholds the namespaces to N times the limits of a server, and else to 256 times those",
     },
     Usage {
-        words: "import",
-        says: "reads the lines of a mountinfo, and prints a script that makes its namespace",
+        words: "import [--room N]",
+        says: "reads the lines of a mountinfo, and prints a script that makes its namespace; --room N leaves out what\na server of that room has no room for; else the script says which room it takes, if more than 1",
     },
     Usage {
-        words: "import FILE..",
+        words: "import [--room N] FILE..",
         says: "reads those of several processes, and prints a script that makes all their namespaces",
     },
     Usage {
-        words: "import --pid PID..",
+        words: "import [--room N] --pid PID..",
         says: "reads those of these processes",
+    },
+    Usage {
+        words: "import [--room N] --all",
+        says: "makes each mount namespace of this machine once; comments say of which process each table is",
     },
     Usage {
         words: "reach TABLE.. -- NS PATH [--json]",
@@ -93,7 +97,7 @@ pub(crate) const IN_PLACE_OF_SOCKETS: [Usage; 11] = [
         says: "what still shows it",
     },
     Usage {
-        words: "session",
+        words: "session [--room N]",
         says: "answers the lines of standard input in a new server of its own; it also knows help [WORD] and\ntree [NS [PATH]|all], says why a line is refused, and has a prompt at a terminal",
     },
     Usage {

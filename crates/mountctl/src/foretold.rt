@@ -2,6 +2,7 @@
 
 use crate::PROGRAM;
 use crate::fault::Fault;
+use crate::foretold_options::{Options, options_of};
 use crate::foretold_page::print_foretold_page;
 use crate::messages::{NAME, tell_reason, tell_refused};
 use crate::missed::{tell_lockless_tables, tell_missed};
@@ -16,10 +17,11 @@ use mt_lines::line::{Line, LineReader};
 use mt_lines::stream::{Reading, send};
 use mt_lines::words::Pieces;
 use mt_reasons::line::reason_of;
-use mt_render::telling::Telling;
+use mt_skel::fault::Fault as Refusal;
+use mt_skel::skel::MOST_ROOM;
 use mt_terminal::message::Shown;
 use mt_what_if::asked::{AskedLine, SpaceWord, WrongLine, read_asked};
-use mt_what_if::foretelling::{Foretold, Manner, Question, foretell};
+use mt_what_if::foretelling::{Foretold, Question, foretell};
 use mt_what_if::scene::{Scene, begin};
 use mt_what_if::steps::foretell_steps;
 use mt_what_if::trying::Outcome;
@@ -31,54 +33,6 @@ const LEAKS: u8 = 4;
 
 /// The most lines of standard input.
 const MOST_LINES: u64 = u64::MAX;
-
-/// How a question is asked.
-#[derive(Clone, Copy)]
-struct Options {
-    /// Whether it is told what each line changes.
-    each: bool,
-    /// Whether the answer is JSON.
-    json: bool,
-    /// Whether the answer is a page.
-    page: bool,
-    /// Whether a change in a namespace that no line names makes the status 4.
-    fails: bool,
-}
-
-impl Options {
-    /// How so many lines are answered: of one it is always told what it changes.
-    fn manner(self, count: usize) -> Manner {
-        Manner {
-            telling: if self.json {
-                Telling::Json
-            } else {
-                Telling::Words
-            },
-            each: self.each || count == 1,
-        }
-    }
-}
-
-/// The words in front of the lines, without options, and the options.
-fn options_of<'a>(alloc: Global, words: &[&'a str]) -> Result<(Vec<&'a str>, Options), AllocError> {
-    let mut others = Vec::new(alloc);
-    let mut options = Options {
-        each: false,
-        json: false,
-        page: false,
-        fails: false,
-    };
-    for word in words {
-        match *word {
-            "--each" => options.each = true,
-            "--json" => options.json = true,
-            "--page" => options.page = true,
-            "--fail-if-elsewhere" => options.fails = true,
-            other => others.push(other)?,
-        }
-    }
-    Ok((others, options))
-}
 
 /// Why lines are not there.
 #[derive(Clone, Copy)]
@@ -282,9 +236,17 @@ fn status_of_answer(outcome: Outcome, leaks: bool, options: Options) -> ExitCode
     }
 }
 
+/// Says that a line meets a limit of the room, if it was refused for that; a greater one may do.
+fn tell_room_met(rt: &HostRuntime, outcome: Outcome, room: usize) {
+    if matches!(outcome, Outcome::Refused(Refusal::TooMany)) && room < MOST_ROOM {
+        let _ = eprintln!(rt; "{NAME}: a limit is met with --room {room}; {MOST_ROOM} is the greatest");
+    }
+}
+
 /// Prints an answer.
 fn print_answer(rt: &HostRuntime, answer: &Foretold, options: Options) -> ExitCode {
     let mut out = standard_output(rt);
+    tell_room_met(rt, answer.outcome, options.room);
     match send(&mut out, answer.text.as_slice()) {
         Ok(()) => status_of_answer(answer.outcome, answer.leaks, options),
         Err(_) => PROGRAM.fail(rt, Fault::Output.message()),
@@ -302,6 +264,7 @@ fn answer_by_page(
         return PROGRAM.fail(rt, Fault::NoMemory.message());
     };
     let status = status_of_answer(page.outcome, page.leaks, options);
+    tell_room_met(rt, page.outcome, options.room);
     match print_foretold_page(rt, page) {
         Ok(()) => status,
         Err(fault) => PROGRAM.fail(rt, fault.message()),
@@ -332,7 +295,7 @@ fn ask(
     options: Options,
 ) -> Result<ExitCode, ExitCode> {
     let alloc = rt.alloc();
-    let Ok(mut begun) = begin(alloc, names.tables()) else {
+    let Ok(mut begun) = begin(alloc, names.tables(), options.room) else {
         return Err(PROGRAM.fail(rt, Fault::NoMemory.message()));
     };
     tell_missed(rt, names, begun.missed.as_slice());
@@ -355,8 +318,9 @@ fn answer_question(rt: &HostRuntime, words: &[&str]) -> Result<ExitCode, ExitCod
     let Some((front, behind)) = parted(words) else {
         return Err(PROGRAM.refuse(rt, WordFault::Question.message()));
     };
-    let Ok((named, options)) = options_of(rt.alloc(), front) else {
-        return Err(PROGRAM.fail(rt, Fault::NoMemory.message()));
+    let (named, options) = match options_of(rt.alloc(), front) {
+        Ok(said) => said,
+        Err(fault) => return Err(fault.tell(rt)),
     };
     if options.page && options.json {
         return Err(PROGRAM.refuse(rt, WordFault::Form.message()));

@@ -1,10 +1,12 @@
 //! `import`: the script of commands that makes the namespace of which a mountinfo tells.
 
 use crate::fault::Fault;
+use crate::room::FIRST_ROOM;
 use mt_import::fault::Fault as Refusal;
 use mt_import::host_mount::HostMount;
 use mt_import::host_space::HostSpace;
-use mt_import::import::script_of;
+use mt_import::import::{Import, script_of};
+use mt_info::print::push_number;
 use mt_import::read::read_mount;
 use mt_lines::line::{Line, LineReader};
 use mt_lines::stream::{Input, Output, send};
@@ -69,9 +71,43 @@ pub(crate) fn read_rows<I: Input + Drop>(
     Ok(rows)
 }
 
-/// Prints the script that makes the namespace of which an input tells. Nothing is printed before all of it is read.
+/// The comment that says which room a script takes, if that is not the one of every server.
+fn room_comment(alloc: Global, room: usize) -> Result<Vec<u8>, AllocError> {
+    let mut comment = Vec::new(alloc);
+    if room > FIRST_ROOM {
+        comment.extend_from_slice(b"# for a server with --room ")?;
+        push_number(&mut comment, room as u64)?;
+        comment.extend_from_slice(b", or more\n")?;
+    }
+    Ok(comment)
+}
+
+/// Sends a text.
+fn send_text<O: Output>(out: &mut O, text: &[u8]) -> Result<(), Fault> {
+    match send(out, text) {
+        Ok(()) => Ok(()),
+        Err(_) => Err(Fault::Output),
+    }
+}
+
+/// Prints a script, behind a comment that says which room it takes if that is not 1, and other comments.
+pub(crate) fn print_import<O: Output>(
+    alloc: Global,
+    import: &Import,
+    comments: &[u8],
+    out: &mut O,
+) -> Result<(), Fault> {
+    let comment = room_comment(alloc, import.room)?;
+    send_text(out, comment.as_slice())?;
+    send_text(out, comments)?;
+    send_text(out, import.script.text())
+}
+
+/// Prints the script that makes the namespace of which an input tells in a server of this room or a lesser one. Nothing is
+/// printed before all of it is read.
 pub(crate) fn import<I: Input + Drop, O: Output>(
     alloc: Global,
+    room: usize,
     input: &mut LineReader<I>,
     out: &mut O,
 ) -> Result<(), ImportFault> {
@@ -80,11 +116,9 @@ pub(crate) fn import<I: Input + Drop, O: Output>(
         rows: read_rows(alloc, input)?,
         is_foreign: false,
     })?;
-    let Ok(script) = script_of(alloc, tables.as_slice()) else {
+    let Ok(import) = script_of(alloc, tables.as_slice(), room) else {
         return Err(ImportFault::Run(Fault::NoMemory));
     };
-    match send(out, script.text()) {
-        Ok(()) => Ok(()),
-        Err(_) => Err(ImportFault::Run(Fault::Output)),
-    }
+    print_import(alloc, &import, b"", out)?;
+    Ok(())
 }

@@ -11,12 +11,15 @@ mod connection;
 mod explain;
 mod fault;
 mod foretold;
+mod foretold_options;
 mod foretold_page;
 mod found;
 mod help;
 mod import;
 mod kept;
+mod limits;
 mod lines;
+mod machine;
 mod marked;
 mod messages;
 mod missed;
@@ -37,6 +40,7 @@ mod provide;
 mod questions;
 mod quiet;
 mod refusals;
+mod room;
 mod save;
 mod screen;
 mod script;
@@ -58,6 +62,7 @@ use crate::found::find_place;
 use crate::help::{has_page, run_help, word_of_help};
 use crate::import::{ImportFault, ROW_LIMIT, import};
 use crate::lines::run_line;
+use crate::machine::import_machine;
 use crate::marked::Marked;
 use crate::messages::NAME;
 use crate::naming::named_words;
@@ -66,6 +71,7 @@ use crate::part::{Part, draw_part};
 use crate::play::run_play;
 use crate::questions::{Question, form_of_words, run_question};
 use crate::quiet::Quiet;
+use crate::room::room_among;
 use crate::save::print_saved;
 use crate::screen::standard_output;
 use crate::script::{SCRIPT_LIMIT, run_script};
@@ -83,6 +89,7 @@ use mt_client::telling::tell;
 use mt_lines::line::LineReader;
 use mt_lines::stream::{Input, Output, Reading, Writing};
 use mt_render::named::SpaceName;
+use mt_skel::skel::MOST_ROOM;
 use std::alloc::AllocError;
 use std::io;
 use std::os::unix::net::UnixStream;
@@ -254,23 +261,38 @@ fn run_words(
     Ok(run_asked(rt, socket, asked, manner))
 }
 
-/// Imports the mountinfo on standard input.
-fn import_input(rt: &HostRuntime) -> Result<(), ImportFault> {
+/// Imports the mountinfo on standard input for a server of this room or a lesser one.
+fn import_input(rt: &HostRuntime, room: usize) -> Result<(), ImportFault> {
     let alloc = rt.alloc();
     let mut input = LineReader::new(alloc, Reading::new(rt.reader()), ROW_LIMIT)?;
     let mut out = standard_output(rt);
-    import(alloc, &mut input, &mut out)
+    import(alloc, room, &mut input, &mut out)
 }
 
 /// Imports the mountinfo on standard input, or says why it does not.
-fn run_import(rt: &HostRuntime) -> ExitCode {
-    match import_input(rt) {
+fn run_import(rt: &HostRuntime, room: usize) -> ExitCode {
+    match import_input(rt, room) {
         Ok(()) => ExitCode::SUCCESS,
         Err(ImportFault::Row(number)) => {
             let _ = eprintln!(rt; "{NAME}: line {number} is no row of a mountinfo");
             ExitCode::from(1)
         }
         Err(ImportFault::Run(fault)) => PROGRAM.fail(rt, fault.message()),
+    }
+}
+
+/// Does what words ask for behind `import`: those of files or processes, `--all`, or none. Without a room the least one is
+/// chosen that has room for all.
+fn run_import_words(rt: &HostRuntime, words: &[&str]) -> ExitCode {
+    let said = match room_among(rt.alloc(), words) {
+        Ok(said) => said,
+        Err(fault) => return fault.tell(rt),
+    };
+    let room = said.room.unwrap_or(MOST_ROOM);
+    match said.words.as_slice() {
+        [] => run_import(rt, room),
+        ["--all"] => import_machine(rt, room),
+        words => import_files(rt, words, room),
     }
 }
 
@@ -320,8 +342,7 @@ fn run(rt: &HostRuntime) -> io::Result<ExitCode> {
     let code = match words.as_slice() {
         [_, word, "-h" | "--help"] if has_page(word) => run_help(rt, &[*word]),
         [_, "help", words @ ..] => run_help(rt, words),
-        [_, "import"] => run_import(rt),
-        [_, "import", words @ ..] => import_files(rt, words),
+        [_, "import", words @ ..] => run_import_words(rt, words),
         [_, "what-if", words @ ..] => run_foretold(rt, words),
         [_, "explain", words @ ..] => explain(rt, words),
         [_, "play", words @ ..] => run_play(rt, words),

@@ -85,6 +85,15 @@ impl Namespaces {
         self.tables.as_slice()
     }
 
+    /// The tables themselves, in this order.
+    pub(crate) fn into_tables(self) -> Vec<NamedTable> {
+        let Namespaces {
+            tables,
+            aliases: _aliases,
+        } = self;
+        tables
+    }
+
     /// The number of the table of a namespace, from 1: the word is the name of its file, with or without folders, the number
     /// of a process in it, or the number of the table. None where it is none of these, or the last name of two files.
     pub(crate) fn space_named(&self, word: &[u8]) -> Option<SpaceId> {

@@ -1,10 +1,12 @@
 //! A session of the program's own: with a new server in its memory, and no connection.
-ghost use Rattle.std.specs.Prelude.{◌≡◌, [], IfOk};
+ghost use Rattle.std.specs.Prelude.{◌≡◌, ◌<◌, ◌≤◌, [], IfOk};
 ghost use Rattle.std.specs.Option.{is_none};
 ghost use Rattle.mountctl.specs.Played.{IsServedAlone};
 
 use crate::fault::Fault;
 use crate::kept::Kept;
+use crate::room::FIRST_ROOM;
+use mt_book::command::Command;
 use mt_floor::floor::Floor;
 use mt_lines::line::{LineReader, ReadFault};
 use mt_lines::stream::Reading;
@@ -12,6 +14,20 @@ use mt_session::answering::serve_next;
 use mt_session::serving::{End, LINE_LIMIT, serve_plain};
 use mt_session::session::Session;
 use std::alloc::Global;
+
+/// The floor of a new server of this room, 1 to 256. The queue of each watcher holds this many posts, 1 to 16,384. Refused
+/// as `NoMemory` alone.
+pub(crate) fn new_floor(alloc: Global, queue: usize, room: usize) -> Result<Floor, Fault>
+    requires { (0 < queue) × (queue ≤ 16384) }
+    ensures idle { IfOk result (λ floor. floor.due ≡ []) }
+{
+    let mut floor = Floor::new(alloc, queue);
+    if room != FIRST_ROOM && floor.apply(&Command::Room { room }).is_err() {
+        return Err(Fault::NoMemory);
+    }
+    floor.settle();
+    Ok(floor)
+}
 
 /// What came of a line that was sent.
 #[derive(Drop)]

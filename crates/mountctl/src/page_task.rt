@@ -4,21 +4,22 @@ use crate::connection::{connected, status_of};
 use crate::fault::Fault;
 use crate::kept::Kept;
 use crate::messages::NAME;
-use crate::own_session::answers_to;
+use crate::own_session::{answers_to, new_floor};
 use crate::page::{PageData, Unplayed, play};
 use crate::played::{Played, PlayedFault, read_played};
 use crate::quiet::Quiet;
+use crate::room::{FIRST_ROOM, room_among};
 use crate::save::save;
 use crate::screen::standard_output;
 use crate::script::SCRIPT_LIMIT;
 use crate::task::WordFault;
 use crate::{LINE_LIMIT, PROGRAM};
 use mt_client::relay::print_text;
-use mt_floor::floor::Floor;
 use mt_lines::line::LineReader;
 use mt_lines::stream::{Reading, Writing};
 use mt_page::data::Step;
 use mt_page::template::{BEFORE, BEHIND};
+use mt_skel::skel::MOST_ROOM;
 use mt_terminal::message::Shown;
 use std::alloc::{AllocError, Global};
 use std::os::unix::net::UnixStream;
@@ -28,7 +29,7 @@ use std::process::ExitCode;
 pub(crate) const JOURNAL: &str = "--journal";
 
 /// How many posts the queue of a watcher holds, the most that one may.
-const QUEUE: usize = 1_024;
+const QUEUE: usize = 16_384;
 
 /// All that is asked for the page of a session, as lines: its lines are known, and nobody else makes posts.
 fn requests_of(alloc: Global, steps: &[Step]) -> Result<Vec<u8>, AllocError> {
@@ -43,11 +44,16 @@ fn requests_of(alloc: Global, steps: &[Step]) -> Result<Vec<u8>, AllocError> {
     Ok(requests)
 }
 
-/// The data of a session's page, which a new server of its own answers.
-fn play_alone(rt: &HostRuntime, session: Played, title: &[u8]) -> Result<PageData, Unplayed> {
+/// The data of a session's page, which a new server of its own answers, of this room.
+fn play_alone(
+    rt: &HostRuntime,
+    session: Played,
+    title: &[u8],
+    room: usize,
+) -> Result<PageData, Unplayed> {
     let alloc = rt.alloc();
     let requests = requests_of(alloc, session.steps.as_slice())?;
-    let mut floor = Floor::new(alloc, QUEUE);
+    let mut floor = new_floor(alloc, QUEUE, room)?;
     let answers = answers_to(alloc, &mut floor, requests.as_slice())?;
     let mut lines = LineReader::new(alloc, Reading::new(answers.text()), LINE_LIMIT)?;
     play(alloc, session, title, &mut lines, &mut Quiet)
@@ -83,10 +89,11 @@ fn read_journal(rt: &HostRuntime, stream: &UnixStream) -> Result<Played, Unplaye
     }
 }
 
-/// The data of the page of a server's journal, which a new server of its own answers.
+/// The data of the page of a server's journal, which a new server of its own answers: one of the greatest room, since all
+/// of it was accepted.
 fn play_journal(rt: &HostRuntime, stream: &UnixStream, title: &[u8]) -> Result<PageData, Unplayed> {
     let session = read_journal(rt, stream)?;
-    play_alone(rt, session, title)
+    play_alone(rt, session, title, MOST_ROOM)
 }
 
 /// Prints the page of these data.
@@ -133,11 +140,13 @@ fn read_session(rt: &HostRuntime) -> Result<Played, ExitCode> {
     }
 }
 
-/// Plays the session on standard input, over a connection to a socket or without one, and prints its page, or says why not.
+/// Plays the session on standard input, over a connection to a socket or without one in a server of this room, and prints
+/// its page, or says why not.
 fn make_page(
     rt: &HostRuntime,
     socket: Option<&str>,
     title: &str,
+    room: usize,
     wait: u64,
 ) -> Result<ExitCode, ExitCode> {
     let session = read_session(rt)?;
@@ -150,7 +159,11 @@ fn make_page(
                 play_over(rt, &stream, session, title.as_bytes()),
             ))
         }
-        None => Ok(end_page(rt, NAME, play_alone(rt, session, title.as_bytes()))),
+        None => Ok(end_page(
+            rt,
+            NAME,
+            play_alone(rt, session, title.as_bytes(), room),
+        )),
     }
 }
 
@@ -182,22 +195,29 @@ fn title_of<'a>(words: &[&'a str]) -> Option<&'a str> {
     }
 }
 
-/// Prints the page of the session on standard input: the lines are sent to the server at a socket, or where none is given to
-/// a new one of their own. With `--journal` the session is what the server at the socket has accepted. The other words are the
-/// title, or none.
+/// Prints the page of the session on standard input: the lines are sent to the server at a socket, or where none is given
+/// to a new one of their own, of which words may say the room. With `--journal` the session is what the server at the
+/// socket has accepted. The other words are the title, or none.
 pub(crate) fn run_page(
     rt: &HostRuntime,
     socket: Option<&str>,
     words: &[&str],
     wait: u64,
 ) -> ExitCode {
+    let said = match room_among(rt.alloc(), words) {
+        Ok(said) => said,
+        Err(fault) => return fault.tell(rt),
+    };
+    let words = said.words.as_slice();
     let journal = without_journal(words);
     let Some(title) = title_of(journal.unwrap_or(words)) else {
         return PROGRAM.refuse(rt, WordFault::Page.message());
     };
-    let made = match (journal, socket) {
-        (Some(_), Some(socket)) => make_journal_page(rt, socket, title, wait),
-        (_, socket) => make_page(rt, socket, title, wait),
+    let made = match (journal, socket, said.room) {
+        (Some(_), Some(socket), None) => make_journal_page(rt, socket, title, wait),
+        (None, Some(socket), None) => make_page(rt, Some(socket), title, FIRST_ROOM, wait),
+        (None, None, room) => make_page(rt, None, title, room.unwrap_or(FIRST_ROOM), wait),
+        _ => return PROGRAM.refuse(rt, WordFault::Page.message()),
     };
     match made {
         Ok(status) => status,

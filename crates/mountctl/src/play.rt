@@ -7,7 +7,8 @@ ghost use Rattle.mountctl.specs.Played.{sent_while, IsSentAnswered, IsPlayed};
 use crate::PROGRAM;
 use crate::fault::Fault;
 use crate::messages::NAME;
-use crate::own_session::{Answered, answer_sent};
+use crate::own_session::{Answered, answer_sent, new_floor};
+use crate::room::{FIRST_ROOM, queue_in_room};
 use crate::screen::{is_at_terminal, standard_output};
 use crate::tables::TableFault;
 use crate::task::WordFault;
@@ -20,15 +21,13 @@ use mt_terminal::message::Shown;
 use mt_transcript::lines::{LineKind, TranscriptLine, transcript_lines};
 use mt_transcript::misplaced::{Misplaced, misplaced_in};
 use mt_transcript::queue::queue_in;
+use mt_transcript::room::room_in;
 use mt_transcript::sent::bytes_sent;
 use mt_transcript::told::{alike_text, answer_told, played_text};
 use std::alloc::{AllocError, Global};
 use std::fs::File;
 use std::io::Read;
 use std::process::ExitCode;
-
-/// How many posts the queue of a watcher holds, if the transcript does not say.
-const QUEUE: usize = 256;
 
 /// How long a line may be by which whoever plays goes on.
 const KEYS: u32 = 4_096;
@@ -219,13 +218,21 @@ fn play_lines<K: Input + Drop, O: Output>(
     Ok(count)
 }
 
+/// The room of the server in a transcript.
+fn room_of(lines: &[TranscriptLine<'_>]) -> usize {
+    match room_in(lines) {
+        Some(room) => room as usize,
+        None => FIRST_ROOM,
+    }
+}
+
 /// How many posts the queue of a watcher holds in a transcript.
 fn posts_of(lines: &[TranscriptLine<'_>]) -> usize
     ensures { (0 < result) × (result ≤ most_queued) }
 {
     match queue_in(lines) {
         Some(posts) => posts as usize,
-        None => QUEUE,
+        None => queue_in_room(room_of(lines)),
     }
 }
 
@@ -237,8 +244,7 @@ fn play_transcript<K: Input + Drop, O: Output>(
     waits: bool,
     out: &mut O,
 ) -> Result<bool, Fault> {
-    let mut floor = Floor::new(alloc, posts_of(lines));
-    floor.settle();
+    let mut floor = new_floor(alloc, posts_of(lines), room_of(lines))?;
     let mut session = Session::new(alloc);
     let count = play_lines(alloc, &mut floor, &mut session, lines, keys, waits, out)?;
     let ending = alike_text(alloc, count.alike, count.sent)?;

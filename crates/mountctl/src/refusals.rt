@@ -3,6 +3,7 @@ ghost use Rattle.std.specs.Prelude.{◌≡◌, None, OnOk};
 ghost use Rattle.mt_lines.specs.Reading.{fault_of};
 
 use crate::fault::Fault;
+use crate::limits::tell_limit;
 use crate::messages::tell_lines;
 use crate::missing::{Missing, missing_in};
 use crate::quiet::Quiet;
@@ -62,8 +63,8 @@ fn question_of(refusal: Refusal, command: &Command) -> Option<Question> {
     }
 }
 
-/// The command of a line; of a question for a path the one that is refused as that would be, where nothing is there. None where
-/// the line is neither.
+/// The command of a line; of a question for a path the one that is refused as that would be, where nothing is there. None
+/// where the line is neither.
 fn command_of(alloc: Global, line: &[u8], refusal: Refusal) -> Result<Option<Command>, Fault> {
     match (read_request(alloc, line), refusal) {
         (Ok(Request::Run(command)), _) => Ok(Some(command)),
@@ -130,8 +131,8 @@ fn asked_rows<R: Input + Drop, W: Output>(
     }
 }
 
-/// What is told of a command that is refused, by these rows and by which path is not there; nothing where they are none of one
-/// machine.
+/// What is told of a command that is refused, by these rows and by which path is not there; nothing where they are none of
+/// one machine.
 fn text_by_rows(
     alloc: Global,
     rows: Vec<SeenRow>,
@@ -170,8 +171,9 @@ fn missing_path<R: Input + Drop, W: Output>(
     }
 }
 
-/// Says of a refused line what is in the way and what would change that, if the rows say it; with the number of the line where it
-/// is one of a script. What others changed behind the refusal may leave nothing to say.
+/// Says of a refused line what is in the way and what would change that, if the rows say it; with the number of the line
+/// where it is one of a script; where a limit is met, which one, and the room that would do. What others changed behind the
+/// refusal may leave nothing to say.
 pub(crate) fn tell_reason_of<E: Eprint, R: Input + Drop, W: Output>(
     rt: &E,
     alloc: Global,
@@ -187,6 +189,9 @@ pub(crate) fn tell_reason_of<E: Eprint, R: Input + Drop, W: Output>(
     let Some(command) = command_of(alloc, line, refusal)? else {
         return Ok(());
     };
+    if matches!(refusal, Refusal::TooMany) {
+        return tell_limit(rt, alloc, number, &command, lines, writer);
+    }
     let Some(question) = question_of(refusal, &command) else {
         return Ok(());
     };

@@ -6,10 +6,11 @@ use crate::help::{session_page, tell_no_page};
 use crate::kept::Kept;
 use crate::lines::tell_bad;
 use crate::messages::NAME;
-use crate::own_session::{Answered, answer_sent, answers_to};
+use crate::own_session::{Answered, answer_sent, answers_to, new_floor};
 use crate::part::{Part, draw_part};
 use crate::quiet::Quiet;
 use crate::refusals::{refusal_in, tell_reason_of};
+use crate::room::{FIRST_ROOM, queue_in_room, room_among};
 use crate::screen::{is_at_terminal, standard_output};
 use crate::script::{SCRIPT_LIMIT, is_comment};
 use crate::task::{Task, WordFault, part_words, task_of};
@@ -28,9 +29,6 @@ use mt_session::session::Session;
 use std::alloc::Global;
 use std::io::Eprint;
 use std::process::ExitCode;
-
-/// How many posts the queue of a watcher holds.
-const QUEUE: usize = 256;
 
 /// What stands in front of a line at a terminal.
 const PROMPT: &[u8] = b"> ";
@@ -274,16 +272,17 @@ fn do_next<E: Eprint, I: Input + Drop, O: Output>(
     }
 }
 
-/// Does what lines ask for, up to one that ends the session, and prints the prompt in front of each.
+/// Does what lines ask for in a new server of this room, up to one that ends the session, and prints the prompt in front of
+/// each.
 fn do_lines<E: Eprint, I: Input + Drop, O: Output>(
     rt: &E,
     alloc: Global,
+    room: usize,
     prompt: &[u8],
     input: &mut LineReader<I>,
     out: &mut O,
 ) -> Result<(), Fault> {
-    let mut floor = Floor::new(alloc, QUEUE);
-    floor.settle();
+    let mut floor = new_floor(alloc, queue_in_room(room), room)?;
     let mut session = Session::new(alloc);
     'lines: for _line in 0..MOST_LINES {
         print_text(out, prompt)?;
@@ -294,21 +293,25 @@ fn do_lines<E: Eprint, I: Input + Drop, O: Output>(
     Ok(())
 }
 
-/// Has a session with whoever writes to standard input.
-fn have_session(rt: &HostRuntime) -> Result<(), Fault> {
+/// Has a session with whoever writes to standard input, in a new server of this room.
+fn have_session(rt: &HostRuntime, room: usize) -> Result<(), Fault> {
     let alloc = rt.alloc();
     let prompt = if is_at_terminal(rt) { PROMPT } else { b"" };
     let mut input = LineReader::new(alloc, Reading::new(rt.reader()), SCRIPT_LIMIT)?;
     let mut out = standard_output(rt);
-    do_lines(rt, alloc, prompt, &mut input, &mut out)
+    do_lines(rt, alloc, room, prompt, &mut input, &mut out)
 }
 
-/// Has a session with whoever writes to standard input: what `session` asks for, behind which no word stands.
+/// Has a session with whoever writes to standard input: what `session` asks for, behind which nothing but a room is said.
 pub(crate) fn run_session(rt: &HostRuntime, words: &[&str]) -> ExitCode {
-    if !words.is_empty() {
+    let said = match room_among(rt.alloc(), words) {
+        Ok(said) => said,
+        Err(fault) => return fault.tell(rt),
+    };
+    if !said.words.is_empty() {
         return PROGRAM.refuse(rt, WordFault::Session.message());
     }
-    match have_session(rt) {
+    match have_session(rt, said.room.unwrap_or(FIRST_ROOM)) {
         Ok(()) => ExitCode::SUCCESS,
         Err(fault) => PROGRAM.fail(rt, fault.message()),
     }

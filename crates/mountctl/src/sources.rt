@@ -3,9 +3,6 @@
 use mt_lines::words::number;
 use std::alloc::{AllocError, AllocFailed, Global};
 
-/// The most tables of an import: as many as a server has namespaces.
-const MOST_TABLES: usize = 64;
-
 /// The file of a table.
 #[derive(Drop)]
 pub(crate) struct TableFile {
@@ -20,8 +17,6 @@ pub(crate) struct TableFile {
 pub(crate) enum SourceFault {
     /// There is no word, or one that is neither a file nor the number of a process.
     Words,
-    /// They name too many.
-    TooMany,
     /// There is no memory for them.
     NoMemory,
 }
@@ -82,9 +77,6 @@ pub(crate) fn files_of(alloc: Global, words: &[&str]) -> Result<Vec<TableFile>, 
     };
     if named.is_empty() {
         return Err(SourceFault::Words);
-    }
-    if named.len() > MOST_TABLES {
-        return Err(SourceFault::TooMany);
     }
     if are_processes {
         files_of_processes(alloc, named)

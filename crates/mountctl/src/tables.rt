@@ -2,7 +2,7 @@
 
 use crate::PROGRAM;
 use crate::fault::Fault;
-use crate::import::{ImportFault, ROW_LIMIT, read_rows};
+use crate::import::{ImportFault, ROW_LIMIT, print_import, read_rows};
 use crate::messages::NAME;
 use crate::processes::{is_foreign, user_namespace_of};
 use crate::screen::standard_output;
@@ -11,10 +11,9 @@ use crate::task::WordFault;
 use mt_import::fault::Fault as Refusal;
 use mt_import::host_mount::HostMount;
 use mt_import::host_space::HostSpace;
-use mt_import::import::script_of;
-use mt_import::script::Script;
+use mt_import::import::{Import, script_of};
 use mt_lines::line::LineReader;
-use mt_lines::stream::{Reading, send};
+use mt_lines::stream::Reading;
 use mt_terminal::message::Shown;
 use std::alloc::{AllocError, AllocFailed};
 use std::fmt::{Display, Formatter};
@@ -155,21 +154,26 @@ fn read_tables(rt: &HostRuntime, files: &[TableFile]) -> Result<Vec<HostSpace>, 
     Ok(tables)
 }
 
-/// The script that makes the namespaces of the tables of these files, or the status, where it is said why there is none.
-pub(crate) fn script_of_files(rt: &HostRuntime, files: &[TableFile]) -> Result<Script, ExitCode> {
+/// The script that makes the namespaces of the tables of these files in a server of this room or a lesser one, or the
+/// status, where it is said why there is none.
+pub(crate) fn script_of_files(
+    rt: &HostRuntime,
+    files: &[TableFile],
+    room: usize,
+) -> Result<Import, ExitCode> {
     let tables = read_tables(rt, files)?;
-    match script_of(rt.alloc(), tables.as_slice()) {
-        Ok(script) => Ok(script),
+    match script_of(rt.alloc(), tables.as_slice(), room) {
+        Ok(import) => Ok(import),
         Err(_) => Err(PROGRAM.fail(rt, Fault::NoMemory.message())),
     }
 }
 
-/// Prints a script.
-fn print_script(rt: &HostRuntime, script: &Script) -> ExitCode {
+/// Prints a script behind comments.
+pub(crate) fn print_script(rt: &HostRuntime, import: &Import, comments: &[u8]) -> ExitCode {
     let mut out = standard_output(rt);
-    match send(&mut out, script.text()) {
+    match print_import(rt.alloc(), import, comments, &mut out) {
         Ok(()) => ExitCode::SUCCESS,
-        Err(_) => PROGRAM.fail(rt, Fault::Output.message()),
+        Err(fault) => PROGRAM.fail(rt, fault.message()),
     }
 }
 
@@ -182,19 +186,19 @@ pub(crate) fn named_files(
     match files_of(rt.alloc(), words) {
         Ok(files) => Ok(files),
         Err(SourceFault::NoMemory) => Err(PROGRAM.fail(rt, Fault::NoMemory.message())),
-        Err(SourceFault::TooMany) => Err(PROGRAM.refuse(rt, WordFault::TooMany.message())),
         Err(SourceFault::Words) => Err(PROGRAM.refuse(rt, kind.message())),
     }
 }
 
-/// Prints the script that makes the namespaces of the tables of the files that words name, or says why not.
-pub(crate) fn import_files(rt: &HostRuntime, words: &[&str]) -> ExitCode {
+/// Prints the script that makes the namespaces of the tables of the files that words name, or says why not. `room` is the
+/// greatest that its server may have.
+pub(crate) fn import_files(rt: &HostRuntime, words: &[&str], room: usize) -> ExitCode {
     let files = match named_files(rt, words, WordFault::Import) {
         Ok(files) => files,
         Err(status) => return status,
     };
-    match script_of_files(rt, files.as_slice()) {
-        Ok(script) => print_script(rt, &script),
+    match script_of_files(rt, files.as_slice(), room) {
+        Ok(import) => print_script(rt, &import, b""),
         Err(status) => status,
     }
 }

@@ -98,8 +98,8 @@ pub(crate) enum WordFault {
     Question,
     /// Two forms of an answer, which has one.
     Form,
-    /// More tables than a server has namespaces.
-    TooMany,
+    /// Behind `--room`.
+    Room,
     /// Behind `save`.
     Save,
     /// Behind `page`.
@@ -132,15 +132,17 @@ impl WordFault {
             WordFault::Graph => "dot takes a namespace and a path, all or none",
             WordFault::Spaces => "spaces takes --json, or no words",
             WordFault::Name => "a name is given as --name 2=web, once for each namespace",
-            WordFault::Import => "import takes files, or --pid and processes, or no words",
+            WordFault::Import => "import takes files, --pid and processes, --all, or no words",
             WordFault::WhatIf => "what-if takes files, and lines behind --",
             WordFault::Question => {
                 "what-if takes files, --pid and processes or --all, and lines behind --, or - for those of standard input"
             }
             WordFault::Form => "what-if prints a page or JSON",
-            WordFault::TooMany => "more than 64 tables",
+            WordFault::Room => "a room is given once, as --room 2, from 1 to 256",
             WordFault::Save => "save takes no words",
-            WordFault::Page => "page takes --journal and a title, or one of them, or no words",
+            WordFault::Page => {
+                "page takes --journal and a title, or one of them, or no words; where it has no socket also --room"
+            }
             WordFault::Reach =>
                 "reach takes tables, and behind -- a namespace and a path; behind a socket those alone",
             WordFault::Origin =>
@@ -149,7 +151,7 @@ impl WordFault {
                 "holders takes tables, and behind -- a source, a device, or a namespace and a path; behind a socket those alone"
             }
             WordFault::Play => "play takes a file, or - for standard input",
-            WordFault::Session => "session takes no words",
+            WordFault::Session => "session takes no words but --room",
             WordFault::Explain => "explain takes the name of a refusal, or an errno",
             WordFault::Help => "help takes a word, or none",
         }

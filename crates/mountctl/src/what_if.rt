@@ -9,6 +9,7 @@ use crate::messages::{NAME, tell_left_out, tell_lockless};
 use crate::newness::{Begun, begin_script};
 use crate::provide::provide;
 use crate::quiet::Quiet;
+use crate::room::{FIRST_ROOM, room_among};
 use crate::screen::standard_output;
 use crate::script::{SCRIPT_LIMIT, run_script};
 use crate::sources::TableFile;
@@ -24,6 +25,7 @@ use mt_lines::line::LineReader;
 use mt_lines::stream::{Input, Output, Reading, Writing};
 use mt_lines::words::{Pieces, number, words};
 use mt_render::telling::Telling;
+use mt_skel::skel::MOST_ROOM;
 use mt_terminal::message::Shown;
 use std::alloc::{AllocError, Global};
 use std::io::Eprint;
@@ -278,6 +280,13 @@ fn ask_what_if(
     )
 }
 
+/// Says which room a server has to have, if that is not the one of every server.
+fn tell_room(rt: &HostRuntime, room: usize) {
+    if room > FIRST_ROOM {
+        let _ = eprintln!(rt; "{NAME}: the tables take a server with --room {room}, or more");
+    }
+}
+
 /// Reads the tables of files, has a new server make their namespaces, sends it lines, and tells what the last one changes,
 /// or says why not: what the words behind `what-if` ask for.
 fn answer_what_if(
@@ -287,10 +296,15 @@ fn answer_what_if(
     lines: &[&str],
     wait: u64,
 ) -> Result<ExitCode, ExitCode> {
-    let files = named_files(rt, named, WordFault::WhatIf)?;
-    let script = script_of_files(rt, files.as_slice())?;
+    let said = match room_among(rt.alloc(), named) {
+        Ok(said) => said,
+        Err(fault) => return Err(fault.tell(rt)),
+    };
+    let files = named_files(rt, said.words.as_slice(), WordFault::WhatIf)?;
+    let import = script_of_files(rt, files.as_slice(), said.room.unwrap_or(MOST_ROOM))?;
+    tell_room(rt, import.room);
     let stream = connected(rt, socket, wait)?;
-    match ask_what_if(rt, &stream, &script, files.as_slice(), lines) {
+    match ask_what_if(rt, &stream, &import.script, files.as_slice(), lines) {
         Ok(Effects::Told(told)) => Ok(status_of(rt, socket, Ok(told))),
         Ok(Effects::NotNew) => {
             let socket = Shown(socket.as_bytes());

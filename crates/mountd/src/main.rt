@@ -5,6 +5,7 @@ mod descriptors;
 mod listening;
 mod lock;
 mod looks;
+mod room;
 mod socket;
 
 use crate::listening::{ListenFault, Paths};
@@ -15,6 +16,7 @@ use mt_session::floor::Floor;
 use mt_session::line::{LineReader, ReadFault};
 use mt_session::serving::{End, LINE_LIMIT, serve_plain};
 use mt_session::stream::{Reading, Writing};
+use room::{FIRST_ROOM, give_floor_room};
 use socket::{Limits, MOST_POSTS, Served, serve_socket};
 use std::alloc::Global;
 use std::io;
@@ -35,8 +37,12 @@ const PROGRAM: Program = Program {
 /// What is said if a server cannot listen. The path and the reason come after it.
 const NOT_LISTENING: &str = "cannot listen";
 
-/// How many posts the queue of a watcher holds, if the arguments do not say.
+/// How many posts the queue of a watcher holds, if the arguments do not say; or as many as there may be namespaces, if those
+/// are more: so many one command makes.
 const QUEUE: usize = 256;
+
+/// How many namespaces there may be, where the room is 1.
+const SPACES: usize = 64;
 
 /// How many sessions there may be at once, if the arguments do not say.
 const SESSIONS: usize = 32;
@@ -52,8 +58,31 @@ struct Options {
     limits: Limits,
 }
 
-/// What the program takes: a socket or `-`, whether a stale socket is replaced, how long queues are, how many sessions
-/// there may be, and how long one may be idle. `usage` stands behind its help.
+/// The option that says how much room the server has.
+fn room_option<'a>(alloc: Global) -> Arg<'a> {
+    Arg::new(alloc, "room")
+        .long("room")
+        .value_name("N")
+        .help(
+            "For how many times 256 filesystems, 16384 directories, 64 namespaces and 4096 mounts there is room, from 1 to 256",
+        )
+        .value_parser(value_parser!(u16).range(1..=256))
+        .default_value("1")
+}
+
+/// The option that says how long queues are.
+fn queue_option<'a>(alloc: Global) -> Arg<'a> {
+    Arg::new(alloc, "queue")
+        .long("queue")
+        .value_name("N")
+        .help(
+            "How many posts the queue of a watcher holds, from 1 to 16384; without it 256, or 64 times the room if that is more",
+        )
+        .value_parser(value_parser!(u16).range(1..=16384))
+}
+
+/// What the program takes: a socket or `-`, whether a stale socket is replaced, how much room the server has, how long
+/// queues are, how many sessions there may be, and how long one may be idle. `usage` stands behind its help.
 fn parser<'a>(alloc: Global, usage: &'a str) -> Result<Command<'a>, Error> {
     let socket = Arg::new(alloc, "SOCKET")
         .help("The socket to listen on, or - for one session on standard input and output")
@@ -63,12 +92,6 @@ fn parser<'a>(alloc: Global, usage: &'a str) -> Result<Command<'a>, Error> {
         .long("replace")
         .help("Take the place of a socket at which nobody listens, which a killed server has left")
         .action(ArgAction::SetTrue);
-    let queue = Arg::new(alloc, "queue")
-        .long("queue")
-        .value_name("N")
-        .help("How many posts the queue of a watcher holds, from 1 to 1024")
-        .value_parser(value_parser!(u16).range(1..=1024))
-        .default_value("256");
     let sessions = Arg::new(alloc, "sessions")
         .long("sessions")
         .value_name("N")
@@ -88,7 +111,8 @@ fn parser<'a>(alloc: Global, usage: &'a str) -> Result<Command<'a>, Error> {
         .arg(socket)?
         .after_help(usage)
         .arg(replace)?
-        .arg(queue)?
+        .arg(room_option(alloc))?
+        .arg(queue_option(alloc))?
         .arg(sessions)?
         .arg(idle)?;
     Ok(command)
@@ -99,11 +123,15 @@ fn read_options(alloc: Global, words: &[&str]) -> Result<Options, Error> {
     let usage = lines(alloc)?;
     let matches = parser(alloc, usage.as_str())?.try_get_matches_from(words)?;
     let socket = matches.get_str("SOCKET").unwrap_or(STANDARD);
+    let room = matches.get_one::<usize>("room").unwrap_or(FIRST_ROOM);
     Ok(Options {
         socket: String::from_str(alloc, socket)?,
         replaces: matches.get_flag("replace"),
         limits: Limits {
-            queue: matches.get_one::<usize>("queue").unwrap_or(QUEUE),
+            room,
+            queue: matches
+                .get_one::<usize>("queue")
+                .unwrap_or(QUEUE.max(SPACES.saturating_mul(room))),
             sessions: matches.get_one::<usize>("sessions").unwrap_or(SESSIONS),
             idle: matches.get_one::<u64>("idle").unwrap_or(0),
         },
@@ -121,14 +149,17 @@ fn complaint(end: End) -> Option<&'static str> {
     }
 }
 
-/// Serves one session on standard input and output, with queues of this many posts, 1 to 1,024.
-fn serve_standard(rt: &HostRuntime, queue: usize) -> ExitCode {
+/// Serves one session on standard input and output.
+fn serve_standard(rt: &HostRuntime, limits: Limits) -> ExitCode {
     let reader = Reading::new(rt.reader());
     let Ok(mut lines) = LineReader::new(rt.alloc(), reader, LINE_LIMIT) else {
         return PROGRAM.fail(rt, OUT_OF_MEMORY);
     };
     let mut writer = Writing::new(io::writer(rt));
-    let mut floor = Floor::new(rt.alloc(), queue.clamp(1, MOST_POSTS));
+    let mut floor = Floor::new(rt.alloc(), limits.queue.clamp(1, MOST_POSTS));
+    if give_floor_room(&mut floor, limits.room).is_err() {
+        return PROGRAM.fail(rt, OUT_OF_MEMORY);
+    }
     let end = serve_plain(rt.alloc(), &mut lines, &mut writer, &mut floor);
     match (complaint(end), writer.end()) {
         (None, Ok(())) => ExitCode::SUCCESS,
@@ -184,7 +215,7 @@ fn main(rt: HostRuntime) -> ExitCode {
         Err(error) => return PROGRAM.explain_unread(&rt, &error),
     };
     if options.socket.as_str() == STANDARD {
-        return serve_standard(&rt, options.limits.queue);
+        return serve_standard(&rt, options.limits);
     }
     let Options {
         socket,

@@ -2,6 +2,7 @@
 ghost use Rattle.std.specs.Prelude.{◌≡◌, ◌<◌};
 
 use crate::listening::{ListenFault, Listening, Paths};
+use crate::room::give_desk_room;
 use mt_desk::desk::Desk;
 use mt_desk::lines::{Host, Lines, Naming};
 use mt_server::server::{ServerFault, ServerSetup, run_server};
@@ -17,12 +18,14 @@ use std::thread::Threads;
 use std::time::Clock;
 
 /// The most posts that a queue may hold.
-pub(crate) const MOST_POSTS: usize = 1_024;
+pub(crate) const MOST_POSTS: usize = 16_384;
 
 /// The limits of a server.
 #[derive(Clone, Copy)]
 pub(crate) struct Limits {
-    /// How many posts the queue of a watcher holds, 1 to 1,024.
+    /// By what the limits of filesystems, directories, namespaces and mounts are multiplied, 1 to 256.
+    pub(crate) room: usize,
+    /// How many posts the queue of a watcher holds, 1 to 16,384.
     pub(crate) queue: usize,
     /// How many sessions there may be at once.
     pub(crate) sessions: usize,
@@ -59,7 +62,11 @@ where
     requires history { lines.history ≡ J.history }
 {
     let host: Host<J> = lines.host();
-    let desk: Mutex<Desk<J>> = Mutex::new(Desk::new(lines));
+    let mut desk: Desk<J> = Desk::new(lines);
+    if give_desk_room(rt, &mut desk, &host, limits.room).is_err() {
+        return Served::NoMemory;
+    }
+    let desk: Mutex<Desk<J>> = Mutex::new(desk);
     let bell = Bell::new();
     let setup = ServerSetup {
         listener,

@@ -21,7 +21,7 @@ use Rattle.mt_mounts.specs.Forest.{id_of, mount_at, is_below, subtree, parent}
 use Rattle.mt_mounts.proofs.Walks.{below_within, below_here, below_step}
 use Rattle.mt_propagate.specs.World.{WorldView, state_of, root_dir}
 use Rattle.mt_propagate.specs.Named.{unknown, is_mount_root}
-use Rattle.mt_propagate.specs.Limits.{too_many_mounts}
+use Rattle.mt_propagate.specs.Limits.{mounts_at_most, too_many_mounts}
 use Rattle.mt_propagate.specs.Copies.{Source, MountCopy, copies_at, new_copies}
 use Rattle.mt_propagate.specs.Receivers.{targets}
 use Rattle.mt_propagate.specs.Sound.{IsSource}
@@ -103,7 +103,7 @@ module _ (w : WorldView) (src : Source) (dest : Place) (still : src.moved ≡ fa
   some_there (x ∷ ms) i m e = omega arith
 
   -- where no mount more may come, there are too many
-  pub full : IsSource w src dest → 4096 ≤ length w.forest → too_many_mounts w (length (new_copies w src dest)) ≡ true
+  pub full : IsSource w src dest → mounts_at_most w ≤ length w.forest → too_many_mounts w (length (new_copies w src dest)) ≡ true
   full s most = let some = some_there src.mounts src.top.id src.top s.tree.top_there in let many = copies_many in grind (arith, nat_tests)
 
 -- a test of IDs is one of their mounts

@@ -35,8 +35,8 @@ fn whole_tree(world: &World, top: MountId, ids: Vec<MountId>) -> Sources
 ///
 /// Refused as `NoNamespace` if there is no such tree, `NotDetached` if that is no detached tree, `NoNamespace` and
 /// `NoEntry` of the path, `RootPlace` if the path is `/`, `IntoItself` if it is of the tree itself, `UnbindableInside` if
-/// the place's mount is in a peer group and one that moves is unbindable, `TooMany` above 4,096 mounts, and as `NoMemory`;
-/// then nothing has changed.
+/// the place's mount is in a peer group and one that moves is unbindable, `TooMany` above 4,096 mounts times the room, and
+/// as `NoMemory`; then nothing has changed.
 pub fn move_tree(
     world: &mut World,
     tree: SpaceId,

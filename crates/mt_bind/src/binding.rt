@@ -72,8 +72,8 @@ fn sources_at(world: &World, from: Place, recursive: bool) -> Result<Sources, Fa
 /// is that of the topmost copy. An unbindable mount is left out then, with all mounts that stand on it.
 ///
 /// Refused as `NoNamespace`, `NoEntry` if a component of either path is not there, the source path first, `RootPlace` if
-/// the other path is `/`, `Unbindable` if the mount is, `TooMany` above 4,096 mounts, and as `NoMemory`; then nothing has
-/// changed.
+/// the other path is `/`, `Unbindable` if the mount is, `TooMany` above 4,096 mounts times the room, and as `NoMemory`;
+/// then nothing has changed.
 pub fn bind(
     world: &mut World,
     space: SpaceId,

@@ -141,8 +141,8 @@ pub(crate) fn add_space(world: &mut World, mounts: &[Mount], states: &[(MountId,
 /// master. With `less` the new namespace is less privileged: there the copy of a mount in a group is in no group, and
 /// has that group as its master.
 ///
-/// Refused as `NoNamespace`, `Detached` if the namespace is a detached tree, as `TooMany` at 64 namespaces or above 4,096 mounts, and as `NoMemory`;
-/// then nothing has changed.
+/// Refused as `NoNamespace`, `Detached` if the namespace is a detached tree, as `TooMany` at 64 namespaces or above 4,096
+/// mounts times the room, and as `NoMemory`; then nothing has changed.
 pub fn copy_space(world: &mut World, space: SpaceId, less: bool) -> Result<SpaceId, Fault>
     requires well_formed { IsWellFormed (world_view world.old) }
     requires numbers { (world.old.next_mount < 2 ^ 63) × (world.old.next_space < 2 ^ 63) }

@@ -20,7 +20,7 @@ use mt_skel::name::{Label, Name};
 /// `rw,relatime`.
 ///
 /// Refused as `NoFilesystem`, `NoNamespace`, `NoEntry` if a component is not there, `RootPlace` if
-/// the path is `/`, `TooMany` above 4,096 mounts, and as `NoMemory`; then nothing has changed.
+/// the path is `/`, `TooMany` above 4,096 mounts times the room, and as `NoMemory`; then nothing has changed.
 pub fn mount(world: &mut World, space: SpaceId, fs: &Label, path: &[Name]) -> Result<MountId, Fault>
     requires well_formed { IsWellFormed (world_view world.old) }
     requires numbers { (world.old.next_mount < 2 ^ 63) × (world.old.peers.next < 2 ^ 63) }
@@ -37,7 +37,7 @@ pub fn mount(world: &mut World, space: SpaceId, fs: &Label, path: &[Name]) -> Re
 /// each target. What is not set is as in any new mount: `rw,relatime`.
 ///
 /// Refused as `NoFilesystem`, `NoNamespace`, `NoEntry` if a component is not there, `RootPlace` if
-/// the path is `/`, `BadAttr` if two access times are set, `TooMany` above 4,096 mounts, and as
+/// the path is `/`, `BadAttr` if two access times are set, `TooMany` above 4,096 mounts times the room, and as
 /// `NoMemory`; then nothing has changed.
 pub fn mount_with_attrs(
     world: &mut World,

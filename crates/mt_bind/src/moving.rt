@@ -59,10 +59,10 @@ pub(crate) fn is_unbindable_inside(world: &World, place: Place, ids: &[MountId])
 /// makes copies of them at each propagation target of that place. The mounts keep their IDs.
 ///
 /// Refused as `NoNamespace`, `Detached` if the namespace is a detached tree, `NoEntry` if a component of the path is not
-/// there, `NotMountRoot` if it ends below a mount's root, `RootPlace` if it names a root mount, `NoEntry` and `RootPlace` of the other path, `SharedParent` if
-/// the mount stands on one in a peer group, `IntoItself` if the place is in the tree that moves, `UnbindableInside` if
-/// the place's mount is in a peer group and one that moves is unbindable, `TooMany` above 4,096 mounts, and as
-/// `NoMemory`; then nothing has changed.
+/// there, `NotMountRoot` if it ends below a mount's root, `RootPlace` if it names a root mount, `NoEntry` and `RootPlace`
+/// of the other path, `SharedParent` if the mount stands on one in a peer group, `IntoItself` if the place is in the tree
+/// that moves, `UnbindableInside` if the place's mount is in a peer group and one that moves is unbindable, `TooMany` above
+/// 4,096 mounts times the room, and as `NoMemory`; then nothing has changed.
 pub fn move_mount(
     world: &mut World,
     space: SpaceId,

@@ -49,7 +49,7 @@ fn sources(world: &World, from: Place, recursive: bool) -> Result<Vec<Mount>, Fa
 /// stands on one. Each copy is a peer of its source or a slave of the same master. Nothing propagates.
 ///
 /// Refused as `NoNamespace`, `NoEntry` if a component of the path is not there, `Unbindable` if the mount is unbindable,
-/// `TooMany` at 64 namespaces or above 4,096 mounts, and as `NoMemory`; then nothing has changed.
+/// `TooMany` at 64 namespaces or above 4,096 mounts times the room, and as `NoMemory`; then nothing has changed.
 pub fn open_tree(
     world: &mut World,
     space: SpaceId,
@@ -83,7 +83,8 @@ pub fn open_tree(
 /// Makes a detached tree, which is a namespace, of one private mount that shows the root of the filesystem of this name,
 /// and answers its number. Nothing propagates.
 ///
-/// Refused as `NoFilesystem`, as `TooMany` at 64 namespaces or 4,096 mounts, and as `NoMemory`; then nothing has changed.
+/// Refused as `NoFilesystem`, as `TooMany` at 64 namespaces or 4,096 mounts times the room, and as `NoMemory`; then nothing
+/// has changed.
 pub fn new_tree(world: &mut World, fs: &Label) -> Result<SpaceId, Fault>
     requires well_formed { IsWellFormed (world_view world.old) }
     requires numbers { (world.old.next_mount < 2 ^ 63) × (world.old.next_space < 2 ^ 63) }

@@ -26,7 +26,7 @@ pub(crate) fn too_many(world: &World, more: usize) -> bool
 
 /// The root mount of one more namespace, which shows the root of the filesystem of this name. There is room for it then.
 ///
-/// Refused as `NoFilesystem`, as `TooMany` at 64 namespaces or 4,096 mounts, and as `NoMemory`.
+/// Refused as `NoFilesystem`, as `TooMany` at 64 namespaces or 4,096 mounts times the room, and as `NoMemory`.
 pub(crate) fn ready_root(world: &mut World, fs: &Label) -> Result<Mount, Fault>
     ensures root { IfOk result (λ root. root ≡ next_root (world_view world.old) (unwrap_or (fs_named world.old.skel fs.now) 0)) }
     ensures passed { OnOk result ((fs_named world.old.skel fs.now ≡ Some (unwrap_or (fs_named world.old.skel fs.now) 0)) × (too_many_spaces (world_view world.old) ≡ false) × (too_many_mounts (world_view world.old) 1 ≡ false)) }
@@ -79,7 +79,7 @@ pub(crate) fn add_root(world: &mut World, root: Mount) -> SpaceId
 /// Adds a namespace whose root mount is private and shows the root of the filesystem of this name,
 /// and answers its number.
 ///
-/// Refused as `NoFilesystem`, as `TooMany` at 64 namespaces or 4,096 mounts, and as `NoMemory`; then
+/// Refused as `NoFilesystem`, as `TooMany` at 64 namespaces or 4,096 mounts times the room, and as `NoMemory`; then
 /// nothing has changed.
 pub fn new_space(world: &mut World, fs: &Label) -> Result<SpaceId, Fault>
     requires well_formed { IsWellFormed (world_view world.old) }

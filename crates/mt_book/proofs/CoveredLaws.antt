@@ -43,7 +43,7 @@ use Rattle.mt_guard.specs.Refusals.{move_guard, unmount_guard, detach_guard, bin
 use Rattle.mt_guard.specs.Coming.{where_led}
 use Rattle.mt_guard.specs.Changing.{Locking, keeping, next_locks, with_locks, mount_locking, bind_locking, move_locking, attach_locking, unmount_locking, detach_locking, open_locking, copy_locking}
 use Rattle.mt_book.specs.declared.command.Command.{Command}
-use Rattle.mt_book.specs.declared.command.Command.TheVariants.{MakeFs, MakeDir, NewSpace, CopySpace, DropSpace, Mount, MountWith, Bind, Move, Pivot, Unmount, Detach, SetAttr, OpenTree, NewTree, MoveTree}
+use Rattle.mt_book.specs.declared.command.Command.TheVariants.{Room, MakeFs, MakeDir, NewSpace, CopySpace, DropSpace, Mount, MountWith, Bind, Move, Pivot, Unmount, Detach, SetAttr, OpenTree, NewTree, MoveTree}
 use Rattle.mt_book.specs.declared.command.Reply.{Reply}
 use Rattle.mt_book.specs.Step.{is_less, locks, act, judged}
 use Rattle.mt_book.specs.Locking.{AreLocks}
@@ -140,6 +140,9 @@ done_covers w c v r a i on fs x is fate =
 -- so it does after each command that is accepted
 covers : (w : WorldView) (c : Command) (v : WorldView) (r : Reply) → IsWellFormed w → AreLocks w → IsAccepted w c v r → (i : ℕ) → is_locked w.locks i ≡ true → IsStanding w i → IsStillCovering w c v i
 unfolding act
+covers w (Room n) v r h k a i on x =
+    let q = skel_ok w _ _ a.done r a.acted in
+    done_covers w (Room n) v r a i on [] keeping refl (λ _. stays_same w (Room n) i x a.done (ap (λ (y : WorldView). y.forest) q.2))
 covers w (MakeFs name kind origin) v r h k a i on x =
     let q = skel_ok w _ _ a.done r a.acted in
     done_covers w (MakeFs name kind origin) v r a i on [] keeping refl (λ _. stays_same w (MakeFs name kind origin) i x a.done (ap (λ (y : WorldView). y.forest) q.2))

@@ -20,7 +20,7 @@ use Rattle.mt_unmount.specs.Unmounting.{without_mount, unmounted_refusals, unmou
 use Rattle.mt_setattr.specs.Words.{nothing_set}
 use Rattle.mt_setattr.specs.Change.{with_change, attributed_refusals, attributed_effect}
 use Rattle.mt_book.specs.declared.command.Command.{Command}
-use Rattle.mt_book.specs.declared.command.Command.TheVariants.{MakeFs, MakeDir, NewSpace, CopySpace, DropSpace, Mount, MountWith, Bind, Move, Pivot, Unmount, Detach, SetAttr, OpenTree, NewTree, MoveTree}
+use Rattle.mt_book.specs.declared.command.Command.TheVariants.{Room, MakeFs, MakeDir, NewSpace, CopySpace, DropSpace, Mount, MountWith, Bind, Move, Pivot, Unmount, Detach, SetAttr, OpenTree, NewTree, MoveTree}
 use Rattle.mt_book.specs.declared.command.Privilege.TheVariants.{Same, Less, LessLocked}
 use Rattle.mt_book.specs.declared.command.Reply.{Reply}
 use Rattle.mt_book.specs.Step.{is_less, with_skel, with_made_number, with_done, act, step, makes_locks}
@@ -53,6 +53,7 @@ number_relabelled l fs p q e = by (first_fault fs) refl
 
 act_relabelled : (l : LocksView) (w : WorldView) (c : Command) → detaches c ≡ false → act (record w { locks = l }) c ≡ relabelled l (act w c)
 unfolding act with_space with_copies without_space copied with_pivot without_mount with_change
+act_relabelled l w (Room k) d = skel_relabelled l w _ _
 act_relabelled l w (MakeFs name kind source) d = skel_relabelled l w _ _
 act_relabelled l w (MakeDir fs path) d = skel_relabelled l w _ _
 act_relabelled l w (NewSpace fs) d = let f = fs_named w.skel fs in number_relabelled l (new_space_refusals w f) (new_space_effect w f) _ refl

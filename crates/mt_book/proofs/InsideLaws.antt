@@ -24,7 +24,7 @@ use Rattle.mt_setattr.proofs.InsideLaws.{attributed-contained, attributed-outsid
 use Rattle.mt_info.specs.Table.{table_of}
 use Rattle.mt_info.proofs.OutsideTables.{same_table}
 use Rattle.mt_book.specs.declared.command.Command.{Command}
-use Rattle.mt_book.specs.declared.command.Command.TheVariants.{MakeFs, MakeDir, NewSpace, CopySpace, DropSpace, Mount, MountWith, Bind, Move, Pivot, Unmount, Detach, SetAttr, OpenTree, NewTree, MoveTree}
+use Rattle.mt_book.specs.declared.command.Command.TheVariants.{Room, MakeFs, MakeDir, NewSpace, CopySpace, DropSpace, Mount, MountWith, Bind, Move, Pivot, Unmount, Detach, SetAttr, OpenTree, NewTree, MoveTree}
 use Rattle.mt_book.specs.declared.command.Reply.{Reply}
 use Rattle.mt_book.specs.declared.command.Reply.TheVariants.{Number}
 use Rattle.mt_locks.specs.Locks.{LocksView}
@@ -124,6 +124,7 @@ not_yet family w given = by (family w.next_space) refl
 acted_contained : (family : ℕ → Bool) (w : WorldView) (c : Command) (v : WorldView) (r : Reply) → IsWellFormed w → AreGivenOut family w → StaysOnItsSide family w c → step w c ≡ Ok (v, r) → IsContained (enlarged family w c) w
     → (u : WorldView) → act w c ≡ Ok (u, r) → IsContained (enlarged family w c) u
 unfolding act
+acted_contained family w (Room k) v r h given side e b u a = skel_contained _ w (Room k) u r refl a b
 acted_contained family w (MakeFs name kind source) v r h given side e b u a = skel_contained _ w (MakeFs name kind source) u r refl a b
 acted_contained family w (MakeDir fs path) v r h given side e b u a = skel_contained _ w (MakeDir fs path) u r refl a b
 acted_contained family w (NewSpace fs) v r h given side e b u a = let q = number_ok _ u r a in made_contained _ w fs u q.0 h b q.1

@@ -29,7 +29,7 @@ use Rattle.mt_guard.specs.Coming.{come_locked, opened_locks, where_led}
 use Rattle.mt_guard.specs.Changing.{Locking, keeping, next_locks, mount_locking, bind_locking, move_locking, attach_locking, unmount_locking, detach_locking, open_locking, copy_locking}
 use Rattle.mt_guard.proofs.FreeLaws.{front, AreFree, free, come_free, opened_free, copied_free, led_free, free_after}
 use Rattle.mt_book.specs.declared.command.Command.{Command}
-use Rattle.mt_book.specs.declared.command.Command.TheVariants.{MakeFs, MakeDir, NewSpace, CopySpace, DropSpace, Mount as MountCommand, MountWith, Bind, Move, Pivot, Unmount, Detach, SetAttr, OpenTree, NewTree, MoveTree}
+use Rattle.mt_book.specs.declared.command.Command.TheVariants.{Room, MakeFs, MakeDir, NewSpace, CopySpace, DropSpace, Mount as MountCommand, MountWith, Bind, Move, Pivot, Unmount, Detach, SetAttr, OpenTree, NewTree, MoveTree}
 use Rattle.mt_book.specs.declared.command.Privilege.TheVariants.{Same, Less, LessLocked}
 use Rattle.mt_book.specs.declared.command.Reply.{Reply}
 use Rattle.mt_book.specs.Step.{with_made_number, with_done, act, judged, guarded, step, makes_locks, next_world, after_from, after}
@@ -77,6 +77,7 @@ free_step u c first x judges owner came refused = by (judged (free u) c) (act (f
 
 free_steps : (u : WorldView) (c : Command) → makes_locks c ≡ false → step (free u) c ≡ act (free u) c
 unfolding act
+free_steps u (Room k) m = free_step u (Room k) [] keeping refl refl refl (λ f e. absurd (cc))
 free_steps u (MakeFs name kind source) m = free_step u (MakeFs name kind source) [] keeping refl refl refl (λ f e. absurd (cc))
 free_steps u (MakeDir fs path) m = free_step u (MakeDir fs path) [] keeping refl refl refl (λ f e. absurd (cc))
 free_steps u (NewSpace fs) m = free_step u (NewSpace fs) [] keeping refl refl refl (λ f e. absurd (cc))

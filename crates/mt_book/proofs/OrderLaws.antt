@@ -34,7 +34,7 @@ use Rattle.mt_guard.specs.Judging.{mount_judged, bind_judged, move_judged, attac
 use Rattle.mt_guard.proofs.FitLaws.{FitsMount, IsSet, original_fits, opened_fits}
 use Rattle.mt_guard.proofs.FollowLaws.{picked_of, bound_of, copies_follow, copied_follow}
 use Rattle.mt_book.specs.declared.command.Command.{Command}
-use Rattle.mt_book.specs.declared.command.Command.TheVariants.{MakeFs, MakeDir, NewSpace, CopySpace, DropSpace, Mount, MountWith, Bind, Move, Pivot, Unmount, Detach, SetAttr, OpenTree, NewTree, MoveTree}
+use Rattle.mt_book.specs.declared.command.Command.TheVariants.{Room, MakeFs, MakeDir, NewSpace, CopySpace, DropSpace, Mount, MountWith, Bind, Move, Pivot, Unmount, Detach, SetAttr, OpenTree, NewTree, MoveTree}
 use Rattle.mt_book.specs.declared.command.Reply.{Reply}
 use Rattle.mt_book.specs.Step.{is_less, locks, act, judged, next_world, after_from, after}
 use Rattle.mt_book.specs.Locking.{AreLocks, StepKeepsLocks, LocksAreInOrder}
@@ -146,6 +146,7 @@ module _ (w : WorldView) (h : IsWellFormed w) (o : AreLocks w) where
 
   act_order : (c : Command) (u : WorldView) (r : Reply) (l : LocksView) → judged w c ≡ Ok l → act w c ≡ Ok (u, r) → Orders l u
   unfolding act
+  act_order (Room k) u r l j e = let q = skel_ok w _ _ u r e in subst (Orders l) (sym q.2) (kept w h o (record w { skel = q.0 }) l (accepted [] (next_locks w keeping) l j).0 (same_keep w h o))
   act_order (MakeFs name kind source) u r l j e = let q = skel_ok w _ _ u r e in subst (Orders l) (sym q.2) (kept w h o (record w { skel = q.0 }) l (accepted [] (next_locks w keeping) l j).0 (same_keep w h o))
   act_order (MakeDir fs path) u r l j e = let q = skel_ok w _ _ u r e in subst (Orders l) (sym q.2) (kept w h o (record w { skel = q.0 }) l (accepted [] (next_locks w keeping) l j).0 (same_keep w h o))
   act_order (NewSpace fs) u r l j e =

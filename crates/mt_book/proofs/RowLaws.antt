@@ -17,6 +17,7 @@ use Rattle.mt_peers.specs.Masters.{groups_up}
 use Rattle.mt_peers.proofs.MemberLaws.{named}
 use Rattle.mt_peers.proofs.MakingLaws.{old_master}
 use Rattle.mt_propagate.specs.World.{WorldView, root_dir, state_of, space_of, private}
+use Rattle.mt_propagate.specs.Limits.{most_mounts}
 use Rattle.mt_propagate.specs.FromGroup.{from_group, is_seen}
 use Rattle.mt_propagate.specs.WellFormed.{IsWellFormed}
 use Rattle.mt_propagate.specs.Named.{mount_or_unknown}
@@ -32,7 +33,7 @@ pub record CanTell (w : WorldView) : Type 0 where
   pub formed : IsWellFormed w
   pub skeleton : IsSkeleton w.skel
   pub texts : HasTexts w.skel
-  pub within : length w.forest ≤ 4096
+  pub within : length w.forest ≤ most_mounts
   pub mounts : w.next_mount ≤ 2 ^ 64
   pub groups : w.peering.next ≤ 2 ^ 64
   pub spaces : w.next_space ≤ 2 ^ 64
@@ -134,7 +135,7 @@ table_valid w n h = each_in IsRow (table_of w n) (λ r there.
     subst IsRow m.2 (row_valid w m.0 h at))
 
 -- and there are few of them
-pub table_within : (w : WorldView) (n : ℕ) → CanTell w → length (table_of w n) ≤ 4096
+pub table_within : (w : WorldView) (n : ℕ) → CanTell w → length (table_of w n) ≤ most_mounts
 table_within w n h =
     let ms : List Mount = filter (λ (m : Mount). m.space == n) w.forest in
     omega (arith, length-map ms (row_of w), few_pass (λ (m : Mount). m.space == n) w.forest, h.within)

@@ -7,6 +7,7 @@ use Rattle.mt_skel.proofs.KeyedLaws.{rises-filter}
 use Rattle.mt_skel.proofs.SortedLaws.{rises-keys}
 use Rattle.mt_skel.proofs.MiddleLaws.{each_append, each_left, each_right}
 use Rattle.mt_propagate.specs.World.{WorldView}
+use Rattle.mt_propagate.specs.Limits.{most_mounts}
 use Rattle.mt_propagate.proofs.SizeLaws.{few_pass}
 use Rattle.mt_info.specs.declared.row.Row.{Row}
 use Rattle.mt_info.specs.Laws.{IsRow}
@@ -31,7 +32,7 @@ use Rattle.mt_book.proofs.HistoryLaws.{given}
 record IsTable (t : List Row) : Type 0 where
   valid : AllByRecursion IsRow t
   rising : IsTrue (rises row_id t)
-  within : length t ≤ 4096
+  within : length t ≤ most_mounts
 
 table_told : (w : WorldView) (n : ℕ) → CanTell w → IsTable (table_of w n)
 table_told w n h = record { valid = table_valid w n h; rising = table_rises w n h.formed; within = table_within w n h }

@@ -26,6 +26,20 @@ use mt_skel::names::Names;
 use mt_unmount::detaching::detach;
 use mt_unmount::unmounting::unmount;
 
+/// Gives a world another room.
+#[tactic(auto, unfolding(crate::specs::Step::act))]
+fn give_room(world: &mut World, room: usize) -> Result<Reply, Fault>
+    requires well_formed { IsWellFormed (world_view world.old) }
+    ensures done { IfOk result (λ reply. act (world_view world.old) (command.Room room) ≡ Ok (world_view world.new, reply)) }
+    ensures refused { IfErr result (λ fault. fault ≢ Fault.NoMemory → act (world_view world.old) (command.Room room) ≡ Err fault) }
+    ensures unchanged { OnErr result (world_view world.new ≡ world_view world.old) }
+    ensures kept { IsWellFormed (world_view world.new) }
+    ensures since { since_view world.new ≡ since_view world.old }
+{
+    world.skel.give_room(room)?;
+    Ok(Reply::Done)
+}
+
 /// Makes a filesystem.
 #[tactic(auto, unfolding(crate::specs::Step::act))]
 fn make_fs(world: &mut World, name: &Label, kind: &Label, source: &Label) -> Result<Reply, Fault>
@@ -246,6 +260,7 @@ pub(crate) fn act(world: &mut World, command: &Command) -> Result<Reply, Fault>
     ensures since { since_view world.new ≡ since_view world.old }
 {
     match command {
+        Command::Room { room } => give_room(world, *room),
         Command::MakeFs { name, kind, source } => make_fs(world, name, kind, source),
         Command::MakeDir { fs, path } => make_dir(world, fs, path),
         Command::NewSpace { fs } => {

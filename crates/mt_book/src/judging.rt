@@ -128,6 +128,7 @@ pub(crate) fn judged(world: &World, command: &Command) -> Result<Locks, Fault>
     ensures refused { IfErr result (λ fault. fault ≢ Fault.NoMemory → judged (world_view world.now) command.now ≡ Err fault) }
 {
     match command {
+        Command::Room { .. } => same_locks(world),
         Command::MakeFs { .. } => same_locks(world),
         Command::MakeDir { .. } => same_locks(world),
         Command::NewSpace { .. } => same_locks(world),

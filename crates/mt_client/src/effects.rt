@@ -121,14 +121,14 @@ fn tell_taken<R: Input + Drop, O: Output>(
     Ok(true)
 }
 
-/// Takes the posts that wait for the session's watcher of all namespaces, up to 1,024, which is all that a queue holds, tells
+/// Takes the posts that wait for the session's watcher of all namespaces, up to 1,024, tells
 /// them in this manner, and applies them to the tables that it has found: false where a refusal was printed. A watcher that
 /// has lost posts refuses as `Lagged` once it has given what its queue holds.
 ///
-/// The reader has met no fault, and serves what comes over the connection; the tables rise by the number of their namespace, as
-/// those that [`crate::watch::watch`] found and those that this call leaves. Refused as `Connection` where the connection
-/// fails or ends early, or where what comes are no posts, each the next one of its namespace, or more than a server has; as
-/// `Output` where what was to be told does not go out, and else as `NoMemory`.
+/// The reader has met no fault, and serves what comes over the connection; the tables rise by the number of their
+/// namespace, as those that [`crate::watch::watch`] found and those that this call leaves. Refused as `Connection` where
+/// the connection fails or ends early, or where what comes are no posts, each the next one of its namespace, or more than a
+/// server has; as `Output` where what was to be told does not go out, and else as `NoMemory`.
 pub fn tell_changes<R: Input + Drop, W: Output, O: Output>(
     alloc: Global,
     lines: &mut LineReader<R>,
@@ -193,7 +193,7 @@ fn tell_answered<R: Input + Drop, W: Output, O: Output>(
 }
 
 /// Watches all namespaces, sends a line and prints its answer, and then tells what has changed since, in this manner: each
-/// post that waits then, up to 1,024, which is all that a queue holds. The watcher stays, and says by `take` whether it has
+/// post that waits then, up to 1,024. The watcher stays, and says by `take` whether it has
 /// lost some of them.
 ///
 /// The reader has met no fault, and serves what comes over the connection. The line is none that is about its session, as

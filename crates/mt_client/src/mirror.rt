@@ -201,7 +201,7 @@ fn print_followed<R: Input + Drop, W: Output, O: Output>(
 ///
 /// Refused as `Connection` where the connection fails or ends early, or where what comes is neither: the opening of
 /// another namespace, or of several, rows that are not well-formed or do not rise by ID, what is no post, a post that
-/// is not the next one, an end that counts other posts, or more than 4,096 rows. Refused as
+/// is not the next one, an end that counts other posts, or more than 1,048,576 rows. Refused as
 /// `Output` where what was to be printed does not go out, and else as `NoMemory`. But for `Output` nothing was
 /// printed then.
 pub fn mirror<R: Input + Drop, W: Output, O: Output>(

@@ -24,23 +24,23 @@ use mt_skel::fault::Fault;
 use mt_skel::list::is_above;
 use std::alloc::Global;
 
-/// How many rows all namespaces have at most.
-pub(crate) const MOST_ROWS: u64 = 4_096;
+/// How many rows all namespaces have at most: those of a server of the greatest room.
+pub(crate) const MOST_ROWS: u64 = 1_048_576;
 
 /// How many namespaces there are at most.
-pub(crate) const MOST_SPACES: u64 = 64;
+pub(crate) const MOST_SPACES: u64 = 16_384;
 
 /// How many lines a post has at most behind its first one: as many mounts that left, and as many rows, as there may be.
-pub(crate) const MOST_POST_LINES: u64 = 8_192;
+pub(crate) const MOST_POST_LINES: u64 = 2_097_152;
 
-/// How many lines the posts have at most that wait: 1,024 posts, which is all that a queue holds, each with its first line.
-pub(crate) const MOST_WAITING_LINES: u64 = 8_389_632;
+/// How many lines the posts have at most that wait: 16,384 posts, which is all that a queue holds, each with its first line.
+pub(crate) const MOST_WAITING_LINES: u64 = 34_359_754_752;
 
 /// How many commands are listed at once at most.
 pub(crate) const MOST_LISTED: u64 = 1_024;
 
-/// How many lines an opening has at most behind its first one: these rows, and one line for each of 64 namespaces.
-pub(crate) const MOST_LINES: u64 = 4_160;
+/// How many lines an opening has at most behind its first one: these rows, and one line for each of 16,384 namespaces.
+pub(crate) const MOST_LINES: u64 = 1_064_960;
 
 /// Whether a line says more of something than a server has.
 pub(crate) fn is_beyond(count: u64, most: u64) -> bool

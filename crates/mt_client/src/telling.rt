@@ -210,7 +210,7 @@ fn tell_portions<R: Input + Drop, W: Output, O: Output>(
 ///
 /// Refused as `Connection` where the connection fails or ends early, or where what comes is no opening of the scope,
 /// no post, a post of another namespace or not the next one of its namespace, an end that counts other posts, or more than
-/// 4,096 rows of a namespace or 64 namespaces; one of which the table is empty then was dropped, and counts no more.
+/// 1,048,576 rows of a namespace or 16,384 namespaces; one of which the table is empty then was dropped, and counts no more.
 /// Refused as `Output` where what was to be printed does not go out, and else as `NoMemory`. But for `Output` posts that
 /// had come were printed then, each whole, and nothing else.
 pub fn tell<R: Input + Drop, W: Output, O: Output>(

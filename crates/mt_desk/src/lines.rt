@@ -58,11 +58,11 @@ impl Model for Lines {
 }
 
 impl Lines {
-    /// 64 lines for `capacity` posts each, 1 to 1,024. Refused as `NoMemory` alone.
+    /// 64 lines for `capacity` posts each, 1 to 16,384. Refused as `NoMemory` alone.
     ///
     /// The room for 64 rows, and for the lines that come back, is made here, and the history.
     pub fn new(alloc: Global, capacity: usize) -> Result<Lines, Fault>
-        requires { (0 < capacity) × (capacity ≤ 1024) }
+        requires { (0 < capacity) × (capacity ≤ 16384) }
         ensures capacity { IfOk result (λ l. l.capacity ≡ capacity) }
         ensures memory { IsOkUnless result Fault.NoMemory }
     {

@@ -23,7 +23,7 @@ use Rattle.mt_protocol.specs.Verbs.{first_of, verb_of, has_command_verb}
 use Rattle.mt_protocol.specs.declared.form.Form.{Form}
 use Rattle.mt_protocol.specs.declared.form.Form.TheVariants.{Done, Number, Place, Table, Locks, Opening, Posts, Commands, Followed, Never}
 use Rattle.mt_book.specs.declared.command.Command.{Command}
-use Rattle.mt_book.specs.declared.command.Command.TheVariants.{MakeFs, MakeDir, NewSpace, CopySpace, DropSpace, Mount, MountWith, Bind, Move, Pivot, Unmount, Detach, SetAttr, OpenTree, NewTree, MoveTree}
+use Rattle.mt_book.specs.declared.command.Command.TheVariants.{Room, MakeFs, MakeDir, NewSpace, CopySpace, DropSpace, Mount, MountWith, Bind, Move, Pivot, Unmount, Detach, SetAttr, OpenTree, NewTree, MoveTree}
 use Rattle.mt_requests.specs.Printed.{line_of_command, commands_text}
 use Rattle.mt_session.specs.Answers.{place_text, lock_lines_text, listed_text}
 use Rattle.mt_session.specs.Forms.{Refuses, HasForm}
@@ -188,6 +188,7 @@ command_begins : (c : Command) → has_command_verb (line_of_command c) ≡ true
 unfolding line_of_command verb_of
 command_begins (Bind n src dst true) = refl
 command_begins (Bind n src dst false) = refl
+command_begins (Room k) = refl
 command_begins (MakeFs name kind source) = refl
 command_begins (MakeDir fs path) = refl
 command_begins (NewSpace fs) = refl

@@ -18,6 +18,7 @@ pub mod AfterStop
 pub mod ManyWatchers
 pub mod ManyMounts
 pub mod TooManyMounts
+pub mod GreaterRoom
 pub mod CopyOfTheCopy
 pub mod DroppedNamespace
 pub mod StateTransitions

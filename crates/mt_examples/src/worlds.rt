@@ -51,7 +51,7 @@ fn push_rows(text: &mut Vec<u8>, space: u8, rows: &[Row]) -> Result<(), Fault> {
 /// Whether the world of tables has these tables.
 fn makes(alloc: Global, text: &[u8], spaces: &[u8], tables: &[u8]) -> Result<bool, Fault> {
     let rows = rows_of(alloc, text)?;
-    let made = world_of(alloc, rows.as_slice())?;
+    let made = world_of(alloc, rows.as_slice(), 1)?;
     let there = tables_text(alloc, &made, spaces)?;
     Ok(there.as_slice() == tables)
 }
@@ -64,7 +64,7 @@ fn leaves(
     private: &[Option<Misfit>],
 ) -> Result<bool, Fault> {
     let rows = rows_of(alloc, text)?;
-    let made = world_of(alloc, rows.as_slice())?;
+    let made = world_of(alloc, rows.as_slice(), 1)?;
     Ok(made.left.as_slice() == left && made.private.as_slice() == private)
 }
 

@@ -58,10 +58,10 @@ fn nothing_left(phase: Phase) -> Result<Answer, Fault>
 }
 
 impl Floor {
-    /// A floor on which nothing was done. The queue of each watcher may hold this many posts, 1 to 1,024. Memory will
+    /// A floor on which nothing was done. The queue of each watcher may hold this many posts, 1 to 16,384. Memory will
     /// come from `alloc`, and none is taken yet.
     pub fn new(alloc: Global, capacity: usize) -> Floor
-        requires { (0 < capacity) × (capacity ≤ 1024) }
+        requires { (0 < capacity) × (capacity ≤ 16384) }
         ensures { result ≡ empty_floor capacity }
     {
         Floor {

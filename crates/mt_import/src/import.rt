@@ -19,6 +19,15 @@ use crate::writer::{Allocated, Unmade};
 use mt_skel::fault::Fault;
 use std::alloc::Global;
 
+/// The script that makes namespaces, and the least room of a server that does it.
+#[derive(Drop)]
+pub struct Import {
+    /// The script.
+    pub script: Script,
+    /// The room, from 1: by what the limits of a server are multiplied.
+    pub room: usize,
+}
+
 /// Whether two tables have the same lines.
 fn are_same(left: &[HostMount], right: &[HostMount]) -> bool {
     left.len() == right.len()
@@ -48,15 +57,19 @@ fn trees_of<'a>(
     Ok(trees)
 }
 
-/// The trees of tables, and what is planned of them. If a row stands in the place of one that is left out, it is tried
-/// in that place.
-fn planned<'a>(alloc: Global, tables: &'a [HostSpace]) -> Allocated<(Vec<Tree<'a>>, Plan<'a>)>
+/// The trees of tables, and what is planned of them for a server of this room. If a row stands in the place of one that is
+/// left out, it is tried in that place.
+fn planned<'a>(
+    alloc: Global,
+    tables: &'a [HostSpace],
+    room: usize,
+) -> Allocated<(Vec<Tree<'a>>, Plan<'a>)>
     ensures told { IfOk result (λ (trees, plan). map (λ tree. tree.told) trees.items ≡ tables.now) }
 {
     let mut refused = Refused::new(alloc);
     for _round in 0..MOST_ROUNDS {
         let trees = trees_of(alloc, tables, &refused)?;
-        let plan = plan_with_room(alloc, trees.as_slice())?;
+        let plan = plan_with_room(alloc, trees.as_slice(), room)?;
         let count = refused.len();
         plan.refuse(trees.as_slice(), &mut refused)?;
         if refused.len() == count {
@@ -64,7 +77,7 @@ fn planned<'a>(alloc: Global, tables: &'a [HostSpace]) -> Allocated<(Vec<Tree<'a
         }
     }
     let trees = trees_of(alloc, tables, &refused)?;
-    let plan = plan_with_room(alloc, trees.as_slice())?;
+    let plan = plan_with_room(alloc, trees.as_slice(), room)?;
     Ok((trees, plan))
 }
 
@@ -106,7 +119,8 @@ fn script_with(alloc: Global, plan: &Plan<'_>, spaces: &[Space<'_>]) -> Result<S
     Ok(script)
 }
 
-/// The script without what it tells of rows: the numbers that the server gives groups are known from it, and not told in it.
+/// The script without what it tells of rows: the numbers that the server gives groups are known from it, and not told in
+/// it.
 fn counting(alloc: Global, plan: &Plan<'_>, spaces: &[Space<'_>]) -> Result<Script, Unmade> {
     let mut counted = front_of(alloc, plan, spaces)?;
     make_spaces(&mut counted, plan, spaces)?;
@@ -114,36 +128,45 @@ fn counting(alloc: Global, plan: &Plan<'_>, spaces: &[Space<'_>]) -> Result<Scri
 }
 
 /// The script that makes the namespaces of tables, unless a line of it is not one that the server reads.
-fn made_script(alloc: Global, tables: &[HostSpace]) -> Result<Script, Unmade>
-    ensures { IfOk result (IsImport tables.now) }
+fn made_script(alloc: Global, tables: &[HostSpace], room: usize) -> Result<Import, Unmade>
+    ensures { IfOk result (λ import. IsImport tables.now import.script) }
 {
-    let (trees, mut plan) = planned(alloc, tables)?;
+    let (trees, mut plan) = planned(alloc, tables, room)?;
     let spaces = spaces_of(alloc, trees, &plan)?;
     let counted = counting(alloc, &plan, spaces.as_slice())?;
     plan.groups.number(counted.numbers.named.as_slice());
     let script = script_with(alloc, &plan, spaces.as_slice())?;
-    Ok(script)
+    Ok(Import {
+        script,
+        room: plan.room,
+    })
 }
 
 /// The script that makes the namespaces of which these are the tables, each with its rows.
 ///
-/// A newly started server makes a namespace of each table, numbered as they are, with a table that tells what the rows
-/// tell, up to the numbers of mounts, groups and devices; peer groups and masters that tables have in common are common
-/// there too. If a peer group has slaves among the rows but no member, one more namespace has one. What cannot be made
-/// is told in comments: all rows are, if a line that makes them is not one that the server reads; no table is known
-/// that leads to this.
+/// A newly started server of the room that is answered, which is no greater than this one, makes a namespace of each table,
+/// numbered as they are, with a table that tells what the rows tell, up to the numbers of mounts, groups and devices; peer
+/// groups and masters that tables have in common are common there too. If a peer group has slaves among the rows but no
+/// member, one more namespace has one. What cannot be made is told in comments: all rows are, if a line that makes them is
+/// not one that the server reads; no table is known that leads to this.
 ///
-/// In a foreign namespace all places and attributes are locked, if the first table has a row of each of its mounts, by mount
-/// point, root and device, and none of them is in a peer group (mount_namespaces(7), restrictions on mount namespaces; that
-/// such mounts came with a copy of the first namespace is this project's rule). It then takes two numbers, of which the
-/// first is free again. Otherwise nothing is locked there, which a comment tells.
-pub fn script_of(alloc: Global, tables: &[HostSpace]) -> Result<Script, Fault>
-    ensures made { IfOk result (IsImport tables.now) }
+/// In a foreign namespace all places and attributes are locked, if the first table has a row of each of its mounts, by
+/// mount point, root and device, and none of them is in a peer group (mount_namespaces(7), restrictions on mount
+/// namespaces; that such mounts came with a copy of the first namespace is this project's rule). It then takes two numbers,
+/// of which the first is free again. Otherwise nothing is locked there, which a comment tells.
+///
+/// Where the tables have more than a server of this room, 1 to 256, holds, the last mounts are told in comments, and not
+/// made. Refused as `NoMemory` alone.
+pub fn script_of(alloc: Global, tables: &[HostSpace], room: usize) -> Result<Import, Fault>
+    ensures made { IfOk result (λ import. IsImport tables.now import.script) }
     ensures memory { IsOkUnless result Fault.NoMemory }
 {
-    match made_script(alloc, tables) {
-        Ok(script) => Ok(script),
+    match made_script(alloc, tables, room) {
+        Ok(import) => Ok(import),
         Err(Unmade::NoMemory) => Err(Fault::NoMemory),
-        Err(Unmade::Refused) => Ok(told_script(alloc, tables)?),
+        Err(Unmade::Refused) => Ok(Import {
+            script: told_script(alloc, tables)?,
+            room: 1,
+        }),
     }
 }

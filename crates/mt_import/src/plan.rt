@@ -1,5 +1,5 @@
 //! Which mounts of the trees are made, and what they need: those that agree on their peer groups, as many as a server
-//! has room for.
+//! has room for, and the least room that such a server has.
 
 use crate::choice::{Candidate, Choice, candidates_of, choose};
 use crate::front::slots_of;
@@ -12,14 +12,23 @@ use crate::writer::{Allocated, Done};
 use std::alloc::Global;
 use std::collections::{BTreeMap, BTreeSet};
 
-/// The most mounts of a server, those of all namespaces.
+/// The most mounts of a server whose room is 1, those of all namespaces.
 const MOST_MOUNTS: usize = 4_096;
 
-/// The most directories of a server, including the roots of filesystems.
+/// The most directories of a server whose room is 1, including the roots of filesystems.
 const MOST_DIRECTORIES: usize = 16_384;
 
-/// The most filesystems of a server.
+/// The most filesystems of a server whose room is 1.
 const MOST_FILESYSTEMS: usize = 256;
+
+/// The most namespaces of a server whose room is 1.
+const MOST_SPACES: usize = 64;
+
+/// The most mounts of any server.
+const MOST_OF_ALL: usize = 1_048_576;
+
+/// By how many halvings the most mounts of any server come to one, and to none.
+const HALVINGS: usize = 21;
 
 /// Which mounts are made, and what they need.
 pub(crate) struct Plan<'a> {
@@ -38,6 +47,8 @@ pub(crate) struct Plan<'a> {
     pub(crate) staged: Staged,
     /// The directories, each after its filesystem.
     pub(crate) directories: BTreeSet<Vec<u8>>,
+    /// The least room of a server in which all of this is made, from 1.
+    pub(crate) room: usize,
 }
 
 impl<'a> Drop for Plan<'a> {
@@ -51,13 +62,14 @@ impl<'a> Drop for Plan<'a> {
             plains: _plains,
             staged: _staged,
             directories: _directories,
+            room: _room,
         } = self;
     }
 }
 
 impl<'a> Plan<'a> {
-    /// What is needed if this many mounts are made, from the first on, and whether a server has room for that.
-    fn of(alloc: Global, all: &[Candidate<'_, 'a>], most: usize) -> Allocated<(Plan<'a>, bool)> {
+    /// What is needed if this many mounts are made, from the first on.
+    fn of(alloc: Global, all: &[Candidate<'_, 'a>], most: usize) -> Allocated<Plan<'a>> {
         let Choice { left, made, groups } = choose(alloc, all, most)?;
         let staged = groups.staged(alloc)?;
         let directories = slots_of(alloc, &staged)?;
@@ -70,12 +82,13 @@ impl<'a> Plan<'a> {
             plains: BTreeSet::new(alloc),
             staged,
             directories,
+            room: 1,
         };
         for candidate in made.iter() {
             plan.add(candidate)?;
         }
-        let fits = plan.fits(made.as_slice())?;
-        Ok((plan, fits))
+        plan.room = plan.least_room(made.as_slice())?;
+        Ok(plan)
     }
 
     /// Refuses mounts of the trees that are left out in whose place another row stands.
@@ -136,17 +149,32 @@ impl<'a> Plan<'a> {
         )
     }
 
-    /// Whether a server has room for the filesystems and directories, and for these mounts.
-    fn fits(&self, made: &[Candidate<'_, '_>]) -> Allocated<bool> {
+    /// How many namespaces there are at a time, at most: those of the tables, the one that keeps masters, and for a moment a
+    /// foreign one twice.
+    fn spaces_at_once(&self, made: &[Candidate<'_, '_>]) -> usize {
+        let roots = made.iter().filter(|candidate| candidate.is_root()).count();
+        let keeping = if self.has_unseen() { 1 } else { 0 };
+        let foreign = if made.iter().any(|candidate| candidate.is_foreign) { 1 } else { 0 };
+        roots.saturating_add(keeping).saturating_add(foreign)
+    }
+
+    /// The least room of a server that holds the filesystems and directories, and these mounts with their namespaces.
+    fn least_room(&self, made: &[Candidate<'_, '_>]) -> Allocated<usize> {
         let filesystems = self.filesystems.len().saturating_add(1);
         let directories = self.directories.len().saturating_add(filesystems);
         let mounts = self.mounts_at_once(made)?;
         Ok(
-            filesystems <= MOST_FILESYSTEMS
-                && directories <= MOST_DIRECTORIES
-                && mounts <= MOST_MOUNTS,
+            room_for(filesystems, MOST_FILESYSTEMS)
+                .max(room_for(directories, MOST_DIRECTORIES))
+                .max(room_for(mounts, MOST_MOUNTS))
+                .max(room_for(self.spaces_at_once(made), MOST_SPACES)),
         )
     }
+}
+
+/// The least room for so many, of which there are these in a room of 1.
+fn room_for(count: usize, each: usize) -> usize {
+    count.div_ceil(each).max(1)
 }
 
 /// How many mounts a foreign namespace has at most.
@@ -189,12 +217,12 @@ fn refuse_one(refused: &mut Refused, row: (usize, usize), why: Reason) -> Done {
     Ok(())
 }
 
-/// For how many mounts there is room, from the first on: each step tries half as many more.
-fn fitting(alloc: Global, all: &[Candidate<'_, '_>]) -> Allocated<usize> {
-    let (mut count, mut step) = (0_usize, MOST_MOUNTS);
-    for _halving in 0..13_usize {
+/// How many mounts a server of this room holds, from the first on: each step tries half as many more.
+fn fitting(alloc: Global, all: &[Candidate<'_, '_>], room: usize) -> Allocated<usize> {
+    let (mut count, mut step) = (0_usize, MOST_OF_ALL);
+    for _halving in 0..HALVINGS {
         let more = count.saturating_add(step);
-        if more <= all.len() && Plan::of(alloc, all, more)?.1 {
+        if more <= all.len() && Plan::of(alloc, all, more)?.room <= room {
             count = more;
         }
         step /= 2;
@@ -202,14 +230,17 @@ fn fitting(alloc: Global, all: &[Candidate<'_, '_>]) -> Allocated<usize> {
     Ok(count)
 }
 
-/// What is needed if as many mounts are made, from the first on, as there is room for.
-pub(crate) fn plan_with_room<'a>(alloc: Global, trees: &[Tree<'a>]) -> Allocated<Plan<'a>> {
+/// What is needed if as many mounts are made, from the first on, as a server of this room holds.
+pub(crate) fn plan_with_room<'a>(
+    alloc: Global,
+    trees: &[Tree<'a>],
+    room: usize,
+) -> Allocated<Plan<'a>> {
     let all = candidates_of(alloc, trees)?;
-    let (plan, fits) = Plan::of(alloc, all.as_slice(), all.len())?;
-    if fits {
+    let plan = Plan::of(alloc, all.as_slice(), all.len())?;
+    if plan.room <= room {
         return Ok(plan);
     }
-    let most = fitting(alloc, all.as_slice())?;
-    let (plan, _) = Plan::of(alloc, all.as_slice(), most)?;
-    Ok(plan)
+    let most = fitting(alloc, all.as_slice(), room)?;
+    Plan::of(alloc, all.as_slice(), most)
 }

@@ -267,7 +267,7 @@ pub fn refusal_row(refusal: Fault) -> RefusalRow
             "A limit of the server is reached.",
             Nothing("the limits are those of the server"),
             "how many mounts, copies, namespaces or directories there would be",
-            "fewer receivers, by prop=private, or dropns",
+            "fewer receivers, by prop=private, dropns, or a server with a greater mountd --room",
         ),
         Fault::NoWatcher => row(
             "The session has no watcher.",

@@ -34,11 +34,11 @@ impl Model for Line {
     ghost invariant = { λ l. IsIdle (arc_value l.sends) (arc_value l.takes) l.pass };
 }
 
-/// Makes a line for `capacity` posts, 1 to 1,024.
+/// Makes a line for `capacity` posts, 1 to 16,384.
 ///
 /// Everything that the line ever needs is made here: no other call of this crate takes memory.
 pub fn make_line(alloc: Global, capacity: usize) -> Result<Line, Fault>
-    requires { (0 < capacity) × (capacity ≤ 1024) }
+    requires { (0 < capacity) × (capacity ≤ 16384) }
     ensures line { IfOk result (λ l. l.capacity ≡ capacity) }
     ensures memory { IsOkUnless result Fault.NoMemory }
 {

@@ -30,6 +30,7 @@ use Rattle.mt_requests.proofs.SaidLaws.{label_said, path_said, number_small, att
 
 -- a command that a line can say
 abbrev IsSaid : Command → Type 0
+IsSaid (command.Room k) = ⊥
 IsSaid (command.MakeFs name kind source) = (is_label name ≡ true) × (is_label kind ≡ true) × (is_label source ≡ true)
 IsSaid (command.MakeDir fs path) = (is_label fs ≡ true) × IsGoodPath path
 IsSaid (command.NewSpace fs) = is_label fs ≡ true
@@ -120,6 +121,7 @@ mounted_back n fs path set h = go (words_there (set_rows set)) refl (set_read se
 
 said_back : (c : Command) → IsSaid c → IsReadAs (command_verb c) (command_words c) c
 unfolding verb_of
+said_back (command.Room k) h = absurd h
 said_back (command.MakeFs name kind source) h = record {
   known = refl;
   bare = with_word (codes "mkfs") refl (with_label name (with_label kind (with_label source none_left)));

@@ -15,7 +15,7 @@ use Rattle.mt_protocol.specs.Verbs.{verb_word}
 use Rattle.mt_book.specs.declared.command.Command.{Command}
 use Rattle.mt_book.specs.declared.command.Privilege.{Privilege}
 use Rattle.mt_book.specs.declared.command.Privilege.TheVariants.{Same, Less, LessLocked}
-use Rattle.mt_book.specs.declared.command.Command.TheVariants.{MakeFs, MakeDir, NewSpace, CopySpace, DropSpace, Mount, MountWith, Bind, Move, Pivot, Unmount, Detach, SetAttr, OpenTree, NewTree, MoveTree}
+use Rattle.mt_book.specs.declared.command.Command.TheVariants.{Room, MakeFs, MakeDir, NewSpace, CopySpace, DropSpace, Mount, MountWith, Bind, Move, Pivot, Unmount, Detach, SetAttr, OpenTree, NewTree, MoveTree}
 use Rattle.mt_requests.specs.declared.request.Request.TheVariants.{Run}
 use Rattle.mt_requests.specs.Requests.{command_verb, request_of}
 
@@ -87,8 +87,9 @@ privilege_words Same = []
 privilege_words Less = codes "less" ∷ []
 privilege_words LessLocked = codes "less" ∷ codes "lock" ∷ []
 
--- the words of a command behind its verb
+-- the words of a command behind its verb; a room, for which no line asks, has none
 abbrev pub command_words : Command → List (List ℕ)
+command_words (Room k) = []
 command_words (MakeFs name kind source) = sent name ∷ sent kind ∷ sent source ∷ []
 command_words (MakeDir fs path) = sent fs ∷ sent_path path ∷ []
 command_words (NewSpace fs) = sent fs ∷ []

@@ -217,8 +217,9 @@ may_want_memory (Ok (request.Run c)) = true
 may_want_memory (Ok (request.Ask q)) = true
 may_want_memory asked = false
 
--- the verb of a command, of a query, and of a request
+-- the verb of a command, of a query, and of a request; no line asks for a room, and its verb is one with the same form of answer
 abbrev pub command_verb : Command → Verb
+command_verb (command.Room k) = verb.Mkdir
 command_verb (command.MakeFs name kind source) = verb.Mkfs
 command_verb (command.MakeDir fs path) = verb.Mkdir
 command_verb (command.NewSpace fs) = verb.Newns

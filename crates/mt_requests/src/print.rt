@@ -233,6 +233,7 @@ fn push_words(line: &mut Vec<u8>, command: &Command) -> Result<(), AllocError>
     ensures { OnOk result (line.new.items ≡ line.old.items ++ behind 32 (command_words command.now)) }
 {
     match command {
+        Command::Room { .. } => Ok(()),
         Command::MakeFs { name, kind, source } => push_labels(line, name, kind, source),
         Command::MakeDir { fs, path } => push_label_path(line, fs, path),
         Command::NewSpace { fs } => push_label(line, fs),
@@ -270,13 +271,13 @@ fn push_words(line: &mut Vec<u8>, command: &Command) -> Result<(), AllocError>
     }
 }
 
-/// The verb of a command.
+/// The verb of a command. No line asks for a room: its verb is one with the same form of answer.
 fn verb_of(command: &Command) -> Verb
     ensures { result ≡ command_verb command.now }
 {
     match command {
         Command::MakeFs { .. } => Verb::Mkfs,
-        Command::MakeDir { .. } => Verb::Mkdir,
+        Command::Room { .. } | Command::MakeDir { .. } => Verb::Mkdir,
         Command::NewSpace { .. } => Verb::Newns,
         Command::CopySpace { .. } => Verb::Copyns,
         Command::DropSpace { .. } => Verb::Dropns,

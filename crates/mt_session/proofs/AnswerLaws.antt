@@ -14,7 +14,7 @@ use Rattle.mt_info.specs.Table.{table_of}
 use Rattle.mt_events.specs.Posts.{PostView}
 use Rattle.mt_events.specs.Texts.{count_text, table_text, opening_text, posts_text, followed_text}
 use Rattle.mt_book.specs.declared.command.Command.{Command}
-use Rattle.mt_book.specs.declared.command.Command.TheVariants.{MakeFs, MakeDir, NewSpace, CopySpace, DropSpace, Mount, MountWith, Bind, Move, Pivot, Unmount, Detach, SetAttr, OpenTree, NewTree, MoveTree}
+use Rattle.mt_book.specs.declared.command.Command.TheVariants.{Room, MakeFs, MakeDir, NewSpace, CopySpace, DropSpace, Mount, MountWith, Bind, Move, Pivot, Unmount, Detach, SetAttr, OpenTree, NewTree, MoveTree}
 use Rattle.mt_book.specs.declared.command.Reply.TheVariants.{Done, Number}
 use Rattle.mt_locks.specs.Locks.{LocksView}
 use Rattle.mt_book.specs.Step.{with_skel, with_made_number, with_done, act, judged, guarded, step, after}
@@ -30,7 +30,7 @@ use Rattle.mt_requests.specs.declared.request.Query.{Query}
 use Rattle.mt_requests.specs.declared.request.Query.TheVariants.{Show, Locks, Find, Journal}
 use Rattle.mt_requests.specs.Requests.{command_verb, query_verb, request_verb}
 use Rattle.mt_requests.proofs.CountLaws.{lines_tell}
-use Rattle.mt_session.specs.Answers.{refusal, found_text, shown_text, commands_from, lock_lines_text, locks_text, query_text, reply_text}
+use Rattle.mt_session.specs.Answers.{refusal, found_text, shown_text, commands_said, commands_from, lock_lines_text, locks_text, query_text, reply_text}
 use Rattle.mt_session.specs.Requests.{SessionState, stepped_text, by_phase, rest_text, taken_text, end_of_followed, closed_text, next_posts, answer_to}
 use Rattle.mt_session.specs.Forms.{Refuses, HasForm, AnswersHaveForms}
 use Rattle.mt_session.specs.Session.{Growth, Granted, Refused, Unshown, request_of_line, may_fail, may_be_unshown, answer_of, answer_with, answer_to_turn}
@@ -66,6 +66,7 @@ done (Err x) = inl (x, refl)
 
 act_answer : (w : WorldView) (c : Command) → IsAnswerOf (verb_form (command_verb c)) (stepped_text (act w c))
 unfolding act
+act_answer w (Room k) = skelled form.Done w (λ s. Done) _ (λ s. refl)
 act_answer w (MakeFs name kind source) = skelled form.Number w (λ s. Number (length s.filesystems)) _ (λ s. (length s.filesystems, refl))
 act_answer w (MakeDir fs path) = skelled form.Done w (λ s. Done) _ (λ s. refl)
 act_answer w (NewSpace fs) = made_number _
@@ -117,7 +118,7 @@ query_answer : (journal : List Command) (q : Query) → IsAnswerOf (verb_form (q
 query_answer journal (Show n) = table_answer journal n
 query_answer journal (Locks n) = locks_answer journal n
 query_answer journal (Find n path) = place_answer (found_at (after journal) n path)
-query_answer journal (Journal from most) = inr (commands_from from most journal, refl)
+query_answer journal (Journal from most) = inr (commands_from from most (commands_said journal), refl)
 
 -- posts, and what is told where none wait
 abbrev IsAtRest : List ℕ → List ℕ → Type 0

@@ -12,7 +12,7 @@ use Rattle.mt_events.specs.Texts.{count_text, table_text}
 use Rattle.mt_book.specs.declared.command.Command.{Command}
 use Rattle.mt_book.specs.declared.command.Reply.{Reply}
 use Rattle.mt_book.specs.declared.command.Reply.TheVariants.{Done, Number}
-use Rattle.mt_book.specs.Step.{after}
+use Rattle.mt_book.specs.Step.{gives_room, after}
 use Rattle.mt_book.specs.Book.{found_at, locks_in}
 use Rattle.mt_locks.specs.declared.mount_locks.MountLocks.{MountLocks}
 use Rattle.mt_info.specs.LockLine.{whole_lock_line}
@@ -52,6 +52,11 @@ abbrev pub found_text : Result (ℕ × List (List ℕ)) Fault → List ℕ
 found_text (Ok p) = place_text p.0 p.1
 found_text (Err f) = refusal f
 
+-- the commands that are listed: all but one at the beginning that gives room, for which no line asks
+abbrev pub commands_said : List Command → List Command
+commands_said [] = []
+commands_said (c ∷ cs) = cond (gives_room c) cs (c ∷ cs)
+
 -- the commands from the one of a number on, up to so many; the first has number 1
 abbrev pub commands_from : ℕ → ℕ → List Command → List Command
 commands_from from most journal = take most (drop (from - 1) journal)
@@ -65,4 +70,4 @@ abbrev pub query_text : List Command → Query → List ℕ
 query_text journal (Show n) = shown_text journal n
 query_text journal (Locks n) = locks_text journal n
 query_text journal (Find n path) = found_text (found_at (after journal) n path)
-query_text journal (Journal from most) = listed_text (commands_from from most journal)
+query_text journal (Journal from most) = listed_text (commands_from from most (commands_said journal))

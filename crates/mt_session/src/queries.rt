@@ -2,7 +2,7 @@
 ghost use Rattle.std.specs.Prelude.{◌≡◌, ◌≢◌, take, drop, IfOk, IfErr};
 ghost use Rattle.mt_book.specs.Step.{after};
 ghost use Rattle.mt_book.specs.Book.{found_at};
-ghost use Rattle.mt_session.specs.Answers.{refusal, shown_text, locks_text, found_text, commands_from, listed_text, query_text};
+ghost use Rattle.mt_session.specs.Answers.{refusal, shown_text, locks_text, found_text, commands_said, commands_from, listed_text, query_text};
 
 use crate::text::Text;
 use mt_book::book::Book;
@@ -90,6 +90,16 @@ fn commands_behind(commands: &[Command], count: usize) -> &[Command]
     }
 }
 
+/// The commands that are listed: all but one at the beginning that gives room, for which no line asks.
+fn commands_said(commands: &[Command]) -> &[Command]
+    ensures { result.now ≡ commands_said commands.now }
+{
+    let Some((first, later)) = commands.split_first() else {
+        return commands;
+    };
+    if first.gives_room() { later } else { commands }
+}
+
 /// The commands from the one of a number on, up to so many. The first has number 1.
 fn commands_from(commands: &[Command], from: u64, most: u64) -> &[Command]
     ensures { result.now ≡ commands_from from most commands.now }
@@ -98,12 +108,12 @@ fn commands_from(commands: &[Command], from: u64, most: u64) -> &[Command]
     first_commands(later, most as usize)
 }
 
-/// The lines that list accepted commands.
+/// The lines that list accepted commands, but for one that gives room.
 fn list_commands(alloc: Global, book: &Book, from: u64, most: u64) -> Result<Text, Fault>
-    ensures ok { IfOk result (λ text. text ≡ listed_text (commands_from from most book.now.journal)) }
+    ensures ok { IfOk result (λ text. text ≡ listed_text (commands_from from most (commands_said book.now.journal))) }
     ensures memory { IfErr result (λ fault. fault ≡ Fault.NoMemory) }
 {
-    let commands = commands_from(book.journal(), from, most);
+    let commands = commands_from(commands_said(book.journal()), from, most);
     let mut lines = Vec::new(alloc);
     push_commands(&mut lines, commands)?;
     Ok(Text::counted(alloc, commands.len() as u64, &lines)?)

@@ -9,6 +9,7 @@ use Rattle.mt_peers.specs.Peers.{Peer, Peering, mount_of}
 use Rattle.mt_peers.specs.Making.{made, groupless, is_shared}
 use Rattle.mt_propagate.specs.World.{WorldView}
 use Rattle.mt_propagate.specs.WellFormed.{IsWellFormed}
+use Rattle.mt_propagate.specs.Limits.{most_mounts}
 use Rattle.mt_propagate.proofs.SizeLaws.{IsSized, few_pass}
 use Rattle.mt_setattr.specs.declared.change.Change.{Change}
 use Rattle.mt_setattr.specs.Change.{attributed, with_change, changed_mount, is_chosen}
@@ -30,7 +31,7 @@ changed_groups None chosen p = omega arith
 changed_groups (Some k) chosen p = few_groups k chosen p
 
 -- a change of mounts
-changed_sized : (w : WorldView) (c : Change) (i : ℕ) → IsWellFormed w → length w.forest ≤ 4096 → IsSized w (with_change w c i) 0
+changed_sized : (w : WorldView) (c : Change) (i : ℕ) → IsWellFormed w → length w.forest ≤ most_mounts → IsSized w (with_change w c i) 0
 unfolding with_change
 changed_sized w c i h few =
     let groups = changed_groups c.prop (is_chosen w c i) w.peering in
@@ -42,5 +43,5 @@ changed_sized w c i h few =
       within = omega (arith, few, length-map w.forest (changed_mount c (is_chosen w c i)));
     }
 
-pub attr_sized : (w v : WorldView) (n : ℕ) (path : List (List ℕ)) (c : Change) → IsWellFormed w → length w.forest ≤ 4096 → attributed w n path c ≡ Ok v → IsSized w v 0
+pub attr_sized : (w v : WorldView) (n : ℕ) (path : List (List ℕ)) (c : Change) → IsWellFormed w → length w.forest ≤ most_mounts → attributed w n path c ≡ Ok v → IsSized w v 0
 attr_sized w v n path c h few e = subst (λ (x : WorldView). IsSized w x 0) (change_accepted w n path c v e).world (changed_sized w c (path_end w n path).mount h few)

@@ -10,7 +10,7 @@ use Rattle.mt_skel.specs.Children.{child_in}
 use Rattle.mt_skel.specs.Skeleton.{Skeleton, directory, fs_named, child, is_directory, with_dir, with_fs}
 use Rattle.mt_skel.specs.declared.skel.Filesystem.{Filesystem as FilesystemNode}
 use Rattle.mt_skel.specs.declared.skel.Node.{Node}
-use Rattle.mt_skel.specs.Nodes.{dir_of, dirs_of, shown_fs, skeleton_of, AreFoundByName, IsKeptSkeleton, IsLaidOut}
+use Rattle.mt_skel.specs.Nodes.{dir_of, dirs_of, shown_fs, skeleton_of, skeleton_with, AreFoundByName, IsKeptSkeleton, IsLaidOut}
 use Rattle.mt_skel.proofs.ListLaws.{pushed, kept, last_place}
 use Rattle.mt_skel.proofs.SkeletonLaws.{skeleton_with_dir, skeleton_with_fs}
 use Rattle.mt_skel.proofs.NodeLaws.{length-dirs_of, dirs_push, node_at, there_at, counted, dir_within, laid_out_empty, child_found, child_none}
@@ -18,7 +18,7 @@ use Rattle.mt_skel.proofs.NodeLaws.{length-dirs_of, dirs_push, node_at, there_at
 -- a directory below one that is there
 module _ (fs : List FilesystemNode) (ns : List Node) (t : IsLaidOut fs ns) (dir f : ℕ) (name : List ℕ) (there : dir < length ns) (same : f ≡ (directory (skeleton_of fs ns) dir).fs) where
   pub dir_view : skeleton_of fs (ns ++ record { fs = f; up = Some (record { dir = dir; name = name }) } ∷ []) ≡ with_dir (skeleton_of fs ns) (record { fs = f; path = (directory (skeleton_of fs ns) dir).path ++ name ∷ [] })
-  dir_view = let grown = dirs_push ns (record { fs = f; up = Some (record { dir = dir; name = name }) }) in λ i. record { filesystems = map shown_fs fs; directories = grown i }
+  dir_view = let grown = dirs_push ns (record { fs = f; up = Some (record { dir = dir; name = name }) }) in λ i. record { filesystems = map shown_fs fs; directories = grown i; room = 1 }
 
   pub dir_laid_out : child (skeleton_of fs ns) dir name ≡ None → IsLaidOut fs (ns ++ record { fs = f; up = Some (record { dir = dir; name = name }) } ∷ [])
   dir_laid_out absent = record {
@@ -40,7 +40,7 @@ module _ (fs : List FilesystemNode) (ns : List Node) (t : IsLaidOut fs ns) (f : 
       let shown = map-append shown_fs fs (f ∷ []) in
       let same : number ≡ length (map shown_fs fs) + 1 = omega (arith, length-map fs shown_fs) in
       let grown = dirs_push ns (record { fs = number; up = None }) ∙ ap (λ k. dirs_of ns ++ record { fs = k; path = [] } ∷ []) same in
-      λ i. record { filesystems = shown i; directories = grown i }
+      λ i. record { filesystems = shown i; directories = grown i; room = 1 }
 
   pub fs_laid_out : fs_named (skeleton_of fs ns) f.name ≡ None → IsLaidOut (fs ++ f ∷ []) (ns ++ record { fs = number; up = None } ∷ [])
   fs_laid_out free = record {
@@ -111,12 +111,12 @@ module _ (ns : List Node) (children more : List (List (List ℕ × ℕ))) (t : A
       new_or dir name = grind (arith, decided dir name, grown dir name)
 
 -- a directory or a filesystem is added: what the type keeps stays true, and the skeleton that is seen has one more
-pub child_kept : {fs : List FilesystemNode} {ns grown : List Node} {children : List (List (List ℕ × ℕ))} (more : List (List (List ℕ × ℕ))) (v : Skeleton) (parent f number : ℕ) (name copy : List ℕ) → IsKeptSkeleton fs ns children → skeleton_of fs ns ≡ v
+pub child_kept : {fs : List FilesystemNode} {ns grown : List Node} {children : List (List (List ℕ × ℕ))} {k : ℕ} (more : List (List (List ℕ × ℕ))) (v : Skeleton) (parent f number : ℕ) (name copy : List ℕ) → IsKeptSkeleton fs ns children → skeleton_with fs ns k ≡ v
     → is_directory v parent ≡ true → f ≡ (directory v parent).fs → child v parent name ≡ None → copy ≡ name → number ≡ length ns → length more ≡ length children + 1
     → ((dir : ℕ) (other : List ℕ) → child_in more dir other ≡ cond ((parent == dir) && bytes_eq copy other) (Some number) (child_in children dir other))
     → grown ≡ ns ++ record { fs = f; up = Some (record { dir = parent; name = name }) } ∷ []
-    → IsKeptSkeleton fs grown more × (skeleton_of fs grown ≡ with_dir v (record { fs = f; path = (directory v parent).path ++ name ∷ [] }))
-child_kept {fs} {ns} {children = children} more v parent f number name copy t view valid same absent copied place size found longer =
+    → IsKeptSkeleton fs grown more × (skeleton_with fs grown k ≡ with_dir v (record { fs = f; path = (directory v parent).path ++ name ∷ [] }))
+child_kept {fs} {ns} {children = children} {k = k} more v parent f number name copy t view valid same absent copied place size found longer =
     let there = dir_within fs ns v parent view valid in
     let of : f ≡ (directory (skeleton_of fs ns) parent).fs = same ∙ ap (λ s. (directory s parent).fs) (sym view) in
     let free : child (skeleton_of fs ns) parent name ≡ None = ap (λ s. child s parent name) view ∙ absent in
@@ -126,24 +126,24 @@ child_kept {fs} {ns} {children = children} more v parent f number name copy t vi
         indexed = indexed_child ns children more t.indexed parent f name (child_is fs ns children t parent name ∙ free) size
             (λ dir other. found dir other ∙ (λ i. cond ((parent == dir) && bytes_eq (copied i) other) (Some (place i)) (child_in children dir other)));
       },
-      dir_view fs ns t.laid_out parent f name there of,
+      ap (λ (s : Skeleton). record s { room = k }) (dir_view fs ns t.laid_out parent f name there of),
     )
 
-pub fs_kept : {fs more_fs : List FilesystemNode} {ns grown : List Node} {children : List (List (List ℕ × ℕ))} (more : List (List (List ℕ × ℕ))) (v : Skeleton) (f : FilesystemNode) (number : ℕ) → IsKeptSkeleton fs ns children → skeleton_of fs ns ≡ v
+pub fs_kept : {fs more_fs : List FilesystemNode} {ns grown : List Node} {children : List (List (List ℕ × ℕ))} {k : ℕ} (more : List (List (List ℕ × ℕ))) (v : Skeleton) (f : FilesystemNode) (number : ℕ) → IsKeptSkeleton fs ns children → skeleton_with fs ns k ≡ v
     → fs_named v f.name ≡ None → f.root ≡ length ns → number ≡ length fs + 1 → length more ≡ length children + 1 → ((dir : ℕ) (other : List ℕ) → child_in more dir other ≡ child_in children dir other)
     → more_fs ≡ fs ++ f ∷ [] → grown ≡ ns ++ record { fs = number; up = None } ∷ []
-    → IsKeptSkeleton more_fs grown more × (skeleton_of more_fs grown ≡ with_fs v (shown_fs f))
-fs_kept {fs} {ns = ns} {children = children} more v f number t view free root next size same with_f longer =
+    → IsKeptSkeleton more_fs grown more × (skeleton_with more_fs grown k ≡ with_fs v (shown_fs f))
+fs_kept {fs} {ns = ns} {children = children} {k = k} more v f number t view free root next size same with_f longer =
     rw (with_f, longer, ← view) (
       record {
         laid_out = fs_laid_out fs ns t.laid_out f number root next (ap (λ s. fs_named s f.name) view ∙ free);
         indexed = indexed_root ns children more (record { fs = number; up = None }) t.indexed size same refl;
       },
-      fs_view fs ns t.laid_out f number root next,
+      ap (λ (s : Skeleton). record s { room = k }) (fs_view fs ns t.laid_out f number root next),
     )
 
 -- the child that is found is there
-pub child_there : (fs : List FilesystemNode) (ns : List Node) (children : List (List (List ℕ × ℕ))) (v : Skeleton) → IsKeptSkeleton fs ns children → skeleton_of fs ns ≡ v → (o : Option ℕ) (dir : ℕ) (name : List ℕ) → o ≡ child_in children dir name → IfSome o (λ d. is_directory v d ≡ true)
+pub child_there : (fs : List FilesystemNode) (ns : List Node) (children : List (List (List ℕ × ℕ))) {k : ℕ} (v : Skeleton) → IsKeptSkeleton fs ns children → skeleton_with fs ns k ≡ v → (o : Option ℕ) (dir : ℕ) (name : List ℕ) → o ≡ child_in children dir name → IfSome o (λ d. is_directory v d ≡ true)
 child_there fs ns children v t view None dir name e = tt
 child_there fs ns children v t view (Some d) dir name e =
     let h = t.indexed.found dir d name (sym e) in

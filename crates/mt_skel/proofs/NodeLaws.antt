@@ -12,9 +12,9 @@ use Rattle.mt_skel.specs.Skeleton.{Skeleton, IsSkeleton, Directory, Filesystem, 
 use Rattle.mt_skel.specs.declared.skel.Filesystem.{Filesystem as FilesystemNode}
 use Rattle.mt_skel.specs.declared.skel.Link.{Link}
 use Rattle.mt_skel.specs.declared.skel.Node.{Node}
-use Rattle.mt_skel.specs.Nodes.{names_up, dir_of, dirs_from, dirs_of, shown_fs, skeleton_of, IsUp, IsLaidOut}
+use Rattle.mt_skel.specs.Nodes.{names_up, dir_of, dirs_from, dirs_of, shown_fs, skeleton_of, skeleton_with, IsUp, IsLaidOut}
 use Rattle.mt_skel.proofs.ListLaws.{snoc_some, kept, last_place}
-use Rattle.mt_skel.proofs.SkeletonLaws.{holds_up, holds_root, directory_within, filesystem_within, number_at, number_none, directory_at, at_directory, same_place}
+use Rattle.mt_skel.proofs.SkeletonLaws.{holds_up, holds_root, directory_within, filesystem_within, number_at, number_none, directory_at, at_directory, same_place, roomed}
 
 -- no node
 pub laid_out_empty : IsLaidOut [] []
@@ -32,7 +32,7 @@ laid_out_empty = record {
   roots = λ i f e. absurd (cc);
 }
 
-pub skeleton_empty : (fs : List FilesystemNode) (ns : List Node) → fs ≡ [] → ns ≡ [] → skeleton_of fs ns ≡ record { filesystems = []; directories = [] }
+pub skeleton_empty : (fs : List FilesystemNode) (ns : List Node) → fs ≡ [] → ns ≡ [] → skeleton_with fs ns 1 ≡ record { filesystems = []; directories = []; room = 1 }
 unfolding dirs_of
 skeleton_empty fs ns ef en = rw (ef, en)
 
@@ -150,16 +150,16 @@ module _ (fs : List FilesystemNode) (ns : List Node) (t : IsLaidOut fs ns) where
       grind (arith, nat_tests)
 
 -- how many filesystems and directories there are, as a skeleton is seen
-pub counted : (fs : List FilesystemNode) (ns : List Node) (v : Skeleton) → skeleton_of fs ns ≡ v → (length v.filesystems ≡ length fs) × (length v.directories ≡ length ns)
+pub counted : (fs : List FilesystemNode) (ns : List Node) {k : ℕ} (v : Skeleton) → skeleton_with fs ns k ≡ v → (length v.filesystems ≡ length fs) × (length v.directories ≡ length ns)
 counted fs ns v view = rw (← view) (length-map fs shown_fs, length-dirs_of ns)
 
 -- a number of a directory is within the nodes
-pub dir_within : (fs : List FilesystemNode) (ns : List Node) (v : Skeleton) (d : ℕ) → skeleton_of fs ns ≡ v → is_directory v d ≡ true → d < length ns
+pub dir_within : (fs : List FilesystemNode) (ns : List Node) {k : ℕ} (v : Skeleton) (d : ℕ) → skeleton_with fs ns k ≡ v → is_directory v d ≡ true → d < length ns
 dir_within fs ns v d view h = omega (arith, directory_within v d h, counted fs ns v view)
 
 -- what is always true of a skeleton is true of the one that is seen
-pub sound : {fs : List FilesystemNode} {ns : List Node} → IsLaidOut fs ns → (v : Skeleton) → skeleton_of fs ns ≡ v → IsSkeleton v
-sound t v view = rw (← view) t.skeleton
+pub sound : {fs : List FilesystemNode} {ns : List Node} {k : ℕ} → IsLaidOut fs ns → (v : Skeleton) → skeleton_with fs ns k ≡ v → IsSkeleton v
+sound {fs} {ns} {k} t v view = rw (← view) (roomed (skeleton_of fs ns) k t.skeleton)
 
 -- what a node that is read says of its directory: one without a parent is a root, and another has one name more than its parent
 pub record IsRoot (v : Skeleton) (d : ℕ) : Type 0 where
@@ -172,7 +172,7 @@ pub record IsBelow (v : Skeleton) (d : ℕ) (up : Link) : Type 0 where
   pub path : (directory v d).path ≡ (directory v up.dir).path ++ up.name ∷ []
   pub held : (outer : ℕ) → d ≢ outer → holds v outer up.dir ≡ holds v outer d
 
-module _ {fs : List FilesystemNode} {ns : List Node} (t : IsLaidOut fs ns) (v : Skeleton) (view : skeleton_of fs ns ≡ v) (d : ℕ) (n : Node) (l : d < length ns) (read : n ≡ get_or ns d n) where
+module _ {fs : List FilesystemNode} {ns : List Node} {k : ℕ} (t : IsLaidOut fs ns) (v : Skeleton) (view : skeleton_with fs ns k ≡ v) (d : ℕ) (n : Node) (l : d < length ns) (read : n ≡ get_or ns d n) where
   at : slice_get ns d ≡ Some n
   at = slice_get_read ns (length ns) d n refl l read
 
@@ -201,13 +201,13 @@ module _ {fs : List FilesystemNode} {ns : List Node} (t : IsLaidOut fs ns) (v : 
       })
 
 -- a filesystem that is read says where its root is
-module _ {fs : List FilesystemNode} {ns : List Node} (t : IsLaidOut fs ns) (v : Skeleton) (view : skeleton_of fs ns ≡ v) (f : ℕ) (n : FilesystemNode) (valid : is_filesystem v f ≡ true) (read : n ≡ get_or fs (f - 1) n) where
+module _ {fs : List FilesystemNode} {ns : List Node} {k : ℕ} (t : IsLaidOut fs ns) (v : Skeleton) (view : skeleton_with fs ns k ≡ v) (f : ℕ) (n : FilesystemNode) (valid : is_filesystem v f ≡ true) (read : n ≡ get_or fs (f - 1) n) where
   pub root_place : slice_get v.directories n.root ≡ Some (record { fs = f; path = [] })
   root_place =
       let within = filesystem_within v f valid in
       let at = slice_get_read fs (length fs) (f - 1) n refl (omega (arith, within, counted fs ns v view)) read in
       let next : f - 1 + 1 ≡ f = omega (arith, within) in
-      rw (← view) (t.roots (f - 1) n at ∙ ap (λ k. Some (record { fs = k; path = [] })) next)
+      rw (← view) (t.roots (f - 1) n at ∙ ap (λ m. Some (record { fs = m; path = [] })) next)
 
   pub root_number : n.root ≡ root_of v f
   root_number = sym (ap (λ o. unwrap_or o 0) (number_at v (sound t v view) (record { fs = f; path = [] }) n.root root_place))

@@ -8,7 +8,7 @@ use Rattle.std.proofs.lemmas.Slice.Eq.{slice_eq-Decides, bytes_eq-Decides, start
 use Rattle.std.proofs.lemmas.Option.{slice_get_within, get_or_from_slice_get, slice_get-get_or}
 use Rattle.std.proofs.lemmas.List.{same_from_push, get_or_past}
 use Rattle.mt_skel.proofs.ListLaws.{snoc_some, front_empty, last_of, pushed, kept, last_place}
-use Rattle.mt_skel.specs.Skeleton.{Skeleton, Directory, Filesystem, path_eq, directory_eq, is_directory, is_filesystem, directory, fs_named, directory_number, child, holds, with_fs, with_dir, IsSkeleton}
+use Rattle.mt_skel.specs.Skeleton.{Skeleton, Directory, Filesystem, path_eq, directory_eq, is_directory, is_filesystem, directory, fs_named, directory_number, child, holds, room_limit, skel_room, with_fs, with_dir, IsSkeleton}
 
 -- the first place where a test passes
 module _ {X : Type 0} (p : X → Bool) where
@@ -227,3 +227,11 @@ skeleton_with_fs s is f free = record {
 
     more : length (s.filesystems ++ f ∷ []) ≡ length s.filesystems + 1
     more = length-append s.filesystems (f ∷ [])
+
+-- another room
+pub roomed : (s : Skeleton) (k : ℕ) → IsSkeleton s → IsSkeleton (record s { room = k })
+roomed s k is = record { names_once = is.names_once; once = is.once; of_filesystem = is.of_filesystem; parents = is.parents; rooted = is.rooted }
+
+-- no room is above the greatest one
+pub room_within : (s : Skeleton) → skel_room s ≤ room_limit
+room_within s = omega arith

@@ -32,7 +32,11 @@ abbrev pub shown_fs : FilesystemNode → Filesystem
 shown_fs f = record { name = f.name; kind = f.kind; source = f.source }
 
 abbrev pub skeleton_of : List FilesystemNode → List Node → Skeleton
-skeleton_of fs ns = record { filesystems = map shown_fs fs; directories = dirs_of ns }
+skeleton_of fs ns = record { filesystems = map shown_fs fs; directories = dirs_of ns; room = 1 }
+
+-- the same with its room
+abbrev pub skeleton_with : List FilesystemNode → List Node → ℕ → Skeleton
+skeleton_with fs ns k = record (skeleton_of fs ns) { room = k }
 
 -- the node is the child of this directory with this name
 abbrev pub IsUp : Node → ℕ → List ℕ → Type 0

@@ -1,7 +1,7 @@
 -- Directories: a skeleton is its filesystems and its directories, each in the order in which they were made. A filesystem's
 -- number, the minor of its device, counts from 1 and a directory's from 0.
 -- A word with no source is this project's rule.
-use Rattle.std.specs.Prelude.{◌≡◌, ℕ, ◌+◌, ◌-◌, ◌<◌, ◌≤◌, Bool, ◌&&◌, ◌==◌, nat_le, nat_lt, List, [], ◌∷◌, ◌++◌, length, take, drop, Option, Some, is_some, is_none, slice_index_or, slice_get, unwrap_or, Result}
+use Rattle.std.specs.Prelude.{◌≡◌, ℕ, ◌+◌, ◌-◌, ◌*◌, ◌<◌, ◌≤◌, min, Bool, ◌&&◌, ◌==◌, nat_le, nat_lt, List, [], ◌∷◌, ◌++◌, length, take, drop, Option, Some, is_some, is_none, slice_index_or, slice_get, unwrap_or, Result}
 use Rattle.std.specs.List.{position_from, starts_with}
 use Rattle.mt_skel.specs.declared.fault.Fault.{Fault}
 use Rattle.mt_skel.specs.declared.fault.Fault.TheVariants.{FilesystemExists, TooMany, NoFilesystem, NoEntry, EntryExists}
@@ -19,15 +19,17 @@ pub record Directory : Type 0 where
   pub fs : ℕ
   pub path : List (List ℕ)
 
+-- the room is by what limits are multiplied
 pub record Skeleton : Type 0 where
   pub filesystems : List Filesystem
   pub directories : List Directory
+  pub room : ℕ
 
 abbrev pub empty_skeleton : Skeleton
-empty_skeleton = record { filesystems = []; directories = [] }
+empty_skeleton = record { filesystems = []; directories = []; room = 1 }
 
--- the limits of the server: filesystems, directories including the roots, and names from a root
--- down
+-- the limits of the server where the room is 1: filesystems, directories including the roots; and names from a root down,
+-- whatever the room is
 abbrev pub filesystem_limit : ℕ
 filesystem_limit = 256
 
@@ -36,6 +38,21 @@ directory_limit = 16384
 
 abbrev pub depth_limit : ℕ
 depth_limit = 32
+
+-- the greatest room
+abbrev pub room_limit : ℕ
+room_limit = 256
+
+-- the room of a skeleton, which is never above the greatest one
+abbrev pub skel_room : Skeleton → ℕ
+skel_room s = min s.room room_limit
+
+-- the most filesystems and directories of a skeleton
+abbrev pub filesystems_at_most : Skeleton → ℕ
+filesystems_at_most s = filesystem_limit * skel_room s
+
+abbrev pub directories_at_most : Skeleton → ℕ
+directories_at_most s = directory_limit * skel_room s
 
 abbrev pub path_eq : List (List ℕ) → List (List ℕ) → Bool
 path_eq = pointwise bytes_eq
@@ -83,7 +100,7 @@ path_below s outer inner = drop (length (directory s outer).path) (directory s i
 
 -- one filesystem more, with its root directory
 abbrev pub with_fs : Skeleton → Filesystem → Skeleton
-with_fs s f = record {
+with_fs s f = record s {
   filesystems = s.filesystems ++ f ∷ [];
   directories = s.directories ++ record { fs = length s.filesystems + 1; path = [] } ∷ [];
 }
@@ -96,8 +113,8 @@ with_dir s d = record s { directories = s.directories ++ d ∷ [] }
 abbrev pub added_fs : Skeleton → Filesystem → Result Skeleton Fault
 added_fs s f =
     outcome (refuse_if (is_some (fs_named s f.name)) FilesystemExists
-    ∷ refuse_if (nat_le filesystem_limit (length s.filesystems)) TooMany
-    ∷ refuse_if (nat_le directory_limit (length s.directories)) TooMany ∷ [])
+    ∷ refuse_if (nat_le (filesystems_at_most s) (length s.filesystems)) TooMany
+    ∷ refuse_if (nat_le (directories_at_most s) (length s.directories)) TooMany ∷ [])
     (with_fs s f)
 
 -- a new directory, with its refusals in order; its parent must be there, and a root is there already
@@ -108,8 +125,16 @@ added_dir s fs path =
     ∷ refuse_if (is_none (directory_number s (record { fs = f; path = take (length path - 1) path }))) NoEntry
     ∷ refuse_if (is_some (directory_number s (record { fs = f; path = path }))) EntryExists
     ∷ refuse_if (nat_lt depth_limit (length path)) TooMany
-    ∷ refuse_if (nat_le directory_limit (length s.directories)) TooMany ∷ [])
+    ∷ refuse_if (nat_le (directories_at_most s) (length s.directories)) TooMany ∷ [])
     (with_dir s (record { fs = f; path = path }))
+
+-- another room, with its refusals in order
+abbrev pub given_room : Skeleton → ℕ → Result Skeleton Fault
+given_room s k =
+    outcome (refuse_if (nat_lt k 1) TooMany
+    ∷ refuse_if (nat_lt room_limit k) TooMany
+    ∷ refuse_if (nat_lt 0 (length s.filesystems)) TooMany ∷ [])
+    (record s { room = k })
 
 -- what is always true of a skeleton
 pub record IsSkeleton (s : Skeleton) : Type 0 where

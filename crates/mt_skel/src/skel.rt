@@ -1,9 +1,9 @@
 //! The directories of all filesystems.
-ghost use Rattle.std.specs.Prelude.{◌≡◌, ◌≢◌, ◌-◌, ◌<◌, [], ◌∷◌, ◌++◌, None, IsTrue, IfOk, IfErr, IfSome, OnErr, OnOk, IsOkUnless, Ok, Err, length, drop};
+ghost use Rattle.std.specs.Prelude.{◌≡◌, ◌≢◌, ◌-◌, ◌<◌, [], ◌∷◌, ◌++◌, ◌≤◌, nat_le, None, IsTrue, IfOk, IfErr, IfSome, OnErr, OnOk, IsOkUnless, Ok, Err, length, drop};
 ghost use Rattle.std.specs.List.{flat_map};
 ghost use Rattle.mt_skel.specs.Front.{IsFront};
 ghost use Rattle.mt_skel.specs.Escapes.{escaped};
-ghost use Rattle.mt_skel.specs.Skeleton.{Skeleton, IsSkeleton, empty_skeleton, is_filesystem, is_directory, filesystem, directory, fs_named, directory_number, root_of, child, holds, added_fs, added_dir, with_dir};
+ghost use Rattle.mt_skel.specs.Skeleton.{Skeleton, IsSkeleton, empty_skeleton, room_limit, skel_room, filesystems_at_most, directories_at_most, given_room, is_filesystem, is_directory, filesystem, directory, fs_named, directory_number, root_of, child, holds, added_fs, added_dir, with_dir};
 
 use crate::children::Children;
 use crate::escape::push_escaped;
@@ -20,11 +20,17 @@ pub type FsId = u64;
 /// The number of a directory, counted from 0 in the order of making.
 pub type Dir = u64;
 
+/// The most filesystems, where the room is 1.
 const MOST_FILESYSTEMS: usize = 256;
 
+/// The most directories including the roots, where the room is 1.
 const MOST_DIRECTORIES: usize = 16_384;
 
+/// The most names from a root down, whatever the room is.
 const MOST_DEPTH: usize = 32;
+
+/// The greatest room.
+pub const MOST_ROOM: usize = 256;
 
 #[derive(Drop, Clone)]
 struct Filesystem {
@@ -49,12 +55,15 @@ struct Node {
 
 /// The filesystems and their directories, which are only added to.
 ///
-/// There are at most 256 filesystems, 16,384 directories including the roots, and 32 names from a
-/// root down. The directory of a name in another is found by a table of the names in that one.
+/// There are at most 256 filesystems and 16,384 directories including the roots for each unit of its room, which is
+/// 1 to 256, and 32 names from a root down. The directory of a name in another is found by a table of the names in that
+/// one.
 pub struct Skel {
     filesystems: Vec<Filesystem>,
     nodes: Vec<Node>,
     children: Children,
+    /// By what the limits are multiplied that are not of a single path, 1 to 256.
+    room: usize,
     alloc: Global,
 }
 
@@ -64,6 +73,7 @@ impl Drop for Skel {
             filesystems: _filesystems,
             nodes: _nodes,
             children: _children,
+            room: _room,
             alloc: _alloc,
         } = self;
     }
@@ -71,17 +81,17 @@ impl Drop for Skel {
 
 impl Model for Skel {
     ghost use Rattle.mt_skel.specs.Skeleton.{Skeleton};
-    ghost use Rattle.mt_skel.specs.Nodes.{skeleton_of, IsKeptSkeleton};
+    ghost use Rattle.mt_skel.specs.Nodes.{skeleton_with, IsKeptSkeleton};
 
     ghost Value = { Skeleton };
 
-    ghost view = { λ s. skeleton_of s.filesystems.items s.nodes.items };
+    ghost view = { λ s. skeleton_with s.filesystems.items s.nodes.items s.room };
 
     ghost invariant = { λ s. IsKeptSkeleton s.filesystems.items s.nodes.items s.children };
 }
 
 impl Skel {
-    /// No filesystem and no directory.
+    /// No filesystem and no directory, with a room of 1.
     pub fn new(alloc: Global) -> Skel
         ensures { result ≡ empty_skeleton }
     {
@@ -89,6 +99,7 @@ impl Skel {
             filesystems: Vec::new(alloc),
             nodes: Vec::new(alloc),
             children: Children::new(alloc),
+            room: 1,
             alloc,
         }
     }
@@ -103,14 +114,52 @@ impl Skel {
             filesystems: self.filesystems.clone()?,
             nodes: self.nodes.clone()?,
             children: self.children.copy()?,
+            room: self.room,
             alloc: self.alloc,
         })
+    }
+
+    /// By what the limits are multiplied that are not of a single path, 1 to 256: those of filesystems and directories here,
+    /// and those of mounts and namespaces in a world.
+    pub fn room(&self) -> usize
+        ensures room { result ≡ skel_room self.now }
+        ensures most { result ≤ room_limit }
+    {
+        self.room.min(MOST_ROOM)
+    }
+
+    /// Gives it another room. Refused as `TooMany` unless that is 1 to 256 and there is no filesystem yet; then nothing has
+    /// changed. Takes no memory.
+    pub fn give_room(&mut self, room: usize) -> Result<(), Fault>
+        ensures done { OnOk result (given_room self.old room ≡ Ok self.new) }
+        ensures refused { IfErr result (λ fault. given_room self.old room ≡ Err fault) }
+        ensures unchanged { OnErr result (self.new ≡ self.old) }
+    {
+        if room < 1 || room > MOST_ROOM || !self.filesystems.is_empty() {
+            return Err(Fault::TooMany);
+        }
+        self.room = room;
+        Ok(())
+    }
+
+    /// Whether there is no room for one more filesystem.
+    fn has_most_filesystems(&self) -> bool
+        ensures { result ≡ nat_le (filesystems_at_most self.now) (length self.now.filesystems) }
+    {
+        self.filesystems.len() >= MOST_FILESYSTEMS * self.room()
+    }
+
+    /// Whether there is no room for one more directory.
+    fn has_most_directories(&self) -> bool
+        ensures { result ≡ nat_le (directories_at_most self.now) (length self.now.directories) }
+    {
+        self.nodes.len() >= MOST_DIRECTORIES * self.room()
     }
 
     /// Adds a filesystem with its root directory, and answers its number.
     ///
     /// Refused as `FilesystemExists` if the name is taken, as `TooMany` at the limit of filesystems
-    /// or directories, and as `NoMemory`; then nothing has changed.
+    /// or directories, 256 and 16,384 times the room, and as `NoMemory`; then nothing has changed.
     pub fn add_fs(&mut self, name: Label, kind: Label, source: Label) -> Result<FsId, Fault>
         ensures done { IfOk result (λ fs. (added_fs self.old (record { name = name; kind = kind; source = source }) ≡ Ok self.new) × (fs ≡ length self.new.filesystems)) }
         ensures refused { IfErr result (λ fault. fault ≢ Fault.NoMemory → added_fs self.old (record { name = name; kind = kind; source = source }) ≡ Err fault) }
@@ -119,7 +168,7 @@ impl Skel {
         if self.fs(&name).is_some() {
             return Err(Fault::FilesystemExists);
         }
-        if self.filesystems.len() >= MOST_FILESYSTEMS || self.nodes.len() >= MOST_DIRECTORIES {
+        if self.has_most_filesystems() || self.has_most_directories() {
             return Err(Fault::TooMany);
         }
         self.nodes.reserve(1)?;
@@ -140,8 +189,8 @@ impl Skel {
     /// Adds the directory of this path in the filesystem of this name, and answers its number.
     ///
     /// Refused as `NoFilesystem`, as `NoEntry` if its parent is not there, as `EntryExists` if it is
-    /// there, as the root always is, as `TooMany` beyond the depth or the number that the server
-    /// allows, and as `NoMemory`; then nothing has changed.
+    /// there, as the root always is, as `TooMany` beyond 32 names or at the limit of directories, 16,384
+    /// times the room, and as `NoMemory`; then nothing has changed.
     pub fn add_dir(&mut self, fs: &Label, path: &[Name]) -> Result<Dir, Fault>
         ensures done { IfOk result (λ dir. (added_dir self.old fs.now path.now ≡ Ok self.new) × (dir ≡ length self.old.directories)) }
         ensures refused { IfErr result (λ fault. fault ≢ Fault.NoMemory → added_dir self.old fs.now path.now ≡ Err fault) }
@@ -159,7 +208,7 @@ impl Skel {
         if self.child(parent, name).is_some() {
             return Err(Fault::EntryExists);
         }
-        if path.len() > MOST_DEPTH || self.nodes.len() >= MOST_DIRECTORIES {
+        if path.len() > MOST_DEPTH || self.has_most_directories() {
             return Err(Fault::TooMany);
         }
         let name = name.copy()?;

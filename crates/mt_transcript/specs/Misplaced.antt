@@ -1,10 +1,11 @@
 -- Which lines of a transcript do not stand where they may.
 -- A word with no source is this project's rule.
-use Rattle.std.specs.Prelude.{ℕ, ◌+◌, Bool, true, false, not, ◌||◌, List, [], ◌∷◌, length, take, drop, Option, Some, None, codes}
+use Rattle.std.specs.Prelude.{ℕ, ◌+◌, Bool, true, false, not, ◌||◌, ◌&&◌, List, [], ◌∷◌, length, take, drop, Option, Some, None, codes}
 use Rattle.std.specs.List.{slice_get, list_any, find, filter_map, range_with_len, last_or}
 use Rattle.std.specs.Option.{is_none, option_map, option_map_or}
 use Rattle.mt_transcript.specs.Lines.{ReadLine}
 use Rattle.mt_transcript.specs.Queue.{queue_of}
+use Rattle.mt_transcript.specs.Room.{room_written}
 use Rattle.mt_transcript.specs.Sent.{bytes_sent, ends_input}
 use Rattle.mt_transcript.specs.declared.lines.LineKind.{LineKind}
 use Rattle.mt_transcript.specs.declared.lines.LineKind.TheVariants.{Nothing, Comment, Arguments, Sent, Answer}
@@ -20,7 +21,7 @@ sentence_of why.Empty = codes "an empty line"
 sentence_of why.Unread = codes "no input line: it is > TEXT, >. TEXT, or >* TEXT with {N WORD}"
 sentence_of why.Behind = codes "an input line behind one without end"
 sentence_of why.Lost = codes "an answer below no input line"
-sentence_of why.Arguments = codes "no arguments of a session: they are --queue N, from 1 to 1024"
+sentence_of why.Arguments = codes "no arguments of a session: they are --queue N, from 1 to 16384, or --room N, from 1 to 256"
 sentence_of why.Place = codes "arguments that are not right above the first input line"
 
 -- what a line is
@@ -45,7 +46,7 @@ said_above lines = record {
 -- what may be wrong with a line, by what it is, below lines that say this, and right above one of this kind: each reason, and
 -- whether it is so
 abbrev pub arguments_wrongs : List ℕ → Above → LineKind → List (Why × Bool)
-arguments_wrongs text a below = (why.Arguments, is_none (queue_of text)) ∷ (why.Place, a.is_sent || not (is_sent below)) ∷ []
+arguments_wrongs text a below = (why.Arguments, is_none (queue_of text) && is_none (room_written text)) ∷ (why.Place, a.is_sent || not (is_sent below)) ∷ []
 
 abbrev pub sent_wrongs : List ℕ → Above → List (Why × Bool)
 sent_wrongs text a = (why.Behind, a.ends) ∷ (why.Unread, is_none (bytes_sent text)) ∷ []

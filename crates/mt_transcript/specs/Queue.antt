@@ -10,7 +10,7 @@ use Rattle.mt_transcript.specs.declared.lines.LineKind.TheVariants.{Arguments}
 
 -- the most posts of a queue
 abbrev pub most_queued : ℕ
-most_queued = 1024
+most_queued = 16384
 
 abbrev pub IsQueue : Option ℕ → Type 0
 IsQueue posts = IfSome posts (λ n. (0 < n) × (n ≤ most_queued))

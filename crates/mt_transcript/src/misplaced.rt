@@ -6,6 +6,7 @@ ghost use Rattle.mt_transcript.specs.Sent.{ends_input};
 
 use crate::lines::{LineKind, TranscriptLine};
 use crate::queue::queue_of;
+use crate::room::room_written;
 use crate::sent::{bytes_sent, ends_input};
 use std::alloc::{AllocError, Global};
 
@@ -59,7 +60,7 @@ impl Why {
             Why::Unread => "no input line: it is > TEXT, >. TEXT, or >* TEXT with {N WORD}",
             Why::Behind => "an input line behind one without end",
             Why::Lost => "an answer below no input line",
-            Why::Arguments => "no arguments of a session: they are --queue N, from 1 to 1024",
+            Why::Arguments => "no arguments of a session: they are --queue N, from 1 to 16384, or --room N, from 1 to 256",
             Why::Place => "arguments that are not right above the first input line",
         }
     }
@@ -116,7 +117,7 @@ impl Above {
     fn arguments_why(self, text: &[u8], below: LineKind) -> Option<Why>
         ensures { result ≡ first_so (arguments_wrongs text.now self below) }
     {
-        if queue_of(text).is_none() {
+        if queue_of(text).is_none() && room_written(text).is_none() {
             return Some(Why::Arguments);
         }
         if_so(Why::Place, self.is_sent || below != LineKind::Sent)

@@ -7,7 +7,7 @@ use crate::lines::{LineKind, TranscriptLine};
 use mt_lines::words::number;
 
 /// The most posts of a queue.
-const MOST_POSTS: u64 = 1_024;
+const MOST_POSTS: u64 = 16_384;
 
 /// The number of posts, if a queue may hold so many.
 fn within(posts: u64) -> Option<u64>
@@ -41,7 +41,7 @@ fn queue_said(line: TranscriptLine<'_>) -> Option<u64>
     }
 }
 
-/// How many posts the queue of a watcher holds, if the lines of a transcript say it: from 1 to 1,024.
+/// How many posts the queue of a watcher holds, if the lines of a transcript say it: from 1 to 16,384.
 pub fn queue_in(lines: &[TranscriptLine<'_>]) -> Option<u64>
     ensures exact { result ≡ queue_in (map line_viewed lines.now) }
     ensures bound { IsQueue result }

@@ -6,6 +6,7 @@ use Rattle.std.proofs.lemmas.List.{length-map}
 use Rattle.mt_mounts.specs.declared.mount.Mount.{Mount}
 use Rattle.mt_peers.specs.Loss.{left}
 use Rattle.mt_propagate.specs.World.{WorldView}
+use Rattle.mt_propagate.specs.Limits.{most_mounts}
 use Rattle.mt_propagate.proofs.SizeLaws.{IsSized, few_pass}
 use Rattle.mt_unmount.specs.Sliding.{slid, once_gone}
 use Rattle.mt_unmount.specs.Unmounting.{unmounted, without_mount, is_removed}
@@ -13,7 +14,7 @@ use Rattle.mt_unmount.specs.Detaching.{is_taken, without_tree, named_place, deta
 use Rattle.mt_unmount.proofs.AcceptedLaws.{path_end, unmount_accepted, detach_accepted}
 
 -- mounts that go add nothing
-once_sized : (w : WorldView) (goes : ℕ → Bool) → length w.forest ≤ 4096 → IsSized w (once_gone w goes) 0
+once_sized : (w : WorldView) (goes : ℕ → Bool) → length w.forest ≤ most_mounts → IsSized w (once_gone w goes) 0
 unfolding left
 once_sized w goes few =
     let stays : Mount → Bool = λ m. not (goes m.id) in
@@ -26,10 +27,10 @@ once_sized w goes few =
     }
 
 -- so neither an unmount nor a detach adds anything
-pub gone_sized : (w v : WorldView) (n : ℕ) (path : List (List ℕ)) → length w.forest ≤ 4096 → unmounted w n path ≡ Ok v → IsSized w v 0
+pub gone_sized : (w v : WorldView) (n : ℕ) (path : List (List ℕ)) → length w.forest ≤ most_mounts → unmounted w n path ≡ Ok v → IsSized w v 0
 unfolding without_mount
 gone_sized w v n path few e = subst (λ (x : WorldView). IsSized w x 0) (unmount_accepted w n path v e).world (once_sized w (is_removed w (path_end w n path).mount) few)
 
-pub detached_sized : (w v : WorldView) (n : ℕ) (path : List (List ℕ)) → length w.forest ≤ 4096 → detached w n path ≡ Ok v → IsSized w v 0
+pub detached_sized : (w v : WorldView) (n : ℕ) (path : List (List ℕ)) → length w.forest ≤ most_mounts → detached w n path ≡ Ok v → IsSized w v 0
 unfolding without_tree
 detached_sized w v n path few e = subst (λ (x : WorldView). IsSized w x 0) (detach_accepted w n path v e).world (once_sized w (is_taken w (named_place w n path).mount) few)

@@ -138,15 +138,15 @@ fn missed_of(alloc: Global, gathered: &Gathered, made: &Made) -> Result<Vec<Miss
 /// In a foreign namespace all places and attributes are locked, if the first table has a row of each of its mounts, by mount
 /// point, root and device, and none of them is in a peer group (mount_namespaces(7), restrictions on mount namespaces; that
 /// such mounts came with a copy of the first namespace is this project's rule). The other foreign ones are answered as
-/// `lockless`. Refused as `NoMemory` alone.
-pub fn begin(alloc: Global, tables: &[NamedTable]) -> Result<Begun, Fault>
+/// `lockless`. The world has this room, 1 to 256. Refused as `NoMemory` alone.
+pub fn begin(alloc: Global, tables: &[NamedTable], room: usize) -> Result<Begun, Fault>
     ensures begun { IfOk result (λ begun. IsWorldOfTables (rows_gathered 1 tables.now) (foreign_from 1 tables.now) begun.scene.trial) }
     ensures names { IfOk result (λ begun. begun.names.items ≡ called_from 1 tables.now) }
     ensures lockless { IfOk result (λ begun. begun.lockless.items ≡ filter (λ n. not (all_may_be_locked (rows_gathered 1 tables.now) n)) (foreign_from 1 tables.now)) }
     ensures memory { IsOkUnless result Fault.NoMemory }
 {
     let gathered = gather(alloc, tables)?;
-    let mut made = world_of(alloc, &gathered.rows)?;
+    let mut made = world_of(alloc, &gathered.rows, room)?;
     let missed = missed_of(alloc, &gathered, &made)?;
     let names = names_of(alloc, tables)?;
     let foreign = foreign_of(alloc, tables)?;

@@ -4,11 +4,12 @@ use Rattle.std.specs.Option.{is_none, is_some, unwrap_or}
 use Rattle.std.specs.List.{position_from}
 use Rattle.std.specs.Str.{bytes_eq}
 use Rattle.std.proofs.lemmas.Bool.{cases_lt, true≢false}
+use Rattle.std.proofs.lemmas.Bool.Decides.{nat_tests}
 use Rattle.std.proofs.lemmas.Slice.Eq.{bytes_eq-Decides}
 use Rattle.mt_skel.specs.declared.fault.Fault.{Fault}
 use Rattle.mt_skel.specs.declared.fault.Fault.TheVariants.{TooMany, NoFilesystem, FilesystemExists, NoEntry, EntryExists}
 use Rattle.mt_skel.specs.Outcome.{refuse_if}
-use Rattle.mt_skel.specs.Skeleton.{Skeleton, Directory, Filesystem, IsSkeleton, added_fs, added_dir, root_of, child, with_fs, with_dir, fs_named, is_filesystem, directory_number, filesystem_limit, directory_limit, depth_limit}
+use Rattle.mt_skel.specs.Skeleton.{Skeleton, Directory, Filesystem, IsSkeleton, added_fs, added_dir, root_of, child, with_fs, with_dir, fs_named, is_filesystem, directory_number, filesystems_at_most, directories_at_most, depth_limit}
 use Rattle.mt_skel.proofs.AddedLaws.{IsPlaced, dir_added, fs_added}
 use Rattle.mt_skel.proofs.ListLaws.{last_place}
 use Rattle.mt_skel.proofs.OutcomeLaws.{not_refused, accepted}
@@ -38,12 +39,13 @@ grows_on s t u g h = record {
 }
 
 pub more_same : (s : Skeleton) → HasMore s s
-more_same s = record { more = []; filesystems = refl; directories = sym (append-nil s.directories) }
+more_same s = record { more = []; filesystems = refl; room = refl; directories = sym (append-nil s.directories) }
 
 pub more_on : (s t u : Skeleton) → HasMore s t → HasMore t u → HasMore s u
 more_on s t u g h = record {
   more = g.more ++ h.more;
   filesystems = h.filesystems ∙ g.filesystems;
+  room = h.room ∙ g.room;
   directories = h.directories ∙ ap (λ l. l ++ h.more) g.directories ∙ append_assoc s.directories g.more h.more;
 }
 
@@ -51,14 +53,14 @@ more_on s t u g h = record {
 abbrev fs_refusals : Skeleton → Filesystem → List (Option Fault)
 fs_refusals s f =
     refuse_if (is_some (fs_named s f.name)) FilesystemExists
-    ∷ refuse_if (nat_le filesystem_limit (length s.filesystems)) TooMany
-    ∷ refuse_if (nat_le directory_limit (length s.directories)) TooMany ∷ []
+    ∷ refuse_if (nat_le (filesystems_at_most s) (length s.filesystems)) TooMany
+    ∷ refuse_if (nat_le (directories_at_most s) (length s.directories)) TooMany ∷ []
 
-pub fs_made : (s t : Skeleton) (f : Filesystem) → IsSkeleton s → added_fs s f ≡ Ok t → IsSkeleton t × Grows s t
+pub fs_made : (s t : Skeleton) (f : Filesystem) → IsSkeleton s → added_fs s f ≡ Ok t → IsSkeleton t × Grows s t × (t.room ≡ s.room)
 fs_made s t f is e =
     let a = accepted (fs_refusals s f) _ t e in
     let free = none_of _ (not_refused _ _ a.1.0) in
-    (subst IsSkeleton a.0 (skeleton_with_fs s is f free), fs_grows s t f (sym a.0))
+    (subst IsSkeleton a.0 (skeleton_with_fs s is f free), fs_grows s t f (sym a.0), ap (λ (u : Skeleton). u.room) (sym a.0))
 
 -- the root directory of a filesystem
 pub root_at : (s : Skeleton) (f : ℕ) → IsSkeleton s → is_filesystem s f ≡ true → slice_get s.directories (root_of s f) ≡ Some (record { fs = f; path = [] })
@@ -102,7 +104,7 @@ module _ (s : Skeleton) (device : List ℕ) (f : ℕ) (front path : List (List �
   made : child s parent name ≡ None → IsMade (with_dir s new)
   made e = record {
     skeleton = subst (λ (p : List (List ℕ)). IsSkeleton (with_dir s (record { fs = f; path = p }))) (sym split) (skeleton_with_dir s b.skeleton parent (record { fs = f; path = front }) name b.there (no_child e));
-    grown = record { more = new ∷ []; filesystems = refl; directories = refl };
+    grown = record { more = new ∷ []; filesystems = refl; room = refl; directories = refl };
     there = last_place s.directories new;
   }
 
@@ -112,7 +114,7 @@ module _ (s : Skeleton) (device : List ℕ) (f : ℕ) (front path : List (List �
       ∷ refuse_if (is_none (directory_number s (record { fs = unwrap_or (fs_named s device) 0; path = take (length path - 1) path }))) NoEntry
       ∷ refuse_if (is_some (directory_number s (record { fs = unwrap_or (fs_named s device) 0; path = path }))) EntryExists
       ∷ refuse_if (nat_lt depth_limit (length path)) TooMany
-      ∷ refuse_if (nat_le directory_limit (length s.directories)) TooMany ∷ []
+      ∷ refuse_if (nat_le (directories_at_most s) (length s.directories)) TooMany ∷ []
 
   pub dir_made : (t : Skeleton) → child s parent name ≡ None → added_dir s device path ≡ Ok t → IsMade t
   dir_made t none e =
@@ -127,9 +129,9 @@ module _ (s : Skeleton) (device : List ℕ) (f : ℕ) (front path : List (List �
   pub dir_refused : (fault : Fault) → child s parent name ≡ None → added_dir s device path ≡ Err fault → IsFull s path
   dir_refused fault none e = elim (cases_lt depth_limit (length path)) [
     | inl deep ↦ inl deep
-    | inr short ↦ elim (cases_lt (length s.directories) directory_limit) [
+    | inr short ↦ elim (cases_lt (length s.directories) (directories_at_most s)) [
       | inl few ↦
-          let added = dir_added placed (ap is_some none) short few in
+          let added = dir_added placed (ap is_some none) short (grind (arith, nat_tests)) in
           let v : Err fault ≡ Ok _ = sym e ∙ added in
           absurd (cc)
       | inr many ↦ inr many
@@ -168,15 +170,15 @@ named_more (x ∷ xs) ys name k i e = go (bytes_eq x.name name) e (named_more xs
     go false e ih = ih e
 
 -- a device that has its filesystem has it where others are made, and where directories are
-pub filed_more : (s t : Skeleton) (device : List ℕ) → Grows s t → IsNamed s device → IsNamed t device
-filed_more s t device g (inl f) = inl (f.0, ap (λ fs. fs_named (record t { filesystems = fs }) device) g.filesystems ∙ named_more s.filesystems g.new_filesystems device 1 f.0 f.1)
-filed_more s t device g (inr (inl many)) = inr (inl (omega (arith, many, ap length g.filesystems, length-append s.filesystems g.new_filesystems)))
-filed_more s t device g (inr (inr many)) = inr (inr (omega (arith, many, ap length g.directories, length-append s.directories g.new_directories)))
+pub filed_more : (s t : Skeleton) (device : List ℕ) → Grows s t → t.room ≡ s.room → IsNamed s device → IsNamed t device
+filed_more s t device g room (inl f) = inl (f.0, ap (λ fs. fs_named (record t { filesystems = fs }) device) g.filesystems ∙ named_more s.filesystems g.new_filesystems device 1 f.0 f.1)
+filed_more s t device g room (inr (inl many)) = inr (inl (omega (arith, many, room, ap length g.filesystems, length-append s.filesystems g.new_filesystems)))
+filed_more s t device g room (inr (inr many)) = inr (inr (omega (arith, many, room, ap length g.directories, length-append s.directories g.new_directories)))
 
 pub still_filed : (s t : Skeleton) (device : List ℕ) → HasMore s t → IsNamed s device → IsNamed t device
 still_filed s t device g (inl f) = inl (f.0, still_named s t device f.0 g f.1)
-still_filed s t device g (inr (inl many)) = inr (inl (omega (arith, many, ap length g.filesystems)))
-still_filed s t device g (inr (inr many)) = inr (inr (omega (arith, many, ap length g.directories, length-append s.directories g.more)))
+still_filed s t device g (inr (inl many)) = inr (inl (omega (arith, many, g.room, ap length g.filesystems)))
+still_filed s t device g (inr (inr many)) = inr (inr (omega (arith, many, g.room, ap length g.directories, length-append s.directories g.more)))
 
 -- one that was added is found by its name
 pub fs_filed : (s t : Skeleton) (f : Filesystem) → added_fs s f ≡ Ok t → IsNamed t f.name
@@ -192,10 +194,10 @@ fs_filed s t f e =
 
 -- and where one was refused whose name is free, there is no room for it
 pub fs_refused : (s : Skeleton) (f : Filesystem) (fault : Fault) → is_some (fs_named s f.name) ≡ false → added_fs s f ≡ Err fault → IsNamed s f.name
-fs_refused s f fault free e = elim (cases_lt (length s.filesystems) filesystem_limit) [
-  | inl few ↦ elim (cases_lt (length s.directories) directory_limit) [
+fs_refused s f fault free e = elim (cases_lt (length s.filesystems) (filesystems_at_most s)) [
+  | inl few ↦ elim (cases_lt (length s.directories) (directories_at_most s)) [
     | inl room ↦
-        let added = fs_added s f (none_of _ free) few room in
+        let added = fs_added s f (none_of _ free) (grind (arith, nat_tests)) (grind (arith, nat_tests)) in
         let v : Err fault ≡ Ok (with_fs s f) = sym e ∙ added in
         absurd (cc)
     | inr many ↦ inr (inr many)

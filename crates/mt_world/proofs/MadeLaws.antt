@@ -23,7 +23,7 @@ use Rattle.mt_world.proofs.ToldLaws.{still_told}
 -- a world in which only states changed has grown
 same_grown : (w v : WorldView) → IsSameButStates w v → IsGrown w v
 same_grown w v e = record {
-  skel = record { more = []; filesystems = ap (λ u. u.skel.filesystems) e; directories = ap (λ u. u.skel.directories) e ∙ sym (append-nil w.skel.directories) };
+  skel = record { more = []; filesystems = ap (λ u. u.skel.filesystems) e; room = ap (λ u. u.skel.room) e; directories = ap (λ u. u.skel.directories) e ∙ sym (append-nil w.skel.directories) };
   mounts = λ i m f. ap (λ u. mount_at u.forest i) e ∙ f;
   count = omega (arith, ap (λ u. length u.forest) e);
   spaces = omega (arith, ap (λ u. length (roots u.forest)) e);
@@ -79,10 +79,10 @@ module _ (w v : WorldView) (rows : List TableRow) (left : List (Option Misfit)) 
 module _ (w : WorldView) (rows : List TableRow) (left lone : List (Option Misfit)) (a : IsMade w rows left lone) (p : IsPlain rows) (room : HasRoom w) where
   room_before : HasRoom a.before
   room_before = record {
-    filesystems = omega (arith, room.filesystems, ap length a.since.skel.filesystems);
-    directories = omega (arith, room.directories, ap length a.since.skel.directories, length-append a.before.skel.directories a.since.skel.more);
-    mounts = omega (arith, room.mounts, a.since.count);
-    spaces = omega (arith, room.spaces, a.since.spaces);
+    filesystems = omega (arith, room.filesystems, a.since.skel.room, ap length a.since.skel.filesystems);
+    directories = omega (arith, room.directories, a.since.skel.room, ap length a.since.skel.directories, length-append a.before.skel.directories a.since.skel.more);
+    mounts = omega (arith, room.mounts, a.since.skel.room, a.since.count);
+    spaces = omega (arith, room.spaces, a.since.skel.room, a.since.spaces);
   }
 
   state_told : (k : ℕ) (r : TableRow) → slice_get rows k ≡ Some r → keeps_row left k → state_of w r.id ≡ r.state

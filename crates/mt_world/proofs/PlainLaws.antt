@@ -7,7 +7,7 @@ use Rattle.std.proofs.lemmas.Bool.Decides.{nat_tests}
 use Rattle.std.specs.Str.{bytes_eq}
 use Rattle.std.proofs.lemmas.Option.{same_Some, slice_get_within, slice_get-get_or}
 use Rattle.std.proofs.lemmas.Slice.Eq.{bytes_eq-Decides}
-use Rattle.mt_skel.specs.Skeleton.{Skeleton, Directory, Filesystem, IsSkeleton, directory, filesystem, holds, fs_named, directory_limit, depth_limit}
+use Rattle.mt_skel.specs.Skeleton.{Skeleton, Directory, Filesystem, IsSkeleton, directory, filesystem, holds, fs_named, directories_at_most, depth_limit}
 use Rattle.mt_skel.proofs.SkeletonLaws.{holds-Decides, at_directory, directory_at, place_found}
 use Rattle.mt_mounts.specs.declared.mount.Mount.{Mount}
 use Rattle.mt_mounts.specs.declared.mount.Place.{Place}
@@ -15,7 +15,7 @@ use Rattle.mt_mounts.specs.Forest.{mount_at, on as on_place, is_at, is_root as i
 use Rattle.mt_mounts.proofs.SlotLaws.{mapped}
 use Rattle.mt_mounts.proofs.ForestLaws.{find_row, find_passes}
 use Rattle.mt_propagate.specs.World.{WorldView}
-use Rattle.mt_propagate.specs.Limits.{too_many_mounts, too_many_spaces, mount_limit, space_limit}
+use Rattle.mt_propagate.specs.Limits.{too_many_mounts, too_many_spaces, mounts_at_most, spaces_at_most}
 use Rattle.mt_propagate.proofs.WalkLaws.{stands_at, root_here}
 use Rattle.mt_world.specs.declared.misfit.Misfit.{Misfit}
 use Rattle.mt_world.specs.declared.misfit.Misfit.TheVariants.{SameId, SamePlace, SecondRoot, NoRoom}
@@ -74,8 +74,8 @@ module _ (w : WorldView) (rows : List TableRow) (left : List (Option Misfit)) (g
       abbrev b : WorldView
       b = a.before
 
-      few_directories : directory_limit ≤ length b.skel.directories → ⊥
-      few_directories l = let more = ap length a.grown.skel.directories ∙ length-append b.skel.directories a.grown.skel.more in absurd (omega (arith, l, more, room.directories))
+      few_directories : directories_at_most b.skel ≤ length b.skel.directories → ⊥
+      few_directories l = let more = ap length a.grown.skel.directories ∙ length-append b.skel.directories a.grown.skel.more in absurd (omega (arith, l, more, a.grown.skel.room, room.directories))
 
       -- a row has a filesystem
       has_fs : (i : ℕ) (x : TableRow) → slice_get rows i ≡ Some x → fs_named b.skel x.device ≡ None → ⊥
@@ -145,7 +145,7 @@ module _ (w : WorldView) (rows : List TableRow) (left : List (Option Misfit)) (g
           where
             go : (q : Option Mount) → root_mount b.forest m.space ≡ q → (many : Bool) → too_many_spaces b ≡ many → (if is_some q then Some SecondRoot else (if many then Some NoRoom else None)) ≡ Some why → ⊥
             go (Some x) f many t e = second x s o f
-            go None f true t e = let many : space_limit ≤ length (roots b.forest) = grind (arith, nat_tests) in absurd (omega (arith, many, a.grown.spaces, room.spaces))
+            go None f true t e = let many : spaces_at_most b ≤ length (roots b.forest) = grind (arith, nat_tests) in absurd (omega (arith, many, a.grown.skel.room, a.grown.spaces, room.spaces))
             go None f false t e = absurd (let v : None ≡ Some why = e in cc)
 
         module _ (on : TableRow) (s : StandsRightly b rows r (Some on)) (o : IsMountOf b.skel r (Some on) m) where
@@ -192,7 +192,7 @@ module _ (w : WorldView) (rows : List TableRow) (left : List (Option Misfit)) (g
             go : (q : Option Mount) → mount_at b.forest m.id ≡ q → (many : Bool) → too_many_mounts b 1 ≡ many
                 → (if is_some q then Some SameId else (if many then Some NoRoom else option_map_or (why_unplaced b m.space) m.place (why_second_root b m.space))) ≡ Some why → ⊥
             go (Some x) f many t e = no_other x (ap (mount_at w.forest) (sym o.id) ∙ a.grown.mounts m.id x f)
-            go None f true t e = let many : mount_limit < length b.forest + 1 = grind (arith, nat_tests) in absurd (omega (arith, many, a.grown.count, room.mounts))
+            go None f true t e = let many : mounts_at_most b < length b.forest + 1 = grind (arith, nat_tests) in absurd (omega (arith, many, a.grown.skel.room, a.grown.count, room.mounts))
             go None f false t e = standing above s o e
 
       no_reason : (above : Option TableRow) → StandsRightly b rows r above → IsWhyNotPut b r above why → ⊥

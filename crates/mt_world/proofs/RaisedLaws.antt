@@ -1,12 +1,17 @@
 -- A well-formed world stays so where numbers are left out.
-use Rattle.std.proofs.Common.{◌≡◌, ℕ, ◌≤◌, [], ◌∷◌, ◌++◌, refl, sym, ap, subst, ◌∙◌, inl, arith}
+use Rattle.std.proofs.Common.{◌≡◌, ℕ, ◌≤◌, nat_lt, [], ◌∷◌, ◌++◌, length, Ok, refl, sym, ap, subst, ◌∙◌, inl, arith}
 use Rattle.std.specs.Prelude.{◌^◌}
 use Rattle.std.proofs.lemmas.Option.{slice_get_within}
-use Rattle.mt_skel.specs.Skeleton.{Skeleton, IsSkeleton, empty_skeleton}
+use Rattle.mt_skel.specs.Skeleton.{Skeleton, IsSkeleton, empty_skeleton, room_limit, given_room}
 use Rattle.mt_propagate.specs.World.{WorldView, empty_world}
 use Rattle.mt_propagate.specs.WellFormed.{IsWellFormed}
 use Rattle.mt_propagate.proofs.GrownLaws.{grown-kept}
 use Rattle.mt_info.specs.Laws.{Grows}
+use Rattle.mt_info.proofs.GrownTables.{room_grows}
+use Rattle.mt_skel.specs.Outcome.{refuse_if}
+use Rattle.mt_skel.specs.declared.fault.Fault.TheVariants.{TooMany}
+use Rattle.mt_skel.proofs.OutcomeLaws.{accepted}
+use Rattle.mt_skel.proofs.SkeletonLaws.{roomed}
 use Rattle.mt_world.specs.Hidden.{HasMoreHidden}
 use Rattle.mt_world.specs.Made.{HasNoMounts}
 use Rattle.mt_world.proofs.DirectoryLaws.{more_same}
@@ -69,6 +74,12 @@ bare_grown w t b is g = record {
   next_space = b.next_space;
   next_group = b.next_group;
 }
+
+-- and with another room
+pub bare_roomed : (w : WorldView) (t : Skeleton) (k : ℕ) → HasNoMounts w → given_room w.skel k ≡ Ok t → HasNoMounts (record w { skel = t })
+bare_roomed w t k b e =
+    let a = accepted (refuse_if (nat_lt k 1) TooMany ∷ refuse_if (nat_lt room_limit k) TooMany ∷ refuse_if (nat_lt 0 (length w.skel.filesystems)) TooMany ∷ []) (record w.skel { room = k }) t e in
+    bare_grown w t b (subst IsSkeleton a.0 (roomed w.skel k b.sound.skel)) (room_grows w.skel t k (sym a.0))
 
 -- numbers that were left out change nothing else
 pub raised_beside : (n : ℕ) (w : WorldView) (group mount space : ℕ) → w.next_space ≤ space → HasMoreHidden n w (raised w group mount space)

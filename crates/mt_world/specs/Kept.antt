@@ -1,7 +1,7 @@
 -- Which rows have their mounts in a world, and why the others have none.
 -- A word with no source is this project's rule.
 use Rattle.std.specs.Prelude.{◌≡◌, ◌≢◌, ◌⊎◌, ℕ, ◌<◌, ◌≤◌, ◌^◌, true, false, IsTrue, List, length, slice_get, Option, Some, None}
-use Rattle.mt_skel.specs.Skeleton.{Skeleton, fs_named, filesystem_limit, directory_limit}
+use Rattle.mt_skel.specs.Skeleton.{Skeleton, fs_named, filesystems_at_most, directories_at_most}
 use Rattle.mt_mounts.specs.declared.mount.Mount.{Mount}
 use Rattle.mt_mounts.specs.Forest.{mount_at}
 use Rattle.mt_propagate.specs.World.{WorldView, private, state_of}
@@ -19,7 +19,7 @@ HaveNumbers w rows = (k : ℕ) (r : TableRow) → slice_get rows k ≡ Some r �
 
 -- a device has its filesystem, or there is no room for it
 abbrev pub IsNamed : Skeleton → List ℕ → Type 0
-IsNamed s device = ((f : ℕ) × (fs_named s device ≡ Some f)) ⊎ ((filesystem_limit ≤ length s.filesystems) ⊎ (directory_limit ≤ length s.directories))
+IsNamed s device = ((f : ℕ) × (fs_named s device ≡ Some f)) ⊎ ((filesystems_at_most s ≤ length s.filesystems) ⊎ (directories_at_most s ≤ length s.directories))
 
 abbrev pub HaveFilesystems : Skeleton → List TableRow → Type 0
 HaveFilesystems s rows = (k : ℕ) (r : TableRow) → slice_get rows k ≡ Some r → IsNamed s r.device

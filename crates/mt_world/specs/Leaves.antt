@@ -27,10 +27,11 @@ with_leaf w m = record w {
   peering = record w.peering { peers = put mount_of (record { mount = m.id; state = private }) w.peering.peers };
 }
 
--- the second skeleton has the same filesystems as the first one, and what directories it has more come behind those
+-- the second skeleton has the same filesystems and the same room as the first one, and what directories it has more come behind those
 pub record HasMore (s t : Skeleton) : Type 0 where
   pub more : List Directory
   pub filesystems : t.filesystems ≡ s.filesystems
+  pub room : t.room ≡ s.room
   pub directories : t.directories ≡ s.directories ++ more
 
 -- the second world has what the first one has: its mounts and directories as they are, and the same filesystems

@@ -2,7 +2,7 @@
 -- A word with no source is this project's rule.
 use Rattle.std.specs.Prelude.{◌≡◌, ◌⊎◌, ℕ, false, ◌<◌, ◌≤◌, IsTrue, if◌then◌else◌, List, ◌++◌, length, take, drop, slice_get, Option, Some, None}
 use Rattle.std.specs.Option.{option_map}
-use Rattle.mt_skel.specs.Skeleton.{Skeleton, path_eq, fs_named, directory_limit, depth_limit}
+use Rattle.mt_skel.specs.Skeleton.{Skeleton, path_eq, fs_named, directories_at_most, depth_limit}
 use Rattle.mt_mounts.specs.declared.mount.Mount.{Mount}
 use Rattle.mt_mounts.specs.declared.mount.Place.{Place}
 use Rattle.mt_propagate.specs.World.{WorldView}
@@ -30,11 +30,11 @@ pub record IsOn (s : Skeleton) (device : List ℕ) (path : List (List ℕ)) (dir
 
 -- no directory of this path can be made: it is too deep, or there are as many as there can be, or as many filesystems
 abbrev pub IsFull : Skeleton → List (List ℕ) → Type 0
-IsFull s path = (depth_limit < length path) ⊎ (directory_limit ≤ length s.directories)
+IsFull s path = (depth_limit < length path) ⊎ (directories_at_most s ≤ length s.directories)
 
 abbrev pub IsWhyNone : Skeleton → List ℕ → List (List ℕ) → Misfit → Type 0
 IsWhyNone s device path why =
-    ((why ≡ NoRoom) × ((fs_named s device ≡ None) ⊎ (directory_limit ≤ length s.directories))) ⊎ ((why ≡ TooDeep) × (depth_limit < length path))
+    ((why ≡ NoRoom) × ((fs_named s device ≡ None) ⊎ (directories_at_most s ≤ length s.directories))) ⊎ ((why ≡ TooDeep) × (depth_limit < length path))
 
 -- a place is on the mount of a row, at the directory where that of another one stands; and why there is none
 pub record IsPlaceOn (s : Skeleton) (row above : TableRow) (place : Place) : Type 0 where

@@ -1,10 +1,10 @@
 -- Tables of which every row is kept.
 -- A word with no source is this project's rule.
 use Rattle.std.specs.Prelude.{◌≡◌, ℕ, ◌<◌, ◌≤◌, true, false, IsTrue, List, length, slice_get, Some}
-use Rattle.mt_skel.specs.Skeleton.{filesystem_limit, directory_limit, depth_limit}
+use Rattle.mt_skel.specs.Skeleton.{filesystems_at_most, directories_at_most, depth_limit}
 use Rattle.mt_mounts.specs.Forest.{roots}
 use Rattle.mt_propagate.specs.World.{WorldView, private}
-use Rattle.mt_propagate.specs.Limits.{mount_limit, space_limit}
+use Rattle.mt_propagate.specs.Limits.{mounts_at_most, spaces_at_most}
 use Rattle.mt_world.specs.declared.row.TableRow.{TableRow}
 use Rattle.mt_world.specs.Places.{place_path}
 use Rattle.mt_world.specs.Rows.{is_numbered, is_root_of_table}
@@ -38,7 +38,7 @@ pub record IsPlain (rows : List TableRow) : Type 0 where
 
 -- a world has room for one more filesystem, directory, mount and namespace
 pub record HasRoom (w : WorldView) : Type 0 where
-  pub filesystems : length w.skel.filesystems < filesystem_limit
-  pub directories : length w.skel.directories < directory_limit
-  pub mounts : length w.forest < mount_limit
-  pub spaces : length (roots w.forest) < space_limit
+  pub filesystems : length w.skel.filesystems < filesystems_at_most w.skel
+  pub directories : length w.skel.directories < directories_at_most w.skel
+  pub mounts : length w.forest < mounts_at_most w
+  pub spaces : length (roots w.forest) < spaces_at_most w

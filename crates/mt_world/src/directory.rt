@@ -28,6 +28,7 @@ pub(crate) fn add_filesystem(skel: &mut Skel, row: &TableRow) -> Result<(), Faul
     requires skeleton { IsSkeleton skel.old }
     ensures skeleton { IsSkeleton skel.new }
     ensures grown { Grows skel.old skel.new }
+    ensures room { skel.new.room ≡ skel.old.room }
     ensures named { OnOk result (IsNamed skel.new row.now.device) }
     ensures memory { IsOkUnless result Fault.NoMemory }
 {
@@ -45,6 +46,7 @@ pub(crate) fn add_filesystems(skel: &mut Skel, rows: &[TableRow]) -> Result<(), 
     requires skeleton { IsSkeleton skel.old }
     ensures skeleton { IsSkeleton skel.new }
     ensures grown { Grows skel.old skel.new }
+    ensures room { skel.new.room ≡ skel.old.room }
     ensures named { OnOk result (HaveFilesystems skel.new rows.now) }
     ensures memory { IsOkUnless result Fault.NoMemory }
 {

@@ -85,20 +85,32 @@ fn pass_rows(world: &mut World, rows: &[TableRow])
     }
 }
 
+/// Gives a world without filesystems another room, if there is such a room.
+#[tactic(auto, using(crate::proofs::RaisedLaws::bare_roomed))]
+fn give_room(world: &mut World, room: usize)
+    requires bare { HasNoMounts (world_view world.old) }
+    ensures bare { HasNoMounts (world_view world.new) }
+{
+    if world.skel.give_room(room).is_err() {
+        return;
+    }
+}
+
 /// The world of tables: each row that fits has its mount there, with its own ID, in the namespace of the number of its table.
 ///
 /// Rows are of mounts that stand on those of other rows, and of root mounts, which stand at `/` and on no mount of their table. What does
 /// not fit is left out, and told with its reason. Peer groups and masters have their own numbers; a mount of which the state does
 /// not fit is private, and told. A master that no row is in gets a mount in one more namespace, behind those of all tables.
 ///
-/// Refused as `NoMemory` alone.
-pub fn world_of(alloc: Global, rows: &[TableRow]) -> Result<Made, Fault>
+/// The world has this room, or one of 1 where there is no such room. Refused as `NoMemory` alone.
+pub fn world_of(alloc: Global, rows: &[TableRow], room: usize) -> Result<Made, Fault>
     ensures well_formed { IfOk result (λ made. IsWellFormed (world_view made.world)) }
     ensures made { IfOk result (λ made. IsMade (world_view made.world) rows.now made.left.items made.private.items) }
     ensures plain { IfOk result (λ made. KeepsPlain (world_view made.world) rows.now made.left.items) }
     ensures memory { IsOkUnless result Fault.NoMemory }
 {
     let mut world = World::new(alloc);
+    give_room(&mut world, room);
     let (left, private) = fill(alloc, &mut world, rows)?;
     Ok(Made {
         world,

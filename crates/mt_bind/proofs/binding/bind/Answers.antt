@@ -1,9 +1,8 @@
 use Rattle.std.proofs.Common.{◌≡◌, ℕ, ◌+◌, ◌≤◌, true, length, refl, sym, ◌∙◌, arith, Ok}
-use Rattle.std.specs.Prelude.{nat_lt}
 use Rattle.std.proofs.lemmas.Bool.Decides.{nat_tests}
 use Rattle.std.proofs.lemmas.Result.{err_from_is_err_and}
-use Rattle.mt_propagate.specs.World.{world_view}
-use Rattle.mt_propagate.specs.Limits.{mount_limit}
+use Rattle.mt_propagate.specs.World.{WorldView, world_view}
+use Rattle.mt_propagate.specs.Limits.{mounts_at_most, too_many_mounts}
 use Rattle.mt_propagate.specs.Sound.{IsSource}
 use Rattle.mt_bind.specs.Sources.{source_at}
 use Rattle.mt_bind.specs.Mounting.{copied_with_id, bound}
@@ -14,8 +13,8 @@ use Rattle.mt_bind.proofs.binding.bind.Goals.{After-too_many_mounts}
 use Rattle.mt_bind.proofs.binding.bind.Goals as goal
 
 -- where one more is too many, there are as many as there can be
-most : (n : ℕ) → nat_lt mount_limit (n + 1) ≡ true → mount_limit ≤ n
-most n e = grind (arith, nat_tests)
+most : (w : WorldView) → too_many_mounts w 1 ≡ true → mounts_at_most w ≤ length w.forest
+most w e = grind (arith, nat_tests)
 
 -- it is left to see whether the copies are too many
 late : (c : After-too_many_mounts) → (let w = world_view c.args.world.now in let src = source_at w c.args.recursive c.in_ok-source.source in
@@ -32,7 +31,7 @@ pub returns-then-too_many_mounts-clause-refused : goal.returns-then-too_many_mou
 returns-then-too_many_mounts-clause-refused c _ =
     let w = world_view c.args.world.now in
     let a = (goal.at.returns-then-too_many_mounts-clause-refused c).After-too_many_mounts in
-    planned_refused (late a) _ refl _ (refl, full w _ _ (stays w c.in_ok-source.source c.args.recursive) (tree a) (most (length w.forest) (sym c.too_many_mounts.ensures ∙ c.if-too_many_mounts.true)))
+    planned_refused (late a) _ refl _ (refl, full w _ _ (stays w c.in_ok-source.source c.args.recursive) (tree a) (most w (sym c.too_many_mounts.ensures ∙ c.if-too_many_mounts.true)))
 
 pub returns-in_err-plan-clause-refused : goal.returns-in_err-plan-clause-refused
 returns-in_err-plan-clause-refused c =

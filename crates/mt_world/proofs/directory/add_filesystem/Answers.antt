@@ -2,7 +2,7 @@ use Rattle.std.proofs.Common.{◌≡◌, ◌∙◌, ℕ, List, Option, Some, Non
 use Rattle.std.specs.Option.{is_some}
 use Rattle.std.proofs.lemmas.Bool.{true≢false}
 use Rattle.std.proofs.lemmas.Result.{on_ok_weaker}
-use Rattle.mt_skel.specs.Skeleton.{IsSkeleton, fs_named}
+use Rattle.mt_skel.specs.Skeleton.{Skeleton, IsSkeleton, fs_named}
 use Rattle.mt_info.specs.Laws.{Grows}
 use Rattle.mt_world.proofs.DirectoryLaws.{grows_same, fs_made, fs_filed, fs_refused}
 use Rattle.mt_world.specs.Kept.{IsNamed}
@@ -25,6 +25,12 @@ returns-in-Ok-clause-skeleton c = (fs_made c.args.skel.now c.add_fs.new.self _ c
 
 pub returns-in-Ok-clause-grown : goal.returns-in-Ok-clause-grown
 returns-in-Ok-clause-grown c = (fs_made c.args.skel.now c.add_fs.new.self _ c.requires.skeleton c.in-Ok.ensures.done.0).1
+
+pub returns-in-Ok-clause-room : goal.returns-in-Ok-clause-room
+returns-in-Ok-clause-room c = (fs_made c.args.skel.now c.add_fs.new.self _ c.requires.skeleton c.in-Ok.ensures.done.0).2
+
+pub returns-in-Err-clause-room : goal.returns-in-Err-clause-room
+returns-in-Err-clause-room c = ap (λ (s : Skeleton). s.room) c.in-Err.ensures.unchanged
 
 pub returns-in-Err-clause-skeleton : goal.returns-in-Err-clause-skeleton
 returns-in-Err-clause-skeleton c = subst IsSkeleton (sym c.in-Err.ensures.unchanged) c.requires.skeleton

@@ -3,10 +3,10 @@ use Rattle.std.specs.Option.{is_some}
 use Rattle.std.proofs.lemmas.Result.{IfOk-weaker}
 use Rattle.mt_skel.specs.Skeleton.{directory, child, with_dir}
 use Rattle.mt_skel.proofs.AddedLaws.{IsPlaced, root_exists, parent_at, parent_there, dir_exists, many_dirs, dir_added}
-use Rattle.mt_skel.proofs.NodeLaws.{counted, sound}
+use Rattle.mt_skel.proofs.NodeLaws.{sound}
 use Rattle.mt_skel.proofs.skel.Skel.add_dir.Goals.{In-Some-find, After-is_some}
 use Rattle.mt_skel.proofs.skel.Skel.add_dir.Goals as goal
-use Rattle.mt_skel.proofs.skel.Skel.add_dir.Goals.{then-path-gt-MOST_DEPTH-via-then-path-gt-MOST_DEPTH, then-path-gt-MOST_DEPTH-via-else-path-gt-MOST_DEPTH+then-len-ge-MOST_DIRECTORIES}
+use Rattle.mt_skel.proofs.skel.Skel.add_dir.Goals.{then-path-gt-MOST_DEPTH-via-then-path-gt-MOST_DEPTH, then-path-gt-MOST_DEPTH-via-else-path-gt-MOST_DEPTH+then-has_most_directories}
 
 pub returns-in_default-split_last-clause-refused :
     goal.returns-in_default-split_last-clause-refused
@@ -36,7 +36,7 @@ returns-then-path-gt-MOST_DEPTH-clause-refused c _ =
     let a = goal.at.returns-then-path-gt-MOST_DEPTH-clause-refused c in
     many_dirs (placed a.In-Some-find) (tested a.After-is_some ∙ c.if-is_some.false) (elim c.then-path-gt-MOST_DEPTH.branch [
       | then-path-gt-MOST_DEPTH-via-then-path-gt-MOST_DEPTH w ↦ inl (omega (arith, w.if-path-gt-MOST_DEPTH.true))
-      | then-path-gt-MOST_DEPTH-via-else-path-gt-MOST_DEPTH+then-len-ge-MOST_DIRECTORIES w ↦ inr (omega (arith, w.if-len-ge-MOST_DIRECTORIES.true, w.len.ensures, c.self.inside.nodes.ok, counted _ _ _ c.self.view_is))
+      | then-path-gt-MOST_DEPTH-via-else-path-gt-MOST_DEPTH+then-has_most_directories w ↦ inr (sym w.has_most_directories.ensures ∙ w.if-has_most_directories.true)
     ])
 
 pub push_node-requires-clause-there : goal.push_node-requires-clause-there
@@ -48,7 +48,7 @@ push_node-requires-clause-same c = ap (λ d. d.fs) (sym (parent_at (placed (goal
 pub returns-clause-done : goal.returns-clause-done
 returns-clause-done c =
     let a = goal.at.returns-clause-done c in
-    let few : length c.args.self.now.directories < 16384 = omega (arith, c.if-len-ge-MOST_DIRECTORIES.false, c.len.ensures, c.self.inside.nodes.ok, counted _ _ _ c.self.view_is) in
+    let few = sym c.has_most_directories.ensures ∙ c.if-has_most_directories.false in
     let added = dir_added (placed a.In-Some-find) (tested a.After-is_some ∙ c.if-is_some.false) (omega (arith, c.if-path-gt-MOST_DEPTH.false)) few in
     IfOk-weaker c.push_node.result _ _
     (λ dir h. (added ∙ ap (λ x. Ok (with_dir c.args.self.now (record { fs = c.in-Some.fs; path = (directory c.args.self.now c.in-Some-find.parent).path ++ x ∷ [] }))) (sym c.in_ok-name.ensures.copy) ∙ ap (λ v. Ok v) (sym h.0), h.1))

@@ -1,6 +1,6 @@
 use Rattle.std.proofs.Common.{◌≡◌, ◌++◌, ◌∷◌, [], Some, ap, ◌∙◌, length, arith}
 use Rattle.mt_skel.specs.Skeleton.{directory, with_dir}
-use Rattle.mt_skel.specs.Nodes.{skeleton_of, IsKeptSkeleton}
+use Rattle.mt_skel.specs.Nodes.{skeleton_with, IsKeptSkeleton}
 use Rattle.mt_skel.specs.declared.skel.Node.{Node}
 use Rattle.mt_skel.proofs.NodeLaws.{counted, dir_within}
 use Rattle.mt_skel.proofs.IndexLaws.{child_kept}
@@ -12,7 +12,7 @@ push_child-requires c = omega (arith, dir_within _ _ c.args.self.now c.args.pare
 
 -- one directory more
 grown : (c : In_ok-push) → IsKeptSkeleton c.self.inside.filesystems.items c.push.new.self.items c.push_child.new.self
-    × (skeleton_of c.self.inside.filesystems.items c.push.new.self.items ≡ with_dir c.args.self.now (record { fs = c.args.fs; path = (directory c.args.self.now c.args.parent).path ++ c.args.name ∷ [] }))
+    × (skeleton_with c.self.inside.filesystems.items c.push.new.self.items c.self.inside.room ≡ with_dir c.args.self.now (record { fs = c.args.fs; path = (directory c.args.self.now c.args.parent).path ++ c.args.name ∷ [] }))
 grown c =
     let node : Node = record { fs = c.args.fs; up = Some (record { dir = c.args.parent; name = c.args.name }) } in
     let place : c.len-dir.result ≡ length c.self.inside.nodes.items = omega (arith, c.len-dir.ensures, c.self.inside.nodes.ok) in

@@ -1,0 +1,7 @@
+use Rattle.std.proofs.Common.{arith}
+use Rattle.std.proofs.lemmas.Bool.Decides.{nat_tests}
+use Rattle.mt_skel.proofs.NodeLaws.{counted}
+use Rattle.mt_skel.proofs.skel.Skel.has_most_directories.Goals as goal
+
+pub returns : goal.returns
+returns c = grind (arith, nat_tests, c.len.ensures, c.room.ensures.room, c.self.inside.nodes.ok, counted _ _ _ c.self.view_is)
