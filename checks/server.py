@@ -32,6 +32,7 @@ from clients.mountctl import (
     check_scripts,
     check_statuses,
 )
+from clients.nodes import check_nodes
 from clients.objects import check_objects
 from clients.own_sessions import check_own_sessions
 from clients.paged import check_paged
@@ -120,6 +121,7 @@ CLIENT_PARTS = {
     "screens": check_screens,
     "saves": check_saves,
     "foretold": check_foretold,
+    "nodes": check_nodes,
     "paged": check_paged,
 }
 

@@ -23,6 +23,11 @@ FSCONFIG_SET_STRING = 1
 FSCONFIG_CMD_CREATE = 6
 CLOSE_ON_EXEC = 1
 
+MS_RDONLY = 1
+MS_NOSUID = 2
+MS_NODEV = 4
+MS_NOEXEC = 8
+MS_REMOUNT = 0x20
 MS_BIND = 0x1000
 MS_MOVE = 0x2000
 MS_REC = 0x4000
@@ -80,8 +85,9 @@ def pivot_root(new, old):
     return checked(LIBC.pivot_root(new, old))
 
 
-def mount(source, target, flags):
-    return checked(LIBC.mount(source, target, None, ctypes.c_ulong(flags), None))
+def mount(source, target, flags, kind=None, data=None):
+    """The call that mounts a filesystem of a kind, with data for it, or that changes mounts, by its flags."""
+    return checked(LIBC.mount(source, target, kind, ctypes.c_ulong(flags), data))
 
 
 def umount(target, flags=0):
