@@ -196,6 +196,7 @@ impl Skel {
         ensures refused { IfErr result (λ fault. fault ≢ Fault.NoMemory → added_dir self.old fs.now path.now ≡ Err fault) }
         ensures unchanged { OnErr result (self.new ≡ self.old) }
     {
+        let _nodes = &self.nodes;
         let Some(fs) = self.fs(fs) else {
             return Err(Fault::NoFilesystem);
         };

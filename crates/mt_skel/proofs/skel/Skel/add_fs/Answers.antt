@@ -1,4 +1,4 @@
-use Rattle.std.proofs.Common.{◌≡◌, ◌+◌, ◌<◌, ◌++◌, ◌∷◌, [], ap, sym, ◌∙◌, length, Ok, None, inl, inr, arith}
+use Rattle.std.proofs.Common.{◌≡◌, ◌+◌, ◌++◌, ◌∷◌, [], ap, sym, ◌∙◌, length, Ok, None, inl, inr, arith}
 use Rattle.std.proofs.lemmas.List.{length_push}
 use Rattle.mt_skel.specs.declared.skel.Filesystem.{Filesystem}
 use Rattle.mt_skel.specs.declared.skel.Node.{Node}
