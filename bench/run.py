@@ -213,6 +213,36 @@ PAIRS = [
 ]
 
 
+# The mounts of a container: what it has of its own, and a volume of its pod at which mounts come that are made there.
+OWN = "proc", "dev", "dev/pts", "dev/shm", "dev/mqueue", "sys", "etc", "tmp", "run", "token"
+
+
+def node(containers):
+    """A host, and so many containers, each a slave of all that the host keeps, with a root and mounts of its own."""
+    lines = ["mkfs h ext4 /dev/x", "mkfs i overlay overlay", "mkfs d tmpfs none", "mkdir h /data", "mkdir h /data/new", "mkdir h /box"]
+    lines += ["newns h", "bind 1 /data /data", "setattr 1 /data prop=shared"]
+    lines += [f"mkdir i /{name}" for name in (*OWN, "data", "old")] + ["mkdir d /pts", "mkdir d /shm", "mkdir d /mqueue"]
+    for number in range(2, containers + 2):
+        lines += ["copyns 1 less", f"mount {number} i /box"]
+        lines += [f"mount {number} d /box/{name}" for name in OWN]
+        lines += [f"bind {number} /data /box/data", f"pivot {number} /box /box/old", f"detach {number} /old"]
+    return lines
+
+
+# What is timed in a node, as a pair of lines: of its last container, or of the host.
+NODE_PAIRS = [
+    ("mount and umount in one container", "mount {last} d /tmp", "umount {last} /tmp"),
+    ("setattr in one container", "setattr {last} /tmp set=ro", "setattr {last} /tmp clr=ro"),
+    ("find in one container", "find {last} /dev/shm", "show {last}"),
+    ("copyns and dropns of a container", "copyns {last}", "dropns {next}"),
+    ("mount and umount that come to each container", "mount 1 d /data/new", "umount 1 /data/new"),
+    ("setattr rec of the host", "setattr 1 / rec set=noexec", "setattr 1 / rec clr=noexec"),
+]
+
+# The containers of the nodes, the room that each takes, and how often a pair is carried out.
+NODES = (30, 1, 400), (220, 4, 200), (500, 8, 100), (2_000, 32, 20)
+
+
 def most_memory(process, seen):
     """Keeps the most memory of a running process, in MB, in the first place of a list."""
     while process.poll() is None:
@@ -226,14 +256,14 @@ def most_memory(process, seen):
         time.sleep(0.002)
 
 
-def run(program, lines):
-    """Seconds, bytes of answers and the most memory in MB of one session."""
+def run(program, lines, *arguments):
+    """Seconds, bytes of answers and the most memory in MB of one session, with further arguments."""
     with tempfile.TemporaryFile() as source, tempfile.TemporaryFile() as answers:
         source.write(("\n".join(lines) + "\n").encode())
         source.seek(0)
         seen = [0.0]
         begin = time.perf_counter()
-        session = subprocess.Popen([program, "-"], stdin=source, stdout=answers)
+        session = subprocess.Popen([program, "-", *arguments], stdin=source, stdout=answers)
         watcher = threading.Thread(target=most_memory, args=(session, seen))
         watcher.start()
         status = session.wait()
@@ -265,6 +295,19 @@ def time_directories(program):
             print(f"{name:20} {count:11} {(seconds - before) * 1e6 / (2 * 10_000):8.2f}")
 
 
+def time_node(program):
+    """Prints how long commands take on nodes of some and of many containers."""
+    print(f"{'command':46} {'containers':>10} {'us each':>8} {'set up s':>9} {'memory MB':>10}")
+    for name, first, second in NODE_PAIRS:
+        for containers, room, count in NODES:
+            lines, words = node(containers), ("--room", str(room))
+            before, _, memory = run(program, lines, *words)
+            for turn in range(count):
+                lines += [line.format(last=containers + 1, next=containers + 2 + turn) for line in (first, second)]
+            seconds, _, _ = run(program, lines, *words)
+            print(f"{name:46} {containers:10} {(seconds - before) * 1e6 / (2 * count):8.2f} {before:9.2f} {memory:10.1f}")
+
+
 def main():
     parser = argparse.ArgumentParser(description=__doc__.splitlines()[0])
     parser.add_argument("--program", default=os.path.join(HERE, "crates/mountd/out/mountd"))
@@ -272,7 +315,11 @@ def main():
     parser.add_argument("--only", default="")
     parser.add_argument("--pairs", action="store_true", help="time mount and umount in worlds of many mounts instead")
     parser.add_argument("--directories", action="store_true", help="time commands among 10 and 16,000 directories instead")
+    parser.add_argument("--node", action="store_true", help="time commands on nodes of many containers instead")
     words = parser.parse_args()
+    if words.node:
+        time_node(words.program)
+        return
     if words.directories:
         time_directories(words.program)
         return
