@@ -1,5 +1,5 @@
 -- A room of 2 has twice the mounts of a room of 1. A room is given before there is a filesystem, and is 1 to 256 (this project's rule).
-use Rattle.std.specs.Prelude.{◌≡◌, refl, [], ◌∷◌, Some}
+use Rattle.std.specs.Prelude.{◌≡◌, refl, [], ◌∷◌}
 use Rattle.mt_examples.specs.Prelude.{room, mkfs, mount, ok, number, no, answers, answers_from, computed}
 use Rattle.mt_examples.specs.TooManyMounts.{stacked, before}
 use Rattle.mt_skel.specs.declared.fault.Fault.TheVariants.{TooMany}

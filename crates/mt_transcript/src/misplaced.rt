@@ -60,7 +60,8 @@ impl Why {
             Why::Unread => "no input line: it is > TEXT, >. TEXT, or >* TEXT with {N WORD}",
             Why::Behind => "an input line behind one without end",
             Why::Lost => "an answer below no input line",
-            Why::Arguments => "no arguments of a session: they are --queue N, from 1 to 16384, or --room N, from 1 to 256",
+            Why::Arguments =>
+                "no arguments of a session: they are --queue N, from 1 to 16384, or --room N, from 1 to 256",
             Why::Place => "arguments that are not right above the first input line",
         }
     }
