@@ -207,7 +207,9 @@ PUT_TOGETHER = {
         "SOCKET: not a new server",
         "the tables take a server with --room N, or more",
         "there are N namespaces, and no room for one more: --room N has it",
+        "there are N namespaces, the most that there can be",
         "there are N mounts, and no room for all that the line adds: --room N, or more, has it",
+        "there are N mounts, and no server has room for all that the line adds",
         "there is no room for one more filesystem and its root: a server has 256 filesystems and 16384 directories times its --room",
         "there is no room for one more directory: a server has 16384 times its --room",
         "a path has at most 32 names, whatever the --room is",
@@ -255,6 +257,11 @@ def messages_in(program):
     return {f"{program}: {message}" for text in texts for message in SAID.findall(text)}
 
 
+def is_part(program, message, made):
+    """Whether a message is the first or the last part of one that a program puts together."""
+    return any(one.startswith(f"{message}: ") or one.endswith(message.removeprefix(program)) for one in made)
+
+
 def check_statuses(programs):
     """The pages have the statuses with which the programs end, and the messages of their sources, and no others."""
     for program, path in programs.items():
@@ -262,7 +269,7 @@ def check_statuses(programs):
         seen = {str(run(path, b"none\n", *words)[0]) for words in RUNS[program]}
         check_same(f"the statuses of {program}.1", seen, re.findall(r"(?m)^\.It (\d)$", text))
         made = {f"{program}: {message}" for message in PUT_TOGETHER[program]}
-        said = {message for message in messages_in(program) if not any(one.startswith(f"{message}: ") for one in made)}
+        said = {message for message in messages_in(program) if not is_part(program, message, made)}
         check_same(f"the messages of {program}.1", {*made, *said}, MESSAGE.findall(text))
 
 

@@ -59,12 +59,13 @@ WORDS = b"~ 1 / rw -> ro in namespace 1\n+ 2 / tmpfs rw,relatime private in name
 WATCH, FOLLOW = b"watch all\n", b"follow 1048576\n"
 
 # What a server answers to a watch of all namespaces, what it is sent, what is told, and the status. With 3 a connection
-# fault is told.
+# fault is told, or that changes were lost.
 ANSWERED = (
     (b"no TooManyWatchers\n", WATCH, b"no TooManyWatchers\n", 1),
     (b"ok 1\n", WATCH, b"", 3),
     (b"ok 2\nspace 2 1 0\nspace 1 1 0\n", WATCH, b"", 3),
-    (OPENING + POSTS + b"no Lagged\n", WATCH + FOLLOW, WORDS + b"no Lagged\n", 1),
+    (OPENING + POSTS + b"no Lagged\n", WATCH + FOLLOW, WORDS + b"no Lagged\n", 3),
+    (OPENING + POSTS + b"no Stopped\n", WATCH + FOLLOW, WORDS + b"no Stopped\n", 1),
     (OPENING + POSTS, WATCH + FOLLOW, WORDS, 3),
     (OPENING + POSTS + b"event 1 6 1\n- 1\n", WATCH + FOLLOW, WORDS, 3),
     (OPENING + POSTS + b"event 2 2 1\n- 2", WATCH + FOLLOW, WORDS, 3),
@@ -119,7 +120,8 @@ def check_answered(mountctl):
             found = door.answers(answer)
             check(f"a monitor that is answered {answer!r}: what it sends", found == sent, repr(found))
             found = running.result()
-            wanted = status, told, connection_fault(door.path) if status == 3 else b""
+            fault = b"mountctl: %b: changes were lost\n" % door.path.encode() if told.endswith(b"no Lagged\n") else connection_fault(door.path)
+            wanted = status, told, fault if status == 3 else b""
             check(f"a monitor that is answered {answer!r}", found == wanted, repr(found))
 
 

@@ -28,6 +28,9 @@ TEMPLATE = "docs", "pages", "template.html"
 # How many random sessions are compared.
 SESSIONS = 20
 
+# How many namespaces there are on a page that has more than posts are taken at once.
+SPACES = 1_100
+
 ENDS = b"quit", b"stop"
 OWN = b"watch", b"take", b"follow", b"close"
 
@@ -223,6 +226,17 @@ def check_lag(program, mountctl):
         check("a page whose watcher lags", found == (3, b"", said), repr(found))
 
 
+def check_crowded(mountctl):
+    """A line that changes more namespaces than posts are taken at once is told whole, and the one behind it has none of that."""
+    session = b"mkfs a tmpfs none\nnewns a\nsetattr 1 / prop=shared\nmkdir a /m\n" + b"copyns 1\n" * (SPACES - 1) + b"mount 1 a /m\nmkdir a /n\n"
+    status, page, complaint = printed_page(mountctl, session, "--room", "18")
+    counts = [len(step["posts"]) for step in (data_in(page) or {"steps": []})["steps"][-2:]]
+    check("a page of more namespaces than posts are taken at once", (status, complaint, counts) == (0, b"", [SPACES, 0]), f"{status} {shown(complaint)} {counts}")
+    for words in ["--room", "0"], ["--room", "257"], ["--room", "x"], ["--room"], ["--room", "2", "--room", "2"]:
+        found = printed_page(mountctl, b"", *words)
+        check(f"a page with {' '.join(words)}", found == (2, b"", b"mountctl: a room is given once, as --room 2, from 1 to 256\n"), repr(found))
+
+
 def stored_page(mountctl, name):
     """The page that docs/pages has of a session, as it is printed now."""
     return printed_page(mountctl, read("docs", "pages", f"{name}.session"), PAGES[name])[1]
@@ -249,4 +263,5 @@ def check_played(program, mountctl):
     check_odd(program, mountctl)
     check_refused(program, mountctl)
     check_lag(program, mountctl)
+    check_crowded(mountctl)
     check_stored(program, mountctl)

@@ -1,9 +1,11 @@
 //! The connection to a server.
 
 use crate::PROGRAM;
-use crate::fault::{CONNECTION_FAULT, Fault};
+use crate::fault::{CONNECTION_FAULT, Fault, LOST};
+use crate::messages::NAME;
 use mt_arguments::connecting::connect_now;
 use mt_arguments::socket::SocketFault;
+use mt_terminal::message::Shown;
 use std::io::ErrorKind;
 use std::net::Net;
 use std::os::fd::AsRawFd;
@@ -93,6 +95,11 @@ pub(crate) fn status_of(rt: &HostRuntime, socket: &str, done: Result<bool, Fault
         Ok(true) => ExitCode::SUCCESS,
         Ok(false) => ExitCode::from(1),
         Err(Fault::Connection) => PROGRAM.fail_at(rt, CONNECTION_FAULT, socket, "no whole answer"),
+        Err(Fault::Lost) => {
+            let socket = Shown(socket.as_bytes());
+            let _ = eprintln!(rt; "{NAME}: {socket}: {LOST}");
+            ExitCode::from(PROGRAM.failed)
+        }
         Err(fault) => PROGRAM.fail(rt, fault.message()),
     }
 }

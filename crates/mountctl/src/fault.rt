@@ -9,6 +9,9 @@ use std::alloc::{AllocError, AllocFailed};
 /// What is said where there is no whole answer. Behind it stand the socket's path and the reason.
 pub(crate) const CONNECTION_FAULT: &str = "connection fault";
 
+/// What is said where a watcher has lost changes. Before it stands the socket's path.
+pub(crate) const LOST: &str = "changes were lost";
+
 /// Why a task was not done to its end.
 #[derive(Clone, Copy)]
 pub(crate) enum Fault {
@@ -20,6 +23,8 @@ pub(crate) enum Fault {
     Output,
     /// A growth was refused for want of memory.
     NoMemory,
+    /// The server did not tell all changes: the queue of the watcher was full when one came.
+    Lost,
 }
 
 impl Fault {
@@ -30,6 +35,7 @@ impl Fault {
             Fault::Input => "read fault",
             Fault::Output => WRITE_FAULT,
             Fault::NoMemory => OUT_OF_MEMORY,
+            Fault::Lost => LOST,
         }
     }
 

@@ -239,7 +239,9 @@ fn status_of_answer(outcome: Outcome, leaks: bool, options: Options) -> ExitCode
 /// Says that a line meets a limit of the room, if it was refused for that; a greater one may do.
 fn tell_room_met(rt: &HostRuntime, outcome: Outcome, room: usize) {
     if matches!(outcome, Outcome::Refused(Refusal::TooMany)) && room < MOST_ROOM {
-        let _ = eprintln!(rt; "{NAME}: a limit is met with --room {room}; {MOST_ROOM} is the greatest");
+        let _ = eprintln!(rt;
+            "{NAME}: a limit is met with --room {room}; {MOST_ROOM} is the greatest"
+        );
     }
 }
 

@@ -1,5 +1,5 @@
 //! Which limit a command meets that is refused for one, and which room would do.
-ghost use Rattle.std.specs.Prelude.{◌≡◌, None, OnOk};
+ghost use Rattle.std.specs.Prelude.{◌≡◌, ◌<◌, None, OnOk};
 ghost use Rattle.mt_lines.specs.Reading.{fault_of};
 
 use crate::fault::Fault;
@@ -10,6 +10,7 @@ use mt_book::command::Command;
 use mt_client::ask::ask_line;
 use mt_lines::line::LineReader;
 use mt_lines::stream::{Input, Output};
+use mt_skel::skel::MOST_ROOM;
 use std::alloc::Global;
 use std::fmt;
 use std::fmt::{Display, Formatter};
@@ -49,21 +50,41 @@ impl Display for Limit {
                 "there is no room for one more directory: a server has 16384 times its --room",
             ),
             Limit::Depth => f.write_str("a path has at most 32 names, whatever the --room is"),
-            Limit::Spaces(spaces) => {
-                let room = next_room(*spaces, MOST_SPACES);
-                write!(f, "there are {spaces} namespaces, and no room for one more: --room {room} has it")
-            }
-            Limit::Mounts(mounts) => {
-                let room = next_room(*mounts, MOST_MOUNTS);
-                write!(f, "there are {mounts} mounts, and no room for all that the line adds: --room {room}, or more, has it")
-            }
+            Limit::Spaces(spaces) => match next_room(*spaces, MOST_SPACES) {
+                Some(room) => write!(
+                    f,
+                    "there are {spaces} namespaces, and no room for one more: --room {room} has it"
+                ),
+                None => write!(
+                    f,
+                    "there are {spaces} namespaces, the most that there can be"
+                ),
+            },
+            Limit::Mounts(mounts) => match next_room(*mounts, MOST_MOUNTS) {
+                Some(room) => write!(
+                    f,
+                    "there are {mounts} mounts, and no room for all that the line adds: --room {room}, or more, has it"
+                ),
+                None => write!(
+                    f,
+                    "there are {mounts} mounts, and no server has room for all that the line adds"
+                ),
+            },
         }
     }
 }
 
-/// The least room that has more than the one in which so many just fit, of which there are these in a room of 1.
-fn next_room(count: usize, each: usize) -> usize {
-    count.div_ceil(each).max(1).saturating_add(1)
+/// The least room that has more than the one in which so many just fit, of which there are these in a room of 1; none where
+/// that is the greatest one.
+fn next_room(count: usize, each: usize) -> Option<usize>
+    requires { 0 < each }
+{
+    let room = count.div_ceil(each).max(1);
+    if room < MOST_ROOM {
+        Some(room + 1)
+    } else {
+        None
+    }
 }
 
 /// How many namespaces and mounts a server has.

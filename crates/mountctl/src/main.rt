@@ -110,6 +110,9 @@ const HELP: &str = "help";
 /// The longest line of an answer, in bytes before its line end.
 pub(crate) const LINE_LIMIT: u32 = 134_217_728;
 
+/// The refusal that ends the posts of a watcher of which the queue was full when one came.
+const LAGGED: &[u8] = b"no Lagged";
+
 /// What a task is asked with: words, and names of namespaces.
 #[derive(Clone, Copy)]
 struct TaskWords<'w, 'a> {
@@ -136,6 +139,15 @@ fn run_lines<R: Input + Drop, W: Output, O: Output>(
     }
     let line = line_of(alloc, words)?;
     run_line(rt, alloc, line.as_slice(), lines, writer, out)
+}
+
+/// What comes of a monitor that this refusal has ended: it is none of the answers that are `ok`.
+fn end_of_told(refusal: &[u8]) -> Result<bool, Fault> {
+    if refusal == LAGGED {
+        Err(Fault::Lost)
+    } else {
+        Ok(false)
+    }
 }
 
 /// Does a task and prints to an output: whether each answer was `ok`.
@@ -176,7 +188,7 @@ fn run_on<R: Input + Drop, W: Output, O: Output>(
                 names,
             };
             tell(alloc, lines, writer, scope, &named, out)?;
-            Ok(false)
+            end_of_told(lines.line())
         }
         Task::Find => match found_words(words) {
             Some((space, path)) => find_place(rt, alloc, space, path, lines, writer, out),

@@ -24,6 +24,15 @@ use std::alloc::{AllocError, AllocFailed, Global};
 /// How often posts are asked for at most.
 const MOST_TAKES: u64 = u64::MAX;
 
+/// How many posts are taken at once.
+const MOST_TAKEN: usize = 1_024;
+
+/// How often posts are taken behind a line that comes where there are so many namespaces: it makes one more at most, and one
+/// post of each.
+pub(crate) fn takes_among(spaces: usize) -> usize {
+    (spaces / MOST_TAKEN).saturating_add(1)
+}
+
 /// Why there is no page of a session.
 #[derive(Drop)]
 pub(crate) enum Unplayed {
@@ -120,6 +129,28 @@ fn take_changes<R: Input + Drop, W: Output>(
     Ok(kept.into_text())
 }
 
+/// Takes posts so many times more, and answers the objects of what they tell behind these.
+fn take_more<R: Input + Drop, W: Output>(
+    alloc: Global,
+    changes: Vec<u8>,
+    count: usize,
+    mirrors: &mut Vec<Mirror>,
+    lines: &mut LineReader<R>,
+    writer: &mut W,
+) -> Result<Vec<u8>, Unplayed>
+    requires fresh { fault_of lines.old ≡ None }
+    requires rising { IsTrue (rises mirror_space mirrors.old.items) }
+    ensures fresh { OnOk result (fault_of lines.new ≡ None) }
+    ensures rising { OnOk result (IsTrue (rises mirror_space mirrors.new.items)) }
+{
+    let mut changes = changes;
+    'takes: for _take in 0..count {
+        let more = take_changes(alloc, mirrors, lines, writer)?;
+        changes.extend_from_slice(more.as_slice())?;
+    }
+    Ok(changes)
+}
+
 /// A step with what the refusal says that its answer is, if it is one. Fails for want of memory alone.
 pub(crate) fn step_with_reason(step: Step) -> Result<Step, AllocError> {
     let mut step = step;
@@ -128,10 +159,11 @@ pub(crate) fn step_with_reason(step: Step) -> Result<Step, AllocError> {
     Ok(step)
 }
 
-/// Sends the line of a step, and takes the posts behind it.
+/// Sends the line of a step, and takes the posts behind it, so many times.
 fn send_step<R: Input + Drop, W: Output>(
     alloc: Global,
     step: Step,
+    takes: usize,
     mirrors: &mut Vec<Mirror>,
     lines: &mut LineReader<R>,
     writer: &mut W,
@@ -149,7 +181,15 @@ fn send_step<R: Input + Drop, W: Output>(
         changes: _none,
     } = step;
     let answer = answer_to(alloc, line.as_slice(), lines, writer)?;
-    let changes = take_changes(alloc, mirrors, lines, writer)?;
+    let first = take_changes(alloc, mirrors, lines, writer)?;
+    let changes = take_more(
+        alloc,
+        first,
+        takes.saturating_sub(1),
+        mirrors,
+        lines,
+        writer,
+    )?;
     Ok(Step {
         line,
         answer,
@@ -159,10 +199,11 @@ fn send_step<R: Input + Drop, W: Output>(
     })
 }
 
-/// Plays a step. Its line is sent, unless it has its answer.
+/// Plays a step. Its line is sent, unless it has its answer, and posts are taken behind it so many times.
 fn play_step<R: Input + Drop, W: Output>(
     alloc: Global,
     step: Step,
+    takes: usize,
     mirrors: &mut Vec<Mirror>,
     lines: &mut LineReader<R>,
     writer: &mut W,
@@ -175,7 +216,7 @@ fn play_step<R: Input + Drop, W: Output>(
     if !step.answer.is_empty() {
         return Ok(step_with_reason(step)?);
     }
-    let sent = send_step(alloc, step, mirrors, lines, writer)?;
+    let sent = send_step(alloc, step, takes, mirrors, lines, writer)?;
     Ok(step_with_reason(sent)?)
 }
 
@@ -193,8 +234,11 @@ fn play_steps<R: Input + Drop, W: Output>(
     ensures rising { OnOk result (IsTrue (rises mirror_space mirrors.new.items)) }
 {
     let mut played = Vec::new(alloc);
+    let mut spaces = mirrors.len();
     'steps: for step in steps {
-        played.push(play_step(alloc, step, mirrors, lines, writer)?)?;
+        let takes = takes_among(spaces);
+        played.push(play_step(alloc, step, takes, mirrors, lines, writer)?)?;
+        spaces = spaces.saturating_add(1);
     }
     Ok(played)
 }

@@ -5,7 +5,7 @@ use crate::fault::Fault;
 use crate::kept::Kept;
 use crate::messages::NAME;
 use crate::own_session::{answers_to, new_floor};
-use crate::page::{PageData, Unplayed, play};
+use crate::page::{PageData, Unplayed, play, takes_among};
 use crate::played::{Played, PlayedFault, read_played};
 use crate::quiet::Quiet;
 use crate::room::{FIRST_ROOM, room_among};
@@ -31,16 +31,29 @@ pub(crate) const JOURNAL: &str = "--journal";
 /// How many posts the queue of a watcher holds, the most that one may.
 const QUEUE: usize = 16_384;
 
+/// What takes the posts behind a line.
+const TAKE: &[u8] = b"take 1024\n";
+
+/// Appends the line of a step, with so many takes behind it, unless it has its answer.
+fn push_request(requests: &mut Vec<u8>, step: &Step, takes: usize) -> Result<(), AllocError> {
+    if !step.answer.is_empty() {
+        return Ok(());
+    }
+    requests.extend_from_slice(step.line.as_slice())?;
+    requests.push(b'\n')?;
+    for _take in 0..takes {
+        requests.extend_from_slice(TAKE)?;
+    }
+    Ok(())
+}
+
 /// All that is asked for the page of a session, as lines: its lines are known, and nobody else makes posts.
 fn requests_of(alloc: Global, steps: &[Step]) -> Result<Vec<u8>, AllocError> {
     let mut requests = Vec::from_slice(alloc, b"watch all\n")?;
-    for step in steps {
-        if step.answer.is_empty() {
-            requests.extend_from_slice(step.line.as_slice())?;
-            requests.extend_from_slice(b"\ntake 1024\n")?;
-        }
+    for (place, step) in steps.iter().enumerate() {
+        push_request(&mut requests, step, takes_among(place))?;
     }
-    requests.extend_from_slice(b"take 1024\n")?;
+    requests.extend_from_slice(TAKE)?;
     Ok(requests)
 }
 
@@ -111,11 +124,7 @@ fn end_page(rt: &HostRuntime, socket: &str, played: Result<PageData, Unplayed>) 
     match played {
         Ok(data) => status_of(rt, socket, print_page(rt, &data)),
         Err(Unplayed::Failed(fault)) => status_of(rt, socket, Err(fault)),
-        Err(Unplayed::Lost) => {
-            let socket = Shown(socket.as_bytes());
-            let _ = eprintln!(rt; "{NAME}: {socket}: changes were lost");
-            ExitCode::from(PROGRAM.failed)
-        }
+        Err(Unplayed::Lost) => status_of(rt, socket, Err(Fault::Lost)),
         Err(Unplayed::Refused(refusal)) => {
             let refusal = Shown(refusal.text().trim_ascii_end());
             let _ = eprintln!(rt; "{NAME}: {refusal}");
@@ -159,11 +168,7 @@ fn make_page(
                 play_over(rt, &stream, session, title.as_bytes()),
             ))
         }
-        None => Ok(end_page(
-            rt,
-            NAME,
-            play_alone(rt, session, title.as_bytes(), room),
-        )),
+        None => Ok(end_page(rt, NAME, play_alone(rt, session, title.as_bytes(), room))),
     }
 }
 

@@ -52,7 +52,8 @@ impl From<ImportFault> for TableFault {
         match fault {
             ImportFault::Row(number) => TableFault::Row(number),
             ImportFault::Run(Fault::NoMemory) => TableFault::NoMemory,
-            ImportFault::Run(Fault::Connection | Fault::Input | Fault::Output) => TableFault::Read,
+            ImportFault::Run(Fault::Connection | Fault::Input | Fault::Output | Fault::Lost) =>
+                TableFault::Read,
         }
     }
 }

@@ -316,11 +316,7 @@ fn answer_what_if(
             let _ = eprintln!(rt; "{NAME}: {socket}: others made changes");
             Ok(ExitCode::from(PROGRAM.failed))
         }
-        Ok(Effects::Lost) => {
-            let socket = Shown(socket.as_bytes());
-            let _ = eprintln!(rt; "{NAME}: {socket}: changes were lost");
-            Ok(ExitCode::from(PROGRAM.failed))
-        }
+        Ok(Effects::Lost) => Ok(status_of(rt, socket, Err(Fault::Lost))),
         Err(fault) => Ok(status_of(rt, socket, Err(fault))),
     }
 }

@@ -1,5 +1,6 @@
 //! Which mounts of the trees are made, and what they need: those that agree on their peer groups, as many as a server
 //! has room for, and the least room that such a server has.
+ghost use Rattle.std.specs.Prelude.{◌<◌};
 
 use crate::choice::{Candidate, Choice, candidates_of, choose};
 use crate::front::slots_of;
@@ -154,7 +155,11 @@ impl<'a> Plan<'a> {
     fn spaces_at_once(&self, made: &[Candidate<'_, '_>]) -> usize {
         let roots = made.iter().filter(|candidate| candidate.is_root()).count();
         let keeping = if self.has_unseen() { 1 } else { 0 };
-        let foreign = if made.iter().any(|candidate| candidate.is_foreign) { 1 } else { 0 };
+        let foreign = if made.iter().any(|candidate| candidate.is_foreign) {
+            1
+        } else {
+            0
+        };
         roots.saturating_add(keeping).saturating_add(foreign)
     }
 
@@ -173,7 +178,9 @@ impl<'a> Plan<'a> {
 }
 
 /// The least room for so many, of which there are these in a room of 1.
-fn room_for(count: usize, each: usize) -> usize {
+fn room_for(count: usize, each: usize) -> usize
+    requires { 0 < each }
+{
     count.div_ceil(each).max(1)
 }
 
