@@ -240,7 +240,7 @@ NODE_PAIRS = [
 ]
 
 # The containers of the nodes, the room that each takes, and how often a pair is carried out.
-NODES = (30, 1, 400), (220, 4, 200), (500, 8, 100), (2_000, 32, 20)
+NODES = (30, 1, 20_000), (220, 4, 5_000), (500, 8, 2_000), (2_000, 32, 500)
 
 
 def most_memory(process, seen):
@@ -256,14 +256,27 @@ def most_memory(process, seen):
         time.sleep(0.002)
 
 
-def run(program, lines, *arguments):
-    """Seconds, bytes of answers and the most memory in MB of one session, with further arguments."""
+def spent(program, lines, *arguments):
+    """Processor seconds and the most memory in MB of one session, with further arguments."""
+    with tempfile.TemporaryFile() as source:
+        source.write(("\n".join(lines) + "\n").encode())
+        source.seek(0)
+        with subprocess.Popen([program, "-", *arguments], stdin=source, stdout=subprocess.DEVNULL) as session:
+            _, status, used = os.wait4(session.pid, 0)
+            session.returncode = os.waitstatus_to_exitcode(status)
+    if session.returncode != 0:
+        raise SystemExit(f"{program} ended with status {session.returncode}")
+    return used.ru_utime + used.ru_stime, used.ru_maxrss / 1024
+
+
+def run(program, lines):
+    """Seconds, bytes of answers and the most memory in MB of one session."""
     with tempfile.TemporaryFile() as source, tempfile.TemporaryFile() as answers:
         source.write(("\n".join(lines) + "\n").encode())
         source.seek(0)
         seen = [0.0]
         begin = time.perf_counter()
-        session = subprocess.Popen([program, "-", *arguments], stdin=source, stdout=answers)
+        session = subprocess.Popen([program, "-"], stdin=source, stdout=answers)
         watcher = threading.Thread(target=most_memory, args=(session, seen))
         watcher.start()
         status = session.wait()
@@ -296,15 +309,15 @@ def time_directories(program):
 
 
 def time_node(program):
-    """Prints how long commands take on nodes of some and of many containers."""
+    """Prints how long commands take on nodes of some and of many containers, in processor time."""
     print(f"{'command':46} {'containers':>10} {'us each':>8} {'set up s':>9} {'memory MB':>10}")
     for name, first, second in NODE_PAIRS:
         for containers, room, count in NODES:
             lines, words = node(containers), ("--room", str(room))
-            before, _, memory = run(program, lines, *words)
+            before, memory = spent(program, lines, *words)
             for turn in range(count):
                 lines += [line.format(last=containers + 1, next=containers + 2 + turn) for line in (first, second)]
-            seconds, _, _ = run(program, lines, *words)
+            seconds, _ = spent(program, lines, *words)
             print(f"{name:46} {containers:10} {(seconds - before) * 1e6 / (2 * count):8.2f} {before:9.2f} {memory:10.1f}")
 
 

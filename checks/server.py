@@ -42,6 +42,7 @@ from clients.python import check_python
 from clients.questions import check_questions
 from clients.reasons import check_reasons
 from clients.refusals import check_refusals
+from clients.rooms import check_rooms
 from clients.rootless import check_rootless
 from clients.saves import check_saves
 from clients.screens import check_screens
@@ -122,6 +123,7 @@ CLIENT_PARTS = {
     "saves": check_saves,
     "foretold": check_foretold,
     "nodes": check_nodes,
+    "rooms": check_rooms,
     "paged": check_paged,
 }
 

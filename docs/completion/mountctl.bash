@@ -49,7 +49,7 @@ _mountctl_words()
         mount:4) echo set={ro,nosuid,nodev,noexec,nosymfollow,nodiratime,relatime,noatime,strictatime} ;;
         watch:1) echo all ;;
         show:2 | find:3 | reach:3 | origin:3 | holders:[23]) echo --json ;;
-        page:[12]) echo --journal ;;
+        page:[12]) echo --journal --room ;;
         tree:[1-9] | dot:[1-9] | spaces:[1-9] | monitor:[1-9]) _mountctl_options "$@" ;;
         setattr:[3-9])
             # Each option may be there once.
@@ -131,6 +131,7 @@ _mountctl()
         return
     fi
     if [[ ${words[0]} == session ]]; then
+        mapfile -t COMPREPLY < <(((${#words[@]} == 1)) && compgen -W "--room" -- "$current")
         return
     fi
     if [[ ${words[0]} == play ]]; then
@@ -157,9 +158,14 @@ _mountctl()
     if [[ " $(_mountctl_words) " == *" ${words[0]} "* ]]; then
         words=("" "${words[@]}")
     fi
-    if [[ ${words[0]} == import || ${words[1]-} == what-if ]]; then
+    if [[ ${words[0]} == import ]]; then
         # Files stand here, which readline completes itself.
-        [[ $current == -* ]] && mapfile -t COMPREPLY < <(compgen -W "-- --all --pid --room" -- "$current")
+        [[ $current == -* ]] && mapfile -t COMPREPLY < <(compgen -W "--all --pid --room" -- "$current")
+        compopt -o default 2> /dev/null
+        return
+    fi
+    if [[ ${words[1]-} == what-if ]]; then
+        [[ $current == -* ]] && mapfile -t COMPREPLY < <(compgen -W "-- --pid --room" -- "$current")
         compopt -o default 2> /dev/null
         return
     fi

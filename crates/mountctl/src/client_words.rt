@@ -37,8 +37,8 @@ pub(crate) const IN_PLACE_OF_LINES: [Usage; 14] = [
         says: "lists the namespaces, each with its name and the number of its mounts",
     },
     Usage {
-        words: "what-if [--room N] FILE.. -- LINE..",
-        says: "makes the namespaces of an import in a new server, and tells what a line changes there;\nfurther lines may stand in front of it, each behind --",
+        words: "what-if FILE.. -- LINE..",
+        says: "makes the namespaces of an import in a new server, and tells what a line changes there;\nfurther lines may stand in front of it, each behind --, and --room N in front of the files, as of import",
     },
     Usage {
         words: "reach NS PATH [--json]",

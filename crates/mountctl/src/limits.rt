@@ -177,10 +177,10 @@ pub(crate) fn tell_limit<E: Eprint, R: Input + Drop, W: Output>(
     let limit = limit_met(command, counts)?;
     match number {
         Some(number) => {
-            let _ = eprintln!(rt; "{NAME}: line {number}: {limit}");
+            let _ = eprintln!(rt; "{NAME}: line {number}: TooMany: {limit}");
         }
         None => {
-            let _ = eprintln!(rt; "{NAME}: {limit}");
+            let _ = eprintln!(rt; "{NAME}: TooMany: {limit}");
         }
     }
     Ok(())

@@ -60,10 +60,10 @@ fn a_command_touches_what_it_changes(rt: HostRuntime) -> Result<(), Fail> {
             &[1, 2],
         ),
         (b"mkfs a tmpfs none\nnewns a\nmkdir a /m\nmount 1 a /n", &[]),
-        // A group is no longer seen in namespace 1, where a mount below it stays.
+        // A group is no longer seen in namespace 1, where a mount below it stays; one in namespace 2 sees it as before.
         (
             b"mkfs h tmpfs none\nmkfs a ext4 /dev/x\nmkdir h /w\nmkdir h /v\nmkdir h /f\nnewns h\nmount 1 a /w\nsetattr 1 /w prop=shared\nbind 1 /w /v\nsetattr 1 /v prop=slave\nsetattr 1 /v prop=shared\nbind 1 /v /f\nsetattr 1 /f prop=slave\ncopyns 1\numount 1 /v",
-            &[3, 4, 8],
+            &[3, 4],
         ),
         // A group that has a mount in namespace 1 gets another one there: those below it stay as they are.
         (
