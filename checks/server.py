@@ -46,6 +46,7 @@ from clients.saves import check_saves
 from clients.screens import check_screens
 from clients.starts import check_starts
 from clients.terminals import check_terminals
+from clients.traces import check_traces
 from clients.transcripts import check_transcripts
 from clients.worlds import check_worlds
 from clients.writes import check_writes
@@ -120,6 +121,7 @@ CLIENT_PARTS = {
     "screens": check_screens,
     "saves": check_saves,
     "foretold": check_foretold,
+    "traces": check_traces,
     "paged": check_paged,
 }
 

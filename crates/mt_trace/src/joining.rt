@@ -135,6 +135,46 @@ impl Beginnings {
         self.waiting.remove(&n)
     }
 
+    /// The call of a process that has begun, with this end behind it. `None` if no call of this name has begun.
+    pub fn with_end(
+        &self,
+        process: Option<u64>,
+        name: &[u8],
+        end: &[u8],
+    ) -> Result<Option<Vec<u8>>, AllocError> {
+        let Some(beginning) = self.waiting.get(&waiting_number(process)) else {
+            return Ok(None);
+        };
+        if !begins_call(name, beginning.bytes()) {
+            return Ok(None);
+        }
+        let mut text = Vec::from_slice(self.alloc, beginning.bytes())?;
+        text.extend_from_slice(end)?;
+        Ok(Some(text))
+    }
+
+    /// The process and the beginning of the only call that has begun of these names. `None` if none has, or several.
+    pub fn only_of(&self, names: &[&[u8]]) -> Option<(u64, &[u8])> {
+        let mut found = None;
+        for (process, beginning) in self.waiting.iter() {
+            if names
+                .iter()
+                .any(|name| begins_call(name, beginning.bytes()))
+            {
+                if found.is_some() {
+                    return None;
+                }
+                found = Some((*process, beginning.bytes()));
+            }
+        }
+        found
+    }
+
+    /// Takes one of them out, with its process. `None` if there is none.
+    pub fn take_any(&mut self) -> Option<(u64, CallText)> {
+        self.waiting.pop_first()
+    }
+
     /// Joins an end with its beginning.
     fn end(&mut self, n: u64, name: &[u8], end: &[u8]) -> Result<JoinedLine, AllocError>
         ensures { IfOk result (λ said. ◌≡◌ {A = JoinedLine × Waiting} (said, self.new) (ended_line n name.now end.now self.old (waiting_at n self.old))) }

@@ -68,7 +68,7 @@ fn has_numbers(world: &World) -> bool
 }
 
 /// Does a command, or refuses it: as `TooMany` where numbers run out, and else as it is refused.
-fn try_step(world: &mut World, command: &Command) -> Result<Reply, Fault>
+pub fn try_step(world: &mut World, command: &Command) -> Result<Reply, Fault>
     requires { IsWellFormed (world_view world.old) }
     ensures done { IfOk result (λ reply. tried (world_view world.old) command.now ≡ Ok (world_view world.new, reply)) }
     ensures refused { IfErr result (λ fault. fault ≢ Fault.NoMemory → tried (world_view world.old) command.now ≡ Err fault) }

@@ -1,0 +1,338 @@
+//! The lines of a trace, played one after another.
+
+use crate::account::{Account, Caller};
+use crate::ahead::Ahead;
+use crate::asking::asked_by_call;
+use crate::call_name::{CallName, call_named};
+use crate::foreseen::is_named_again;
+use crate::joining::{CallText, JoinedLine};
+use crate::player::Player;
+use crate::playing::is_loud;
+use crate::system_call::{AskedCall, SystemCall};
+use crate::told::{Halt, Told};
+use crate::unknown::Unknown;
+use crate::written::{CallOutcome, call_written, push_account};
+use mt_strace::call::TracedCall;
+use mt_strace::line::{StraceLine, read_call, read_strace_line};
+use mt_strace::result::CallResult;
+use mt_strace::unread::Unread;
+use std::alloc::AllocError;
+
+/// What is wrong with a line.
+#[derive(Drop)]
+pub enum Trouble {
+    /// It is none of strace.
+    Unread(Unread),
+    /// It is the end of a call without a beginning.
+    Unbegun,
+    /// The process begins another call, and one that it had begun has no end.
+    Lost(CallText),
+}
+
+/// Whether the calls of a name are told, even where it is not known what they ask for.
+fn is_told(name: CallName) -> bool {
+    match name {
+        CallName::Mount
+        | CallName::Umount
+        | CallName::Umount2
+        | CallName::PivotRoot
+        | CallName::MountSetattr
+        | CallName::OpenTree
+        | CallName::MoveMount
+        | CallName::Fsmount
+        | CallName::Unshare
+        | CallName::Setns
+        | CallName::Chroot => true,
+        _ => false,
+    }
+}
+
+/// The process of a line, where it is one of a process.
+fn process_of(line: &StraceLine<'_>) -> Option<u64> {
+    match line {
+        StraceLine::Call(call) => Some(call.process.unwrap_or(0)),
+        StraceLine::Unfinished { process, .. } => Some(process.unwrap_or(0)),
+        StraceLine::Exited { process } => Some(process.unwrap_or(0)),
+        _ => None,
+    }
+}
+
+/// What is left of a halt: nothing but want of memory.
+pub(crate) fn but_memory(played: Result<(), Halt>) -> Result<(), AllocError> {
+    match played {
+        Err(Halt::NoMemory) => Err(AllocError),
+        Ok(()) | Err(Halt::Told(_)) => Ok(()),
+    }
+}
+
+impl Player {
+    /// Begins to tell a call.
+    pub(crate) fn begin_account(&mut self, line: u64, process: u64, marks: bool) {
+        let caller = Caller {
+            line,
+            process,
+            space: self.process_spaces(process).mount,
+            next_space: self.stage.world().next_space,
+            marks,
+        };
+        self.account = Account::new(self.alloc, self.form, caller);
+    }
+
+    /// Notes why a call is not played to its end, and answers what came of it.
+    pub(crate) fn outcome_of(
+        &mut self,
+        played: Result<(), Halt>,
+    ) -> Result<CallOutcome, AllocError> {
+        match played {
+            Ok(()) => Ok(CallOutcome::Played),
+            Err(Halt::NoMemory) => Err(AllocError),
+            Err(Halt::Told(Told::Refused(refusal))) => {
+                self.account.note_of(b"the model: no ", refusal.name())?;
+                Ok(CallOutcome::Differing)
+            }
+            Err(Halt::Told(why)) => {
+                self.account
+                    .note_of(b"not played: ", why.text().as_bytes())?;
+                Ok(CallOutcome::Told)
+            }
+        }
+    }
+
+    /// Counts what came of a call.
+    fn count(&mut self, outcome: CallOutcome) {
+        let tally = &mut self.tally;
+        match outcome {
+            CallOutcome::Played => tally.played = tally.played.saturating_add(1),
+            CallOutcome::Told => tally.told = tally.told.saturating_add(1),
+            CallOutcome::Failed => tally.failed = tally.failed.saturating_add(1),
+            CallOutcome::Differing => {
+                tally.told = tally.told.saturating_add(1);
+                tally.differing = tally.differing.saturating_add(1);
+            }
+        }
+    }
+
+    /// Appends what is told of a call.
+    fn tell(
+        &mut self,
+        out: &mut Vec<u8>,
+        said: &[u8],
+        outcome: CallOutcome,
+    ) -> Result<(), AllocError> {
+        let elsewhere = self.account.elsewhere();
+        self.tally.elsewhere = self.tally.elsewhere.saturating_add(elsewhere);
+        if self.only_leaks && elsewhere == 0 && outcome != CallOutcome::Differing {
+            return Ok(());
+        }
+        push_account(out, self.form, &self.account, said, outcome)
+    }
+
+    /// Tells and counts a call that is always told.
+    pub(crate) fn tell_loud(
+        &mut self,
+        out: &mut Vec<u8>,
+        call: &TracedCall<'_>,
+        outcome: CallOutcome,
+    ) -> Result<(), AllocError> {
+        self.count(outcome);
+        let said = call_written(self.alloc, call)?;
+        self.tell(out, &said, outcome)
+    }
+
+    /// Tells a call that is told only where it changes something.
+    fn tell_quiet(&mut self, out: &mut Vec<u8>, said: &[u8]) -> Result<(), AllocError> {
+        if self.account.changes().is_empty()
+            && self.account.commands().is_empty()
+            && self.account.notes().is_empty()
+        {
+            return Ok(());
+        }
+        self.tell(out, said, CallOutcome::Played)
+    }
+
+    /// Plays a call that is always told.
+    fn play_loud<A: Ahead>(
+        &mut self,
+        process: u64,
+        call: &TracedCall<'_>,
+        asked: &SystemCall<'_>,
+        ahead: &mut A,
+        out: &mut Vec<u8>,
+    ) -> Result<(), AllocError> {
+        let outcome = match &call.result {
+            CallResult::Failed {
+                error,
+                notes: _notes,
+            } => {
+                let asked = self.ask_failed(process, asked, error.bytes());
+                but_memory(asked)?;
+                CallOutcome::Failed
+            }
+            of => {
+                let again = match asked {
+                    SystemCall::PivotRoot { .. } => is_named_again(self.alloc, ahead, process)?,
+                    _ => false,
+                };
+                let played = self.play_asked(process, asked, of, again);
+                self.outcome_of(played)?
+            }
+        };
+        self.tell_loud(out, call, outcome)
+    }
+
+    /// Plays another call.
+    fn play_quiet(
+        &mut self,
+        process: u64,
+        call: &TracedCall<'_>,
+        asked: &SystemCall<'_>,
+        out: &mut Vec<u8>,
+    ) -> Result<(), AllocError> {
+        if let CallResult::Returned { .. } = &call.result {
+            let played = self.play_asked(process, asked, &call.result, false);
+            but_memory(played)?;
+            let said = call_written_if(self, call)?;
+            self.tell_quiet(out, &said)?;
+        }
+        Ok(())
+    }
+
+    /// Tells a call of which it is not known what it asks for, if its name is one that is told.
+    fn tell_unknown(
+        &mut self,
+        call: &TracedCall<'_>,
+        why: Unknown,
+        out: &mut Vec<u8>,
+    ) -> Result<(), AllocError> {
+        match call_named(call.name.bytes()) {
+            Some(name) if is_told(name) => {
+                let outcome = self.outcome_of(Err(Halt::Told(Told::Unknown(why))))?;
+                self.tell_loud(out, call, outcome)
+            }
+            _ => Ok(()),
+        }
+    }
+
+    /// Plays a call.
+    fn play_call<A: Ahead>(
+        &mut self,
+        number: u64,
+        call: &TracedCall<'_>,
+        ahead: &mut A,
+        out: &mut Vec<u8>,
+    ) -> Result<(), AllocError> {
+        let process = call.process.unwrap_or(0);
+        self.begin_account(number, process, true);
+        match asked_by_call(call) {
+            AskedCall::Silent => Ok(()),
+            AskedCall::Unknown(why) => self.tell_unknown(call, why, out),
+            AskedCall::Call(SystemCall::Clone(words)) => self.play_clone(process, call, words, out),
+            AskedCall::Call(asked) if is_loud(&asked) => {
+                self.play_loud(process, call, &asked, ahead, out)
+            }
+            AskedCall::Call(asked) => self.play_quiet(process, call, &asked, out),
+        }
+    }
+
+    /// Plays the end of a process.
+    fn play_end(&mut self, number: u64, process: u64, out: &mut Vec<u8>) -> Result<(), AllocError> {
+        self.begin_account(number, process, false);
+        let ended = self.end_process(process);
+        but_memory(ended)?;
+        self.tell_quiet(out, b"exited")
+    }
+
+    /// Plays a line of which a beginning and an end were joined, if they were.
+    fn play_joined<A: Ahead>(
+        &mut self,
+        number: u64,
+        line: &StraceLine<'_>,
+        joined: JoinedLine,
+        ahead: &mut A,
+        out: &mut Vec<u8>,
+    ) -> Result<Option<Trouble>, AllocError> {
+        match (joined, line) {
+            (JoinedLine::Whole, StraceLine::Call(call)) => {
+                self.play_call(number, call, ahead, out)?;
+                Ok(None)
+            }
+            (JoinedLine::Whole, StraceLine::Bad(why)) => Ok(Some(Trouble::Unread(*why))),
+            (JoinedLine::Ended(text), StraceLine::Resumed { process, .. }) => {
+                self.play_ended(number, *process, &text, ahead, out)
+            }
+            (JoinedLine::Begun(Some(lost)), _) => Ok(Some(Trouble::Lost(lost))),
+            (JoinedLine::Unbegun, _) => Ok(Some(Trouble::Unbegun)),
+            (JoinedLine::Over(_lost), StraceLine::Exited { process }) => {
+                self.play_end(number, process.unwrap_or(0), out)?;
+                Ok(None)
+            }
+            (JoinedLine::Over(_lost), StraceLine::Superseded { process, by }) => {
+                self.processes.supersede(process.unwrap_or(0), *by)?;
+                Ok(None)
+            }
+            _ => Ok(None),
+        }
+    }
+
+    /// Plays a call of which the end has come.
+    fn play_ended<A: Ahead>(
+        &mut self,
+        number: u64,
+        process: Option<u64>,
+        text: &CallText,
+        ahead: &mut A,
+        out: &mut Vec<u8>,
+    ) -> Result<Option<Trouble>, AllocError> {
+        match read_call(process, text.bytes()) {
+            StraceLine::Call(call) => {
+                self.play_call(number, &call, ahead, out)?;
+                Ok(None)
+            }
+            StraceLine::Bad(why) => Ok(Some(Trouble::Unread(why))),
+            _ => Ok(None),
+        }
+    }
+
+    /// Plays a line of a trace, given its number from 1 on and the lines behind it, and appends what is told of it. Answers what is wrong
+    /// with it, if something is. Fails for want of memory alone.
+    pub fn play_line<A: Ahead>(
+        &mut self,
+        number: u64,
+        line: &[u8],
+        ahead: &mut A,
+        out: &mut Vec<u8>,
+    ) -> Result<Option<Trouble>, AllocError> {
+        let read = read_strace_line(line);
+        let joined = self.beginnings.join(&read)?;
+        if let Some(process) = process_of(&read) {
+            self.adopt(number, process, ahead, out)?;
+        }
+        let trouble = self.play_joined(number, &read, joined, ahead, out)?;
+        if trouble.is_some() {
+            self.note_bad();
+        }
+        Ok(trouble)
+    }
+
+    /// Counts a line that is none.
+    pub fn note_bad(&mut self) {
+        self.tally.bad = self.tally.bad.saturating_add(1);
+    }
+
+    /// Takes a call that has begun and has no end, with its process, once all lines were played.
+    pub fn take_unfinished(&mut self) -> Option<(u64, CallText)> {
+        let found = self.beginnings.take_any();
+        if found.is_some() {
+            self.note_bad();
+        }
+        found
+    }
+}
+
+/// A call as it is told, where something is told of it.
+fn call_written_if(player: &Player, call: &TracedCall<'_>) -> Result<Vec<u8>, AllocError> {
+    if player.account.changes().is_empty() && player.account.commands().is_empty() {
+        return Ok(Vec::new(player.alloc));
+    }
+    call_written(player.alloc, call)
+}
