@@ -7,6 +7,8 @@ use mt_render::wording::push_shown;
 use mt_skel::fault::Fault as Refusal;
 use mt_trace::player::Player;
 use mt_trace::spots::names_inside;
+use mt_trace::standing::Standing;
+use mt_trace::told::Halt;
 
 /// The first number that is none of a namespace that a model may have.
 const MOST_SPACES: u64 = 1_048_576;
@@ -38,13 +40,21 @@ fn push_process(text: &mut Vec<u8>, player: &Player, process: u64) -> Result<(),
     text.extend_from_slice(b" root ")?;
     push_number(text, root.place.mount)?;
     text.extend_from_slice(b" ")?;
-    if player.world().forest.get(root.place.mount).is_some() {
-        push_path(text, &names_inside(player.world(), root)?)?;
-    } else {
-        text.extend_from_slice(b"gone")?;
-    }
+    push_root(text, player, root)?;
     text.extend_from_slice(b"\n")?;
     Ok(())
+}
+
+/// Appends the directory of a root in its filesystem, if its mount is there.
+fn push_root(text: &mut Vec<u8>, player: &Player, root: &Standing) -> Result<(), Refusal> {
+    if player.world().forest.get(root.place.mount).is_none() {
+        return Ok(text.extend_from_slice(b"gone")?);
+    }
+    match names_inside(player.world(), root) {
+        Ok(names) => Ok(push_path(text, &names)?),
+        Err(Halt::NoMemory) => Err(Refusal::NoMemory),
+        Err(Halt::Told(_)) => Ok(text.extend_from_slice(b"gone")?),
+    }
 }
 
 /// Appends the tables of all namespaces, and where the processes have their roots.

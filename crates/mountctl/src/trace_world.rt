@@ -1,4 +1,6 @@
 //! The world that a trace is played on.
+ghost use Rattle.mt_propagate.specs.World.{world_view};
+ghost use Rattle.mt_propagate.specs.WellFormed.{IsWellFormed};
 
 use crate::PROGRAM;
 use crate::fault::Fault;
@@ -9,8 +11,8 @@ use crate::sources::TableFile;
 use crate::tables::{named_files, script_of_files};
 use crate::task::WordFault;
 use crate::what_if::numbers_in;
+use mt_attempt::attempt::try_step;
 use mt_book::command::Command;
-use mt_book::step::step;
 use mt_import::script::Script;
 use mt_lines::words::Pieces;
 use mt_propagate::world::World;
@@ -20,6 +22,7 @@ use mt_skel::name::Label;
 use mt_trace::opening::GivenSpace;
 use mt_what_if::scene::begin;
 use std::alloc::{AllocError, Global};
+use std::marker::Model;
 use std::process::ExitCode;
 
 /// The world that a trace is played on, and what is known of it.
@@ -32,6 +35,17 @@ pub(crate) struct TraceWorld {
     pub(crate) spaces: Vec<GivenSpace>,
     /// The lines that make it in a new server; none where they were not asked for.
     pub(crate) script: Vec<u8>,
+}
+
+impl Model for TraceWorld {
+    ghost use Rattle.mt_propagate.specs.World.{WorldView, world_view};
+    ghost use Rattle.mt_propagate.specs.WellFormed.{IsWellFormed};
+
+    ghost Value = { WorldView };
+
+    ghost view = { λ t. world_view t.world };
+
+    ghost invariant = { λ t. IsWellFormed (world_view t.world) };
 }
 
 impl Drop for TraceWorld {
@@ -94,7 +108,10 @@ pub(crate) fn world_of_tables(rt: &HostRuntime, words: &[&str]) -> Result<TraceW
         }
     }
     let trial = &begun.scene.trial;
-    let (Ok(world), Ok(filesystems)) = (trial.start().copy(), copies(alloc, trial.names())) else {
+    let Ok(filesystems) = copies(alloc, trial.names()) else {
+        return Err(no_memory(rt));
+    };
+    let Ok(world) = trial.start().copy() else {
         return Err(no_memory(rt));
     };
     Ok(TraceWorld {
@@ -111,11 +128,14 @@ fn do_line(
     world: &mut World,
     names: &mut Vec<Label>,
     line: &[u8],
-) -> Result<(), Refusal> {
+) -> Result<(), Refusal>
+    requires { IsWellFormed (world_view world.old) }
+    ensures { IsWellFormed (world_view world.new) }
+{
     let Request::Run(command) = read_request(alloc, line)? else {
         return Ok(());
     };
-    let _reply = step(world, &command)?;
+    let _reply = try_step(world, &command)?;
     if let Command::MakeFs { name, .. } = &command {
         names.push(name.copy()?)?;
     }

@@ -1,2 +1,3 @@
 pub mod CallNameLaws
 pub mod ChangeLaws
+pub mod SpotLaws

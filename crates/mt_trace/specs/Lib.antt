@@ -11,5 +11,6 @@ pub mod Joining
 pub mod Laws
 pub mod OpenFiles
 pub mod Stages
+pub mod Standings
 pub mod Walks
 pub mod Texts

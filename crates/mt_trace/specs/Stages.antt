@@ -7,7 +7,7 @@ use Rattle.mt_propagate.specs.WellFormed.{IsWellFormed}
 use Rattle.mt_propagate.specs.Touched.{SinceView, since_of}
 use Rattle.mt_book.specs.declared.command.Command.{Command}
 use Rattle.mt_book.specs.declared.command.Reply.{Reply}
-use Rattle.mt_what_if.specs.Trials.{tried}
+use Rattle.mt_attempt.specs.Attempts.{tried}
 use Rattle.mt_trace.specs.declared.stage.Spare.{Spare}
 use Rattle.mt_trace.specs.declared.stage.Spare.TheVariants.{Gone, Level, Behind}
 

@@ -101,7 +101,7 @@ impl Player {
 
     /// What the model is asked of a call of mount(2).
     fn mount_asked(
-        &mut self,
+        &self,
         process: u64,
         source: &StringArgument<'_>,
         target: &StringArgument<'_>,
@@ -212,7 +212,7 @@ impl Player {
 
     /// What the model is asked of a call, if it can be.
     fn asked_of(
-        &mut self,
+        &self,
         process: u64,
         asked: &SystemCall<'_>,
         are_there: bool,

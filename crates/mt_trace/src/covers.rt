@@ -28,6 +28,11 @@ pub fn mount_copied(originals: &[Mount], next: MountId, id: MountId) -> Option<M
     Some(next.saturating_add(at as u64))
 }
 
+/// Whether both mounts of a cover are there.
+fn is_kept(world: &World, cover: &Cover) -> bool {
+    world.forest.get(cover.mount).is_some() && world.forest.get(cover.place.mount).is_some()
+}
+
 impl Covers {
     /// None.
     pub fn new(alloc: Global) -> Covers {
@@ -118,9 +123,7 @@ impl Covers {
 
     /// Forgets mounts that are not there any more.
     pub fn sweep(&mut self, world: &World) {
-        self.covers.retain(|cover| {
-            world.forest.get(cover.mount).is_some() && world.forest.get(cover.place.mount).is_some()
-        });
+        self.covers.retain(|cover| is_kept(world, cover));
         self.moved.retain(|id| world.forest.get(*id).is_some());
     }
 }

@@ -1,6 +1,7 @@
 //! The filesystems of a world, and which of them a mount of a type shows.
 
 use crate::process_spaces::ProcessSpaces;
+use crate::spots::filesystems_shown;
 use mt_info::print::push_number;
 use mt_info::row::Row;
 use mt_lines::words::Pieces;
@@ -58,9 +59,14 @@ pub struct Filesystems {
     made: u64,
 }
 
-/// Whether a filesystem has a type and a source.
-fn is_alike(world: &World, fs: FsId, kind: &[u8], source: &[u8]) -> bool {
-    world.skel.kind(fs).bytes() == kind && world.skel.source(fs).bytes() == source
+/// Whether the filesystem of a name has a type and a source.
+fn is_alike(world: &World, name: &Label, kind: &[u8], source: &[u8]) -> bool {
+    match world.skel.fs(name) {
+        Some(fs) => {
+            world.skel.kind(fs).bytes() == kind && world.skel.source(fs).bytes() == source
+        }
+        None => false,
+    }
 }
 
 /// What tells one filesystem of a type from others, behind the type.
@@ -258,15 +264,20 @@ impl Filesystems {
         if self.names.len() < FEW {
             return Ok(None);
         }
-        let mut shown = Vec::new(self.alloc);
-        for mount in &world.forest.mounts()? {
-            shown.push(world.skel.fs_of(mount.root))?;
-        }
+        let shown = filesystems_shown(world)?;
         for fs in &self.spent {
-            if is_alike(world, *fs, kind, source) && !shown.contains(fs) {
+            if !shown.contains(fs) && self.is_named_alike(world, *fs, kind, source) {
                 return Ok(Some(*fs));
             }
         }
         Ok(None)
+    }
+
+    /// Whether a filesystem has a name, a type and a source.
+    fn is_named_alike(&self, world: &World, fs: FsId, kind: &[u8], source: &[u8]) -> bool {
+        match self.names.get(&fs) {
+            Some(name) => is_alike(world, name, kind, source),
+            None => false,
+        }
     }
 }

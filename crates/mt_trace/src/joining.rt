@@ -101,6 +101,16 @@ fn begins_call(name: &[u8], beginning: &[u8]) -> bool
     }
 }
 
+/// Whether a beginning is one of a call of one of these names.
+fn begins_one_of(names: &[&[u8]], beginning: &[u8]) -> bool {
+    for name in names {
+        if begins_call(name, beginning) {
+            return true;
+        }
+    }
+    false
+}
+
 impl Beginnings {
     /// None.
     pub fn new(alloc: Global) -> Beginnings
@@ -157,10 +167,7 @@ impl Beginnings {
     pub fn only_of(&self, names: &[&[u8]]) -> Option<(u64, &[u8])> {
         let mut found = None;
         for (process, beginning) in self.waiting.iter() {
-            if names
-                .iter()
-                .any(|name| begins_call(name, beginning.bytes()))
-            {
+            if begins_one_of(names, beginning.bytes()) {
                 if found.is_some() {
                     return None;
                 }

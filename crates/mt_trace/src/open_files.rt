@@ -5,7 +5,9 @@ ghost use Rattle.std.specs.Option.{option_copied};
 ghost use Rattle.std.specs.Ordering.{nat_cmp};
 ghost use Rattle.mt_trace.specs.OpenFiles.{opened_at, without_descriptor, closed_between, executed};
 
+use crate::process_spaces::SpaceKind;
 use crate::standing::Reached;
+use mt_mounts::mount::MountId;
 use mt_skel::fault::Fault;
 use std::alloc::{AllocError, Global};
 use std::collections::BTreeMap;
@@ -108,10 +110,17 @@ impl OpenFiles {
         }
     }
 
-    /// Whether one of them leads to what a test holds of.
-    pub fn lead_to<F: Fn(&Reached) -> bool>(&self, test: F) -> bool
-        requires { F.IsAlwaysCallable test }
-    {
-        self.open.values().any(|opened| test(&opened.reached))
+    /// Whether one of them leads to the file of this namespace.
+    pub fn lead_to_space(&self, kind: SpaceKind, number: u64) -> bool {
+        self.open
+            .values()
+            .any(|opened| opened.reached.is_space(kind, number))
+    }
+
+    /// Whether one of them leads to one of these mounts.
+    pub fn lead_to_mount(&self, mounts: &[MountId]) -> bool {
+        self.open
+            .values()
+            .any(|opened| opened.reached.is_on(mounts))
     }
 }

@@ -1,4 +1,6 @@
 //! The beginning of a trace: the tables, and what is known besides.
+ghost use Rattle.mt_propagate.specs.World.{world_view};
+ghost use Rattle.mt_propagate.specs.WellFormed.{IsWellFormed};
 
 use crate::account::{Account, TraceForm};
 use crate::covers::Covers;
@@ -9,7 +11,7 @@ use crate::player::{Player, nobody};
 use crate::process_spaces::SpaceKind;
 use crate::processes::Processes;
 use crate::spaces::Spaces;
-use crate::spots::root_place_of;
+use crate::spots::space_root;
 use crate::stage::Stage;
 use crate::standing::{Reached, Standing};
 use crate::tally::Tally;
@@ -72,7 +74,9 @@ impl Player {
         opening: TraceStart<'_>,
         form: TraceForm,
         only_leaks: bool,
-    ) -> Result<Player, Fault> {
+    ) -> Result<Player, Fault>
+        requires { IsWellFormed (world_view opening.world.now) }
+    {
         let mut processes = Processes::new(alloc);
         let spaces = spaces_of(alloc, &mut processes, opening.spaces)?;
         let table = table_of(opening.world, 1)?;
@@ -119,8 +123,7 @@ impl Player {
     /// The same, or why the path is not known.
     fn try_link(&mut self, path: &[u8], target: &[u8]) -> Result<(), Halt> {
         self.meet(NO_PROCESS)?;
-        let world = self.stage.world();
-        let Some(place) = world.forest.root(1).and_then(|id| root_place_of(world, id)) else {
+        let Some(place) = space_root(self.stage.world(), 1) else {
             return Ok(());
         };
         let start = Reached::Standing(Standing::at(self.alloc, place));

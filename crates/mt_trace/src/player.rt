@@ -8,9 +8,7 @@ use crate::links::Links;
 use crate::process_spaces::{ProcessSpaces, SpaceKind};
 use crate::processes::Processes;
 use crate::spaces::Spaces;
-use crate::spots::{
-    names_inside, path_of_place, root_place_of, settled_standing, shown_filesystem,
-};
+use crate::spots::{names_inside, path_of_place, settled_standing, shown_filesystem, space_root};
 use crate::stage::Stage;
 use crate::standing::{Reached, Standing};
 use crate::string_argument::StringArgument;
@@ -116,8 +114,7 @@ impl Player {
         if self.processes.has(process) {
             return Ok(());
         }
-        let world = self.stage.world();
-        let Some(place) = world.forest.root(1).and_then(|id| root_place_of(world, id)) else {
+        let Some(place) = space_root(self.stage.world(), 1) else {
             return Err(Halt::Told(Told::SpaceUnknown));
         };
         self.processes
@@ -161,7 +158,7 @@ impl Player {
 
     /// Does a command that makes a filesystem or a directory.
     pub(crate) fn grow(&mut self, command: &Command) -> Result<Reply, Halt> {
-        match self.stage.grow(command) {
+        match self.stage.run(command) {
             Ok(reply) => {
                 self.account.enter(command)?;
                 Ok(reply)
@@ -198,38 +195,52 @@ impl Player {
         }
     }
 
-    /// Notes the current directory of a process, if it was not known and strace tells it.
-    fn learn(&mut self, process: u64, at: &Descriptor<'_>) -> Result<(), Halt> {
-        let is_known = match self.processes.directories(process) {
+    /// Notes the current directory of a process, if it was not known and strace tells it. Fails for want of memory alone.
+    pub(crate) fn learn(&mut self, process: u64, at: &Descriptor<'_>) -> Result<(), Halt> {
+        match self.current_told(process, at) {
+            Ok(Some(current)) => {
+                self.processes.set_current(process, current);
+                Ok(())
+            }
+            Ok(None) | Err(Halt::Told(_)) => Ok(()),
+            Err(Halt::NoMemory) => Err(Halt::NoMemory),
+        }
+    }
+
+    /// Where strace tells the current directory of a process to be, if it is not known.
+    fn current_told(&self, process: u64, at: &Descriptor<'_>) -> Result<Option<Standing>, Halt> {
+        if at.number != DescriptorNumber::CurrentDirectory || self.knows_current(process) {
+            return Ok(None);
+        }
+        match self.path_of(&at.path)? {
+            Some(path) => Ok(Some(self.lookup(process).told(&path)?)),
+            None => Ok(None),
+        }
+    }
+
+    /// Whether the current directory of a process is known, or there is no such process.
+    fn knows_current(&self, process: u64) -> bool {
+        match self.processes.directories(process) {
             Some(directories) => directories.is_known,
             None => true,
-        };
-        if is_known || at.number != DescriptorNumber::CurrentDirectory {
-            return Ok(());
         }
-        let Some(path) = self.path_of(&at.path)? else {
-            return Ok(());
-        };
-        let current = self.lookup(process).told(&path)?;
-        if let Some(directories) = self.processes.directories_mut(process) {
-            directories.current = current;
-            directories.is_known = true;
+    }
+
+    /// The current directory of a process.
+    fn current(&self, process: u64, at: &Descriptor<'_>) -> Result<Reached, Halt> {
+        if let Some(current) = self.current_told(process, at)? {
+            return Ok(Reached::Standing(current));
         }
-        Ok(())
+        match self.processes.directories(process) {
+            Some(directories) => Ok(Reached::Standing(directories.current.copy()?)),
+            None => Err(Halt::Told(Told::DescriptorUnknown)),
+        }
     }
 
     /// What a descriptor leads to.
-    pub(crate) fn descriptor(
-        &mut self,
-        process: u64,
-        at: &Descriptor<'_>,
-    ) -> Result<Reached, Halt> {
-        self.learn(process, at)?;
+    pub(crate) fn descriptor(&self, process: u64, at: &Descriptor<'_>) -> Result<Reached, Halt> {
         match at.number {
-            DescriptorNumber::CurrentDirectory => match self.processes.directories(process) {
-                Some(directories) => Ok(Reached::Standing(directories.current.copy()?)),
-                None => Err(Halt::Told(Told::DescriptorUnknown)),
-            },
+            DescriptorNumber::CurrentDirectory => self.current(process, at),
             DescriptorNumber::Open(n) => self.opened(process, n, at),
             DescriptorNumber::Negative => Err(Halt::Told(Told::DescriptorUnknown)),
         }
@@ -237,11 +248,7 @@ impl Player {
 
     /// What an open descriptor leads to: by the call that has opened it, or else by the path that strace tells.
     fn opened(&self, process: u64, n: u64, at: &Descriptor<'_>) -> Result<Reached, Halt> {
-        if let Some(opened) = self
-            .processes
-            .files(process)
-            .and_then(|files| files.opened(n))
-        {
+        if let Some(opened) = self.processes.opened(process, n) {
             return Ok(opened.reached.copy()?);
         }
         match self.path_of(&at.path)? {
@@ -252,25 +259,24 @@ impl Player {
 
     /// What a path of a process leads to that begins at a descriptor.
     pub(crate) fn reach(
-        &mut self,
+        &self,
         process: u64,
         at: &Descriptor<'_>,
         path: &StringArgument<'_>,
         follows: bool,
     ) -> Result<Reached, Halt> {
         let path = self.text(path)?;
-        self.learn(process, at)?;
-        if path.starts_with(b"/") {
-            let nowhere = Reached::Space(SpaceKind::Mount, 0);
-            return self.lookup(process).reached(nowhere, &path, follows);
-        }
-        let start = self.descriptor(process, at)?;
+        let start = if path.starts_with(b"/") {
+            Reached::Space(SpaceKind::Mount, 0)
+        } else {
+            self.descriptor(process, at)?
+        };
         self.lookup(process).reached(start, &path, follows)
     }
 
     /// The directory or file that a path of a process leads to. Told as [`Told::NoPlace`] if it leads to something else.
     pub(crate) fn stand(
-        &mut self,
+        &self,
         process: u64,
         at: &Descriptor<'_>,
         path: &StringArgument<'_>,

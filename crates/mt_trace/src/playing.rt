@@ -39,7 +39,25 @@ impl Player {
             path,
             is_deleted: *is_deleted,
         };
+        self.learn_all(process, asked)?;
         self.play_mounts(process, asked, returned, is_named_again)
+    }
+
+    /// Notes the current directory of a process, if it was not known and strace tells it with a call.
+    fn learn_all(&mut self, process: u64, asked: &SystemCall<'_>) -> Result<(), Halt> {
+        match asked {
+            SystemCall::MountSetattr { at, .. }
+            | SystemCall::OpenTree { at, .. }
+            | SystemCall::Execve { at, .. }
+            | SystemCall::Open { at, .. }
+            | SystemCall::Link { at, .. }
+            | SystemCall::Fchdir { at } => self.learn(process, at),
+            SystemCall::MoveMount { from, to, .. } => {
+                self.learn(process, from)?;
+                self.learn(process, to)
+            }
+            _ => Ok(()),
+        }
     }
 
     /// Plays a call that changes mounts, or another one.

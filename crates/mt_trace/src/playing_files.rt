@@ -204,11 +204,7 @@ impl Player {
         let DescriptorNumber::Open(n) = at.number else {
             return Ok(());
         };
-        let reached = match self
-            .processes
-            .files(process)
-            .and_then(|files| files.opened(n))
-        {
+        let reached = match self.processes.opened(process, n) {
             Some(opened) => Some(opened.reached.copy()?),
             None => None,
         };

@@ -238,7 +238,8 @@ impl Player {
             return Err(Halt::Told(Told::OtherRoot));
         }
         self.play_pivot(new, old, root.place.mount, is_named_again)?;
-        self.move_roots(&root, new)
+        self.processes.move_roots(&root, new);
+        Ok(())
     }
 
     /// Makes a mount the root of its namespace.
@@ -266,22 +267,6 @@ impl Player {
         })?;
         if to != old {
             self.covers.put(new, root)?;
-        }
-        Ok(())
-    }
-
-    /// The roots and current directories that were the old root become the new one.
-    fn move_roots(&mut self, root: &Standing, new: Place) -> Result<(), Halt> {
-        let alloc = self.alloc;
-        for number in &self.processes.all_directories()? {
-            if let Some(directories) = self.processes.shared_directories(*number) {
-                if directories.root.is_same(root) {
-                    directories.root = Standing::at(alloc, new);
-                }
-                if directories.current.is_same(root) {
-                    directories.current = Standing::at(alloc, new);
-                }
-            }
         }
         Ok(())
     }

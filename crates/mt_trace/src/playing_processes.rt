@@ -6,7 +6,7 @@ use crate::player::Player;
 use crate::process::Directories;
 use crate::process_calls::here;
 use crate::process_spaces::{ProcessSpaces, SpaceKind};
-use crate::spots::{root_place_of, shown_filesystem};
+use crate::spots::{filesystems_shown, shown_filesystem, space_root};
 use crate::standing::{Reached, Standing};
 use crate::string_argument::StringArgument;
 use crate::told::{Halt, Told};
@@ -125,11 +125,8 @@ impl Player {
         if bound.is_empty() {
             return Ok(());
         }
-        let mut shown = Vec::new(self.alloc);
-        for mount in &self.stage.world().forest.mounts()? {
-            shown.push(self.stage.world().skel.fs_of(mount.root))?;
-        }
-        self.spaces.unbind_files(|fs| !shown.contains(&fs));
+        let shown = filesystems_shown(self.stage.world())?;
+        self.spaces.keep_files(&shown);
         for space in &bound {
             self.leave(*space)?;
         }
@@ -184,18 +181,13 @@ impl Player {
     pub(crate) fn enter_space(&mut self, process: u64, at: &Descriptor<'_>) -> Result<(), Halt> {
         let (kind, number) = self.space_behind(process, at)?;
         let was = self.process_spaces(process);
-        self.processes
-            .set_spaces(process, was.entered(kind, number));
         if kind != SpaceKind::Mount {
+            self.processes
+                .set_spaces(process, was.entered(kind, number));
             return Ok(());
         }
         let world = self.stage.world();
-        let Some(place) = world
-            .forest
-            .root(number)
-            .and_then(|id| root_place_of(world, id))
-        else {
-            self.processes.set_spaces(process, was);
+        let Some(place) = space_root(world, number) else {
             return Err(Halt::Told(Told::SpaceUnknown));
         };
         let top = self.covers.top(world, place);
@@ -204,6 +196,8 @@ impl Player {
             current: Standing::at(self.alloc, top),
             is_known: true,
         };
+        self.processes
+            .set_spaces(process, was.entered(kind, number));
         self.processes.put_directories(process, directories)?;
         self.leave(was.mount)
     }
@@ -215,7 +209,7 @@ impl Player {
         path: &StringArgument<'_>,
     ) -> Result<(), Halt> {
         let standing = self.stand(process, &here(), path, true)?;
-        self.put_current(process, standing);
+        self.processes.set_current(process, standing);
         Ok(())
     }
 
@@ -227,18 +221,10 @@ impl Player {
     ) -> Result<(), Halt> {
         match self.descriptor(process, at)? {
             Reached::Standing(standing) => {
-                self.put_current(process, standing);
+                self.processes.set_current(process, standing);
                 Ok(())
             }
             Reached::Space(_, _) | Reached::Context(_) => Err(Halt::Told(Told::NoPlace)),
-        }
-    }
-
-    /// Says where the current directory of a process is.
-    fn put_current(&mut self, process: u64, standing: Standing) {
-        if let Some(directories) = self.processes.directories_mut(process) {
-            directories.current = standing;
-            directories.is_known = true;
         }
     }
 
@@ -249,9 +235,7 @@ impl Player {
         path: &StringArgument<'_>,
     ) -> Result<(), Halt> {
         let standing = self.stand(process, &here(), path, true)?;
-        if let Some(directories) = self.processes.directories_mut(process) {
-            directories.root = standing;
-        }
+        self.processes.set_root(process, standing);
         Ok(())
     }
 
@@ -281,7 +265,7 @@ impl Player {
         self.processes.end(process);
         self.ended = self.ended.saturating_add(1);
         if self.ended % ENDS_BETWEEN == 0 {
-            self.processes.forget_names();
+            self.processes.forget_names()?;
         }
         self.leave(space)?;
         self.end_trees()

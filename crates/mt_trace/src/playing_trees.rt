@@ -3,7 +3,7 @@
 use crate::call_flags::{MoveWords, TreeWords};
 use crate::open_files::Opened;
 use crate::player::Player;
-use crate::spots::{root_place_of, space_of_mount};
+use crate::spots::{space_of_mount, space_root};
 use crate::standing::{Context, Reached, Standing};
 use crate::string_argument::StringArgument;
 use crate::system_call::ContextSetting;
@@ -73,11 +73,7 @@ impl Player {
         let DescriptorNumber::Open(n) = at.number else {
             return Err(Halt::Told(Told::DescriptorUnknown));
         };
-        match self
-            .processes
-            .files(process)
-            .and_then(|files| files.opened(n))
-        {
+        match self.processes.opened(process, n) {
             Some(opened) => match &opened.reached {
                 Reached::Context(context) => Ok(context.copy()?),
                 Reached::Standing(_) | Reached::Space(_, _) => Err(Halt::Told(
@@ -128,11 +124,7 @@ impl Player {
         let DescriptorNumber::Open(n) = at.number else {
             return Ok(());
         };
-        let closes_on_exec = match self
-            .processes
-            .files(process)
-            .and_then(|files| files.opened(n))
-        {
+        let closes_on_exec = match self.processes.opened(process, n) {
             Some(opened) => opened.closes_on_exec,
             None => false,
         };
@@ -150,12 +142,7 @@ impl Player {
         let mut name = Vec::from_slice(self.alloc, b"tree-of-")?;
         push_number(&mut name, process)?;
         self.spaces.enter_tree(tree, &name)?;
-        let world = self.stage.world();
-        let Some(place) = world
-            .forest
-            .root(tree)
-            .and_then(|id| root_place_of(world, id))
-        else {
+        let Some(place) = space_root(self.stage.world(), tree) else {
             return Err(Halt::Told(Told::Gone));
         };
         let reached = Reached::Standing(Standing::at(self.alloc, place));

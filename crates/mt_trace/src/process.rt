@@ -2,7 +2,9 @@
 
 use crate::process_spaces::ProcessSpaces;
 use crate::standing::{Reached, Standing};
+use mt_mounts::mount::Place;
 use mt_skel::fault::Fault;
+use std::alloc::Global;
 
 /// The root and the current directory of a process, or of several that share them.
 #[derive(Drop)]
@@ -23,6 +25,16 @@ impl Directories {
             current: self.current.copy()?,
             is_known: self.is_known,
         })
+    }
+
+    /// Where they are this root, they become another place.
+    pub fn move_root(&mut self, alloc: Global, root: &Standing, to: Place) {
+        if self.root.is_same(root) {
+            self.root = Standing::at(alloc, to);
+        }
+        if self.current.is_same(root) {
+            self.current = Standing::at(alloc, to);
+        }
     }
 }
 

@@ -8,7 +8,7 @@ use crate::process_spaces::{ProcessSpaces, SpaceKind};
 use crate::sharing::{Shared, enter, join, release};
 use crate::standing::{Reached, Standing};
 use crate::told::{Halt, Told};
-use mt_mounts::mount::{MountId, SpaceId};
+use mt_mounts::mount::{MountId, Place, SpaceId};
 use std::alloc::{AllocError, Global};
 use std::collections::BTreeMap;
 
@@ -98,11 +98,30 @@ impl Processes {
         Some(&shared.value)
     }
 
-    /// Where a process stands, to be changed for all that share it.
-    pub fn directories_mut(&mut self, number: u64) -> Option<&mut Directories> {
-        let process = self.processes.get(&number)?;
-        let shared = self.directories.get_mut(&process.directories)?;
-        Some(&mut shared.value)
+    /// Says what the current directory of a process is, and of all that share it.
+    pub fn set_current(&mut self, number: u64, current: Standing) {
+        if let Some(process) = self.processes.get(&number) {
+            if let Some(shared) = self.directories.get_mut(&process.directories) {
+                shared.value.current = current;
+                shared.value.is_known = true;
+            }
+        }
+    }
+
+    /// Says what the root of a process is, and of all that share it.
+    pub fn set_root(&mut self, number: u64, root: Standing) {
+        if let Some(process) = self.processes.get(&number) {
+            if let Some(shared) = self.directories.get_mut(&process.directories) {
+                shared.value.root = root;
+            }
+        }
+    }
+
+    /// All roots and current directories that are this one become another place.
+    pub fn move_roots(&mut self, root: &Standing, to: Place) {
+        for shared in self.directories.values_mut() {
+            shared.value.move_root(self.alloc, root, to);
+        }
     }
 
     /// What a process has open.
@@ -110,6 +129,11 @@ impl Processes {
         let process = self.processes.get(&number)?;
         let shared = self.files.get(&process.files)?;
         Some(&shared.value)
+    }
+
+    /// What a descriptor of a process leads to. `None` if it is closed, or that is not known.
+    pub fn opened(&self, number: u64, descriptor: u64) -> Option<&Opened> {
+        self.files(number)?.opened(descriptor)
     }
 
     /// What a process has open, to be changed for all that share it.
@@ -327,34 +351,34 @@ impl Processes {
     }
 
     /// Forgets the numbers of processes that have ended.
-    pub fn forget_names(&mut self) {
-        let processes = &self.processes;
-        self.inner.keep(|number| processes.contains_key(&number));
+    pub fn forget_names(&mut self) -> Result<(), AllocError> {
+        let there = self.numbers()?;
+        self.inner.keep(&there);
+        Ok(())
     }
 
     /// Whether a process is in a namespace of mounts, or has a file of it open.
     pub fn hold_space(&self, space: SpaceId) -> bool {
+        self.are_in(space) || self.have_space_open(space)
+    }
+
+    /// Whether a process is in a namespace of mounts.
+    fn are_in(&self, space: SpaceId) -> bool {
         self.processes
             .values()
             .any(|process| process.spaces.mount == space)
-            || self.have_open(|reached| reached.is_space(SpaceKind::Mount, space))
     }
 
-    /// Whether a descriptor leads to what a test holds of.
-    pub fn have_open<F: Fn(&Reached) -> bool>(&self, test: F) -> bool
-        requires { F.IsAlwaysCallable test }
-    {
-        self.files
-            .values()
-            .any(|shared| shared.value.lead_to(&test))
+    /// Whether a descriptor leads to the file of a namespace of mounts.
+    fn have_space_open(&self, space: SpaceId) -> bool {
+        self.files.values().any(|shared| shared.value.lead_to_space(SpaceKind::Mount, space))
     }
 
     /// Whether a descriptor leads to one of these mounts.
     pub fn have_mount_open(&self, mounts: &[MountId]) -> bool {
-        self.have_open(|reached| match reached {
-            Reached::Standing(standing) => mounts.contains(&standing.place.mount),
-            Reached::Space(_, _) | Reached::Context(_) => false,
-        })
+        self.files
+            .values()
+            .any(|shared| shared.value.lead_to_mount(mounts))
     }
 
     /// The numbers of the processes, rising.
@@ -364,20 +388,5 @@ impl Processes {
             numbers.push(*number)?;
         }
         Ok(numbers)
-    }
-
-    /// The numbers of all roots and current directories.
-    pub fn all_directories(&self) -> Result<Vec<u64>, AllocError> {
-        let mut numbers = Vec::new(self.alloc);
-        for (number, _shared) in self.directories.iter() {
-            numbers.push(*number)?;
-        }
-        Ok(numbers)
-    }
-
-    /// The root and the current directory of a number, to be changed.
-    pub fn shared_directories(&mut self, number: u64) -> Option<&mut Directories> {
-        let shared = self.directories.get_mut(&number)?;
-        Some(&mut shared.value)
     }
 }

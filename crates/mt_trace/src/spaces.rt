@@ -110,9 +110,14 @@ impl Spaces {
     /// Whether a namespace of mounts ends with its last process: it is none of a table, and no file of it is bound.
     pub fn may_end(&self, space: SpaceId) -> bool {
         space > self.last_given
-            && self.mounts.get(&space).is_some()
+            && self.has(space)
             && !self.trees.contains(&space)
-            && !self.files.iter().any(|file| file.kind == SpaceKind::Mount && file.number == space)
+            && !self.is_bound(space)
+    }
+
+    /// Whether the file of a namespace of mounts is bound.
+    fn is_bound(&self, space: SpaceId) -> bool {
+        self.files.iter().any(|file| file.kind == SpaceKind::Mount && file.number == space)
     }
 
     /// Notes what the system calls a namespace.
@@ -143,11 +148,9 @@ impl Spaces {
         Some((file.kind, file.number))
     }
 
-    /// Forgets the files that are bound as filesystems which a test holds of.
-    pub fn unbind_files<F: Fn(FsId) -> bool>(&mut self, is_gone: F)
-        requires { F.IsAlwaysCallable is_gone }
-    {
-        self.files.retain(|file| !is_gone(file.fs));
+    /// Forgets the files that are bound as other filesystems than these.
+    pub fn keep_files(&mut self, shown: &[FsId]) {
+        self.files.retain(|file| shown.contains(&file.fs));
     }
 
     /// The namespaces of mounts of which files are bound.

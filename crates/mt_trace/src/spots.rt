@@ -1,8 +1,8 @@
 //! Directories of mounts, and the paths that lead to them.
-ghost use Rattle.std.specs.Prelude.{◌≡◌, ◌++◌, IfOk, IsOkUnless, IsTrue};
-ghost use Rattle.mt_skel.specs.Skeleton.{is_directory};
+ghost use Rattle.std.specs.Prelude.{◌≡◌, ◌≢◌, ◌++◌, false, IfOk, IfErr, IfSome, IsOkUnless, IsTrue};
+ghost use Rattle.mt_skel.specs.Skeleton.{is_directory, is_filesystem};
 ghost use Rattle.mt_propagate.specs.World.{world_view};
-ghost use Rattle.mt_propagate.specs.WellFormed.{IsWellFormed};
+ghost use Rattle.mt_trace.specs.declared.told.Halt.{Halt as HaltOf};
 ghost use Rattle.mt_trace.specs.Walks.{spot_settled, spot_below, spot_directory};
 
 use crate::standing::Standing;
@@ -19,6 +19,14 @@ use mt_skel::skel::{Dir, FsId};
 struct Step {
     dir: Dir,
     root: Dir,
+}
+
+/// Whether a directory is there.
+#[tactic(auto, using(crate::proofs::SpotLaws::holds_itself))]
+pub fn is_there(world: &World, dir: Dir) -> bool
+    ensures { result ≡ is_directory (world_view world.now).skel dir }
+{
+    world.skel.holds(dir, dir)
 }
 
 /// Names with some more at their end. Refused as `NoMemory` alone.
@@ -59,13 +67,19 @@ fn names_down(world: &World, steps: Vec<Step>) -> Result<Names, Fault> {
     steps.reverse();
     let mut names = Names::root(world.forest.allocator());
     for step in &steps {
-        let count = world
-            .skel
-            .depth(step.dir)
-            .saturating_sub(world.skel.depth(step.root));
-        names = world.skel.add_path(names, step.dir, count)?;
+        names = with_step(world, names, *step)?;
     }
     Ok(names)
+}
+
+/// Names with those of a step at their end, from the root of its mount down to its directory.
+fn with_step(world: &World, names: Names, step: Step) -> Result<Names, Fault> {
+    if !is_there(world, step.dir) || !is_there(world, step.root) {
+        return Ok(names);
+    }
+    let above = world.skel.depth(step.root);
+    let count = world.skel.depth(step.dir).saturating_sub(above);
+    Ok(world.skel.add_path(names, step.dir, count)?)
 }
 
 /// The namespace of a standing, and the names from its root down to it, whether a path leads there or not. `None` if its mount is not
@@ -78,17 +92,18 @@ pub fn names_to(world: &World, standing: &Standing) -> Result<Option<(SpaceId, N
     Ok(Some((space, names_joined(names, &standing.below)?)))
 }
 
-/// The names from the root of its filesystem down to a standing. Refused as `NoMemory` alone.
-pub fn names_inside(world: &World, standing: &Standing) -> Result<Names, Fault>
-    requires well_formed { IsWellFormed (world_view world.now) }
-    requires there { IsTrue (is_directory (world_view world.now).skel standing.now.place.dir) }
+/// The names from the root of its filesystem down to a standing. Told as [`Told::Gone`] if its directory is not there.
+pub fn names_inside(world: &World, standing: &Standing) -> Result<Names, Halt>
     ensures inside { IfOk result (λ inside. inside ≡ (spot_directory (world_view world.now) standing.now).path) }
-    ensures memory { IsOkUnless result Fault.NoMemory }
+    ensures told { IfErr result (λ why. why ≢ HaltOf.NoMemory → is_directory (world_view world.now).skel standing.now.place.dir ≡ false) }
 {
-    let root = Names::root(world.forest.allocator());
     let dir = standing.place.dir;
+    if !is_there(world, dir) {
+        return Err(Halt::Told(Told::Gone));
+    }
+    let root = Names::root(world.forest.allocator());
     let names = world.skel.add_path(root, dir, world.skel.depth(dir))?;
-    names_joined(names, &standing.below)
+    Ok(names_joined(names, &standing.below)?)
 }
 
 /// Where a path leads in a namespace.
@@ -128,8 +143,6 @@ pub fn path_to_stack(world: &World, place: Place) -> Result<(SpaceId, Names), Ha
 
 /// A standing of which more directories are there by now: nothing that was mounted since counts. Refused as `NoMemory` alone.
 pub fn settled_standing(world: &World, standing: &Standing) -> Result<Standing, Fault>
-    requires well_formed { IsWellFormed (world_view world.now) }
-    requires there { IsTrue (is_directory (world_view world.now).skel standing.now.place.dir) }
     ensures settled { IfOk result (λ settled. settled ≡ spot_settled (world_view world.now) standing.now) }
     ensures memory { IsOkUnless result Fault.NoMemory }
 {
@@ -161,8 +174,6 @@ fn down(world: &World, standing: Standing, name: &Name) -> Result<Standing, Faul
 
 /// The directory of a name in a standing, without what is mounted there. Refused as `NoMemory` alone.
 pub fn child_standing(world: &World, standing: &Standing, name: &Name) -> Result<Standing, Fault>
-    requires well_formed { IsWellFormed (world_view world.now) }
-    requires there { IsTrue (is_directory (world_view world.now).skel standing.now.place.dir) }
     ensures child { IfOk result (λ child. child ≡ spot_below (world_view world.now) standing.now name.now) }
     ensures memory { IsOkUnless result Fault.NoMemory }
 {
@@ -186,7 +197,20 @@ fn directory_above(world: &World, standing: &Standing) -> Result<Option<Standing
             below,
         }));
     }
-    let dir = standing.place.dir;
+    match parent_of(world, standing.place.dir)? {
+        Some(dir) => {
+            let mount = standing.place.mount;
+            Ok(Some(Standing::at(alloc, Place { mount, dir })))
+        }
+        None => Ok(None),
+    }
+}
+
+/// The directory that has another one in it. `None` of the root of a filesystem.
+fn parent_of(world: &World, dir: Dir) -> Result<Option<Dir>, Fault> {
+    if !is_there(world, dir) {
+        return Ok(None);
+    }
     let path = world.skel.path_of(dir)?;
     let Some((_last, above)) = path.split_last() else {
         return Ok(None);
@@ -195,11 +219,7 @@ fn directory_above(world: &World, standing: &Standing) -> Result<Option<Standing
     for name in above {
         here = world.skel.child(here, name).unwrap_or(here);
     }
-    let place = Place {
-        mount: standing.place.mount,
-        dir: here,
-    };
-    Ok(Some(Standing::at(alloc, place)))
+    Ok(Some(here))
 }
 
 /// Whether a standing is the root directory of its mount.
@@ -243,10 +263,41 @@ pub fn root_place_of(world: &World, id: MountId) -> Option<Place> {
     Some(root_place(&mount))
 }
 
-/// The filesystem that a mount shows.
-pub fn shown_filesystem(world: &World, id: MountId) -> Option<FsId> {
+/// Where the root directory of the root mount of a namespace is, if the namespace is there.
+pub fn space_root(world: &World, space: SpaceId) -> Option<Place> {
+    let id = world.forest.root(space)?;
+    root_place_of(world, id)
+}
+
+/// The filesystem of a directory, if it is there.
+pub fn filesystem_of(world: &World, dir: Dir) -> Option<FsId>
+    ensures there { IfSome result (λ fs. IsTrue (is_filesystem (world_view world.now).skel fs)) }
+{
+    if is_there(world, dir) {
+        Some(world.skel.fs_of(dir))
+    } else {
+        None
+    }
+}
+
+/// The filesystem that a mount shows, if the mount is there.
+pub fn shown_filesystem(world: &World, id: MountId) -> Option<FsId>
+    ensures there { IfSome result (λ fs. IsTrue (is_filesystem (world_view world.now).skel fs)) }
+{
     let mount = world.forest.get(id)?;
-    Some(world.skel.fs_of(mount.root))
+    filesystem_of(world, mount.root)
+}
+
+/// The filesystems that mounts show. Refused as `NoMemory` alone.
+pub fn filesystems_shown(world: &World) -> Result<Vec<FsId>, Fault> {
+    let mounts = world.forest.mounts()?;
+    let mut shown = Vec::new(world.forest.allocator());
+    for mount in &mounts {
+        if let Some(fs) = filesystem_of(world, mount.root) {
+            shown.push(fs)?;
+        }
+    }
+    Ok(shown)
 }
 
 /// Whether the filesystem that a mount shows is of this type.

@@ -3,9 +3,10 @@ ghost use Rattle.std.specs.Prelude.{◌≡◌, ◌≢◌, false, true, Ok, Err, 
 ghost use Rattle.mt_propagate.specs.World.{world_view};
 ghost use Rattle.mt_propagate.specs.WellFormed.{IsWellFormed};
 ghost use Rattle.mt_book.specs.Step.{makes_directories};
-ghost use Rattle.mt_what_if.specs.Trials.{tried};
+ghost use Rattle.mt_attempt.specs.Attempts.{tried};
 ghost use Rattle.mt_trace.specs.Stages.{all_tried, why_refused};
 
+use mt_attempt::attempt::try_step;
 use mt_book::command::{Command, Reply};
 use mt_events::mirror::Mirror;
 use mt_events::post::Post;
@@ -17,7 +18,6 @@ use mt_mounts::mount::{MountId, SpaceId};
 use mt_propagate::touched::touched;
 use mt_propagate::world::World;
 use mt_skel::fault::Fault;
-use mt_what_if::trial::try_step;
 use std::alloc::Global;
 use std::marker::Model;
 use std::mem;
@@ -104,6 +104,29 @@ fn asked_on(
     }
 }
 
+/// Whether a command makes a filesystem or a directory, which no table shows before a mount does.
+fn makes_directories(command: &Command) -> bool
+    ensures { result ≡ makes_directories command.now }
+{
+    match command {
+        Command::MakeFs { .. } | Command::MakeDir { .. } => true,
+        Command::NewSpace { .. }
+        | Command::CopySpace { .. }
+        | Command::DropSpace { .. }
+        | Command::Mount { .. }
+        | Command::MountWith { .. }
+        | Command::Bind { .. }
+        | Command::Move { .. }
+        | Command::Pivot { .. }
+        | Command::Unmount { .. }
+        | Command::Detach { .. }
+        | Command::SetAttr { .. }
+        | Command::OpenTree { .. }
+        | Command::NewTree { .. }
+        | Command::MoveTree { .. } => false,
+    }
+}
+
 impl Stage {
     /// The stage of a world. Refused as `NoMemory` alone.
     pub fn new(alloc: Global, world: &World) -> Result<Stage, Fault>
@@ -148,9 +171,9 @@ impl Stage {
         }
     }
 
-    /// Does a command that makes a filesystem or a directory, which no table shows before a mount does. Refused as the command is;
+    /// Does a command that makes a filesystem or a directory. Refused as the command is;
     /// then nothing has changed.
-    pub fn grow(&mut self, command: &Command) -> Result<Reply, Fault>
+    fn grow(&mut self, command: &Command) -> Result<Reply, Fault>
         requires { makes_directories command.now ≡ true }
         ensures done { IfOk result (λ reply. tried self.old command.now ≡ Ok (self.new, reply)) }
         ensures refused { IfErr result (λ fault. fault ≢ Fault.NoMemory → tried self.old command.now ≡ Err fault) }
@@ -170,8 +193,8 @@ impl Stage {
         }
     }
 
-    /// Does another command. Refused as the command is, and as `TooMany` where numbers run out; then nothing has changed.
-    pub fn run(&mut self, command: &Command) -> Result<Reply, Fault>
+    /// Does another command. Refused as the command is; then nothing has changed.
+    fn change(&mut self, command: &Command) -> Result<Reply, Fault>
         requires { makes_directories command.now ≡ false }
         ensures done { IfOk result (λ reply. tried self.old command.now ≡ Ok (self.new, reply)) }
         ensures refused { IfErr result (λ fault. fault ≢ Fault.NoMemory → tried self.old command.now ≡ Err fault) }
@@ -192,6 +215,19 @@ impl Stage {
         }
     }
 
+    /// Does a command. Refused as the command is, and as `TooMany` where numbers run out; then nothing has changed.
+    pub fn run(&mut self, command: &Command) -> Result<Reply, Fault>
+        ensures done { IfOk result (λ reply. tried self.old command.now ≡ Ok (self.new, reply)) }
+        ensures refused { IfErr result (λ fault. fault ≢ Fault.NoMemory → tried self.old command.now ≡ Err fault) }
+        ensures unchanged { OnErr result (self.new ≡ self.old) }
+    {
+        if makes_directories(command) {
+            self.grow(command)
+        } else {
+            self.change(command)
+        }
+    }
+
     /// Whether a command would be done once others are, which are done where they can be: why it is refused, if it is. Nothing changes.
     /// Refused as `NoMemory` alone.
     pub fn ask(&mut self, before: &[Command], command: &Command) -> Result<Option<Fault>, Fault>
@@ -207,8 +243,7 @@ impl Stage {
         Ok(answer)
     }
 
-    /// What the last command has changed in each namespace that is there after it, where it was done by [`Stage::run`]. Refused as
-    /// `NoMemory` alone.
+    /// What the last command has changed in each namespace that is there after it. Refused as `NoMemory` alone.
     pub fn changes(&self) -> Result<Vec<SpaceChange>, Fault>
         ensures memory { IsOkUnless result Fault.NoMemory }
     {

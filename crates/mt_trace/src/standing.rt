@@ -1,9 +1,9 @@
 //! Where a process stands, or what a descriptor leads to.
 ghost use Rattle.std.specs.Prelude.{◌≡◌, ◌==◌, length, IfOk, IsOkUnless};
-ghost use Rattle.mt_trace.specs.Walks.{spot_at, spot_eq};
+ghost use Rattle.mt_trace.specs.Standings.{spot_at, spot_eq};
 
 use crate::process_spaces::SpaceKind;
-use mt_mounts::mount::Place;
+use mt_mounts::mount::{MountId, Place};
 use mt_skel::fault::Fault;
 use mt_skel::names::Names;
 use std::alloc::{AllocError, Global};
@@ -104,6 +104,14 @@ impl Reached {
         match self {
             Reached::Space(own, n) => *own == kind && *n == number,
             Reached::Standing(_) | Reached::Context(_) => false,
+        }
+    }
+
+    /// Whether it is a directory or a file of one of these mounts.
+    pub fn is_on(&self, mounts: &[MountId]) -> bool {
+        match self {
+            Reached::Standing(standing) => mounts.contains(&standing.place.mount),
+            Reached::Space(_, _) | Reached::Context(_) => false,
         }
     }
 }

@@ -7,16 +7,15 @@ use crate::process::Directories;
 use crate::process_spaces::ProcessSpaces;
 use crate::processes::Processes;
 use crate::spots::{
-    child_standing, is_of_kind, names_inside, names_to, root_place_of, settled_standing,
-    shown_filesystem, standing_above,
+    child_standing, is_of_kind, names_inside, names_to, settled_standing, shown_filesystem,
+    space_root, standing_above,
 };
 use crate::standing::{Reached, Standing};
 use crate::told::{Halt, Told};
 use mt_lines::words::Pieces;
 use mt_propagate::world::World;
 use mt_skel::name::Name;
-use mt_skel::names::Names;
-use std::alloc::Global;
+use std::alloc::{AllocError, Global};
 
 /// The most symbolic links that are followed, one in the target of another (path_resolution(7)).
 const MOST_LINKS: u32 = 40;
@@ -38,10 +37,29 @@ pub struct Lookup<'a> {
     pub number: u64,
 }
 
+/// What the names of a path have led to so far.
+#[derive(Drop)]
+enum Arrival {
+    /// This is reached.
+    At(Reached),
+    /// A symbolic link: the directory that it is in, and what comes from there on: its target, or that and the rest of the path.
+    Link(Standing, Vec<u8>),
+}
+
 /// Whether no name is left.
 fn are_over(names: &Pieces<'_>) -> bool {
     let mut left = names.again();
     left.all(|name| name.is_empty())
+}
+
+/// The target of a link, and the rest of the path that it is in.
+fn with_rest(target: Vec<u8>, rest: &Pieces<'_>) -> Result<Vec<u8>, AllocError> {
+    let mut text = target;
+    for name in rest.again() {
+        text.push(b'/')?;
+        text.extend_from_slice(name)?;
+    }
+    Ok(text)
 }
 
 impl<'a> Lookup<'a> {
@@ -92,43 +110,25 @@ impl<'a> Lookup<'a> {
         }
     }
 
-    /// Where a name leads that is neither `.` nor `..`; a link of this name, also one of proc that no text tells, is followed if so many
-    /// may be.
-    fn named(
-        &self,
-        standing: Standing,
-        name: &Name,
-        links_left: Option<u32>,
-    ) -> Result<Reached, Halt> {
-        if links_left.is_some() && is_of_kind(self.world, standing.place.mount, b"proc") {
+    /// Where a name leads that is neither `.` nor `..`; with `follows` a link of this name is followed, also one of proc that no text
+    /// tells.
+    fn named(&self, standing: Standing, name: &Name, follows: bool) -> Result<Arrival, Halt> {
+        if follows && is_of_kind(self.world, standing.place.mount, b"proc") {
             if let Some(reached) = self.magic(&standing, name)? {
-                return Ok(reached);
+                return Ok(Arrival::At(reached));
             }
         }
         let there = child_standing(self.world, &standing, name)?;
-        if let Some(left) = links_left {
+        if follows {
             if let Some(target) = self.link_at(&there)? {
-                return self.follow(standing, &target, left);
+                return Ok(Arrival::Link(standing, target));
             }
         }
-        Ok(Reached::Standing(self.topped(there)))
-    }
-
-    /// Where the target of a link leads, which is in a directory.
-    fn follow(&self, standing: Standing, target: &[u8], links_left: u32) -> Result<Reached, Halt> {
-        let Some(left) = links_left.checked_sub(1) else {
-            return Err(Halt::Told(Told::TooManyLinks));
-        };
-        let start = if target.starts_with(b"/") {
-            self.directories()?.root.copy()?
-        } else {
-            standing
-        };
-        self.walk(start, target, true, left)
+        Ok(Arrival::At(Reached::Standing(self.topped(there))))
     }
 
     /// Where one name leads.
-    fn step(&self, here: Reached, name: &[u8], links_left: Option<u32>) -> Result<Reached, Halt> {
+    fn step(&self, here: Reached, name: &[u8], follows: bool) -> Result<Arrival, Halt> {
         let Reached::Standing(standing) = here else {
             return Err(Halt::Told(Told::BelowFile));
         };
@@ -136,33 +136,52 @@ impl<'a> Lookup<'a> {
         if name == b"..".as_slice() {
             let root = &self.directories()?.root;
             let up = standing_above(self.world, root, standing)?;
-            return Ok(Reached::Standing(self.topped(up)));
+            return Ok(Arrival::At(Reached::Standing(self.topped(up))));
         }
         let name = self.name(name)?;
-        self.named(standing, &name, links_left)
+        self.named(standing, &name, follows)
     }
 
-    /// Where the names of a path lead, one after another.
-    fn walk(
-        &self,
-        start: Standing,
-        path: &[u8],
-        follows: bool,
-        links_left: u32,
-    ) -> Result<Reached, Halt> {
-        let mut here = Reached::Standing(settled_standing(self.world, &start)?);
+    /// Where the names of a path lead, one after another, up to the first link that is followed.
+    fn walk_to_link(&self, start: &Standing, path: &[u8], follows: bool) -> Result<Arrival, Halt> {
+        let mut here = Reached::Standing(settled_standing(self.world, start)?);
         let mut names = Pieces::new(b'/', path);
         while let Some(name) = names.next() {
             if !name.is_empty() && name != b".".as_slice() {
-                let left = if follows || !are_over(&names) {
-                    Some(links_left)
-                } else {
-                    None
-                };
-                here = self.step(here, name, left)?;
+                match self.step(here, name, follows || !are_over(&names))? {
+                    Arrival::At(reached) => here = reached,
+                    Arrival::Link(standing, target) => {
+                        return Ok(Arrival::Link(standing, with_rest(target, &names)?));
+                    }
+                }
             }
         }
-        Ok(here)
+        Ok(Arrival::At(here))
+    }
+
+    /// Where a path leads. Told as [`Told::TooManyLinks`] above 40 links.
+    fn walk(&self, start: Standing, path: &[u8], follows: bool) -> Result<Reached, Halt> {
+        let mut start = start;
+        let mut text = Vec::from_slice(self.alloc, path)?;
+        for _link in 0..=MOST_LINKS {
+            match self.walk_to_link(&start, &text, follows)? {
+                Arrival::At(reached) => return Ok(reached),
+                Arrival::Link(standing, rest) => {
+                    start = self.link_start(standing, &rest)?;
+                    text = rest;
+                }
+            }
+        }
+        Err(Halt::Told(Told::TooManyLinks))
+    }
+
+    /// Where the target of a link begins that is in a directory: at the root of the process, if it begins with a slash.
+    fn link_start(&self, standing: Standing, target: &[u8]) -> Result<Standing, Halt> {
+        if target.starts_with(b"/") {
+            Ok(self.directories()?.root.copy()?)
+        } else {
+            Ok(standing)
+        }
     }
 
     /// What a path leads to that begins at what a descriptor leads to, or the current directory: a path that begins with a slash does
@@ -171,7 +190,7 @@ impl<'a> Lookup<'a> {
         if path.starts_with(b"/") {
             let root = self.directories()?.root.copy()?;
             self.check(&root)?;
-            return self.walk(root, path, follows, MOST_LINKS);
+            return self.walk(root, path, follows);
         }
         if path.is_empty() {
             return Ok(start);
@@ -179,7 +198,7 @@ impl<'a> Lookup<'a> {
         match start {
             Reached::Standing(standing) => {
                 self.check(&standing)?;
-                self.walk(standing, path, follows, MOST_LINKS)
+                self.walk(standing, path, follows)
             }
             Reached::Space(_, _) | Reached::Context(_) => Err(Halt::Told(Told::BelowFile)),
         }
@@ -192,12 +211,7 @@ impl<'a> Lookup<'a> {
         if self.covers.is_moved(root.place.mount) {
             return Ok(root.copy()?);
         }
-        match self
-            .world
-            .forest
-            .root(spaces.mount)
-            .and_then(|id| root_place_of(self.world, id))
-        {
+        match space_root(self.world, spaces.mount) {
             Some(place) => Ok(Standing::at(self.alloc, place)),
             None => Err(Halt::Told(Told::Gone)),
         }
@@ -217,18 +231,19 @@ impl<'a> Lookup<'a> {
     }
 
     /// The path of a standing as strace tells it. `None` if its mount was taken away.
-    pub fn path_told(&self, standing: &Standing) -> Result<Option<Names>, Halt> {
+    pub fn path_told(&self, standing: &Standing) -> Result<Option<Vec<u8>>, Halt> {
         let Some((_space, names)) = names_to(self.world, standing)? else {
             return Ok(None);
         };
         let root = &self.directories()?.root;
         if !self.covers.is_moved(root.place.mount) {
-            return Ok(Some(names));
+            return Ok(Some(Vec::from_slice(self.alloc, names.text())?));
         }
         let Some((_space, above)) = names_to(self.world, root)? else {
-            return Ok(Some(names));
+            return Ok(Some(Vec::from_slice(self.alloc, names.text())?));
         };
-        Ok(Some(without_front(self.alloc, names, &above)?))
+        let text = without_front(names.text(), above.text());
+        Ok(Some(Vec::from_slice(self.alloc, text)?))
     }
 
     /// What a name of the directory of a proc filesystem leads to, if it is no directory of it and no link by text.
@@ -250,11 +265,7 @@ impl<'a> Lookup<'a> {
         };
         match file {
             MagicFile::Descriptor(n) => {
-                match self
-                    .processes
-                    .files(number)
-                    .and_then(|files| files.opened(n))
-                {
+                match self.processes.opened(number, n) {
                     Some(opened) => Ok(Some(opened.reached.copy()?)),
                     None => Err(Halt::Told(Told::DescriptorUnknown)),
                 }
@@ -263,44 +274,23 @@ impl<'a> Lookup<'a> {
                 Some(reached) => Ok(Some(reached.copy()?)),
                 None => Err(Halt::Told(Told::ProgramUnknown)),
             },
-            MagicFile::Root => self.directory_of(number, true),
-            MagicFile::Current => self.directory_of(number, false),
+            MagicFile::Root => match self.processes.directories(number) {
+                Some(directories) => Ok(Some(Reached::Standing(directories.root.copy()?))),
+                None => Ok(None),
+            },
+            MagicFile::Current => match self.processes.directories(number) {
+                Some(directories) => Ok(Some(Reached::Standing(directories.current.copy()?))),
+                None => Ok(None),
+            },
             MagicFile::Space(kind) => Ok(Some(Reached::Space(kind, process.spaces.of_kind(kind)))),
         }
     }
-
-    /// The root or the current directory of a process.
-    fn directory_of(&self, number: u64, is_root: bool) -> Result<Option<Reached>, Halt> {
-        let Some(directories) = self.processes.directories(number) else {
-            return Ok(None);
-        };
-        let standing = if is_root {
-            directories.root.copy()?
-        } else {
-            directories.current.copy()?
-        };
-        Ok(Some(Reached::Standing(standing)))
-    }
 }
 
-/// Names without others that stand in front of them, if they do.
-fn without_front(alloc: Global, names: Names, front: &Names) -> Result<Names, Halt> {
-    let all = names.to_vec()?;
-    let others = front.to_vec()?;
-    if all.len() < others.len() || !are_alike(&all, &others) {
-        return Ok(names);
+/// The text of a path without that of a directory above it, if that is one.
+fn without_front<'t>(text: &'t [u8], front: &[u8]) -> &'t [u8] {
+    match text.strip_prefix(front) {
+        Some(behind) if behind.is_empty() || behind.starts_with(b"/") => behind,
+        _ => text,
     }
-    let mut left = Names::root(alloc);
-    for name in all.iter().skip(others.len()) {
-        left = left.with(name)?;
-    }
-    Ok(left)
-}
-
-/// Whether names begin with others.
-fn are_alike(names: &[Name], front: &[Name]) -> bool {
-    front
-        .iter()
-        .zip(names)
-        .all(|(one, other)| one.bytes() == other.bytes())
 }
