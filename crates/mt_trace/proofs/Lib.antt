@@ -1,3 +1,4 @@
 pub mod CallNameLaws
 pub mod ChangeLaws
 pub mod SpotLaws
+pub mod StageLaws

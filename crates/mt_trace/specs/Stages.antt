@@ -1,13 +1,16 @@
 -- The world that calls are played on, and the commands that are tried on it.
 -- A word with no source is this project's rule.
-use Rattle.std.specs.Prelude.{◌≡◌, List, [], ◌∷◌, Option, None, Some, Result, Ok, Err}
+use Rattle.std.specs.Prelude.{◌≡◌, ◌≢◌, List, [], ◌∷◌, Option, None, Some, Result, Ok, Err}
 use Rattle.mt_skel.specs.declared.fault.Fault.{Fault}
+use Rattle.mt_skel.specs.declared.fault.Fault.TheVariants.{NoMemory}
 use Rattle.mt_propagate.specs.World.{WorldView, world_view}
 use Rattle.mt_propagate.specs.WellFormed.{IsWellFormed}
-use Rattle.mt_propagate.specs.Touched.{SinceView, since_of}
+use Rattle.mt_propagate.specs.Touched.{SinceView, since_of, since_view}
 use Rattle.mt_book.specs.declared.command.Command.{Command}
 use Rattle.mt_book.specs.declared.command.Reply.{Reply}
 use Rattle.mt_attempt.specs.Attempts.{tried}
+use Rattle.mt_trace.specs.declared.stage.Attempt.{Attempt}
+use Rattle.mt_trace.specs.declared.stage.Attempt.TheVariants.{Changed, Refused}
 use Rattle.mt_trace.specs.declared.stage.Spare.{Spare}
 use Rattle.mt_trace.specs.declared.stage.Spare.TheVariants.{Gone, Level, Behind}
 
@@ -25,11 +28,16 @@ abbrev pub why_refused : Result (WorldView × Reply) Fault → Option Fault
 why_refused (Ok done) = None
 why_refused (Err fault) = Some fault
 
+-- a command was done on a world, and what it changed is noted; or it was refused, with the world as it was
+abbrev pub IsAttempt : WorldView → Command → Attempt → Type 0
+IsAttempt w c (Changed v r) = (tried w c ≡ Ok (world_view v.value, r)) × IsWellFormed (world_view v.value) × (since_view v.value ≡ since_of w)
+IsAttempt w c (Refused v f) = (world_view v.value ≡ w) × (f ≢ NoMemory → tried w c ≡ Err f)
+
 -- a spare world is equal to the one that is shown, or lacks the last command: then the shown one has noted what that changed
 abbrev pub IsSpareWorld : WorldView → SinceView → Spare → Type 0
 IsSpareWorld w noted Gone = Unit {0}
 IsSpareWorld w noted (Level v) = world_view v.value ≡ w
-IsSpareWorld w noted (Behind v) = IsWellFormed (world_view v.value) × (noted ≡ since_of (world_view v.value)) × ((world_view v.value).skel ≡ w.skel)
+IsSpareWorld w noted (Behind v) = IsWellFormed (world_view v.value) × (noted ≡ since_of (world_view v.value)) × (w.skel ≡ (world_view v.value).skel)
 
 -- what is always true of a stage
 pub record IsStage (w : WorldView) (noted : SinceView) (spare : Spare) : Type 0 where

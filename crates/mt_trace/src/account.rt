@@ -1,7 +1,7 @@
 //! What is told of a call while it is played.
 
 use crate::spaces::Spaces;
-use crate::stage::SpaceChange;
+use crate::stage_changes::SpaceChange;
 use mt_book::command::Command;
 use mt_info::print::push_number;
 use mt_lines::words::Pieces;

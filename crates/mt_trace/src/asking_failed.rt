@@ -11,7 +11,7 @@ use crate::told::{Halt, Told};
 use mt_book::command::Command;
 use mt_mounts::mount::SpaceId;
 use mt_protocol::errno::Errno;
-use mt_protocol::refusal::{InLinux, refusal_row};
+use mt_protocol::refusal::{Case, InLinux, refusal_row};
 use mt_setattr::change::Change;
 use mt_skel::fault::Fault;
 use mt_skel::names::Names;
@@ -31,13 +31,18 @@ struct PathAsked {
     directories: Vec<Command>,
 }
 
+/// Whether one of these cases has an error.
+fn are_with(cases: &[Case], errno: Errno) -> bool {
+    cases.iter().any(|case| case.errno == errno)
+}
+
 /// Whether Linux may have an error in the place of a refusal.
 fn has_error(refusal: Fault, error: &[u8]) -> bool {
     let Some(errno) = Errno::of(error) else {
         return false;
     };
     match refusal_row(refusal).linux {
-        InLinux::Errors(cases) => cases.iter().any(|case| case.errno == errno),
+        InLinux::Errors(cases) => are_with(cases, errno),
         InLinux::Nothing(_) => false,
     }
 }

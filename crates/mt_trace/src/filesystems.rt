@@ -59,6 +59,11 @@ pub struct Filesystems {
     made: u64,
 }
 
+/// Whether a word is one of these.
+fn is_among(word: &[u8], words: &[&[u8]]) -> bool {
+    words.iter().any(|other| *other == word)
+}
+
 /// Whether the filesystem of a name has a type and a source.
 fn is_alike(world: &World, name: &Label, kind: &[u8], source: &[u8]) -> bool {
     match world.skel.fs(name) {
@@ -83,10 +88,13 @@ fn numbered(alloc: Global, kind: &[u8], number: u64) -> Result<Vec<u8>, AllocErr
 }
 
 /// Appends those of the controllers that are among words, each behind a comma.
-fn push_controllers(key: &mut Vec<u8>, options: &[u8]) -> Result<(), AllocError> {
-    for controller in CONTROLLERS {
-        let mut words = Pieces::new(b',', options);
-        if words.any(|word| word == controller) {
+fn push_controllers(
+    key: &mut Vec<u8>,
+    controllers: &[&[u8]],
+    options: &[u8],
+) -> Result<(), AllocError> {
+    for controller in controllers {
+        if is_option(controller, options) {
             key.push(b',')?;
             key.extend_from_slice(controller)?;
         }
@@ -94,14 +102,28 @@ fn push_controllers(key: &mut Vec<u8>, options: &[u8]) -> Result<(), AllocError>
     Ok(())
 }
 
+/// Whether a word is among options.
+fn is_option(word: &[u8], options: &[u8]) -> bool {
+    Pieces::new(b',', options).any(|option| option == word)
+}
+
+/// The name of a hierarchy that options tell, if they do.
+fn name_told<'o>(options: &'o [u8]) -> Option<&'o [u8]> {
+    for option in Pieces::new(b',', options) {
+        if let Some(name) = option.strip_prefix(b"name=".as_slice()) {
+            return Some(name);
+        }
+    }
+    None
+}
+
 /// What tells a hierarchy of control groups from others: its name, or its controllers.
 fn hierarchy(alloc: Global, options: &[u8]) -> Result<Vec<u8>, AllocError> {
-    let mut words = Pieces::new(b',', options);
-    if let Some(name) = words.find_map(|word| word.strip_prefix(b"name=".as_slice())) {
+    if let Some(name) = name_told(options) {
         return keyed(alloc, b"cgroup", name);
     }
     let mut detail = Vec::new(alloc);
-    push_controllers(&mut detail, options)?;
+    push_controllers(&mut detail, &CONTROLLERS, options)?;
     if detail.is_empty() {
         detail.extend_from_slice(options)?;
     }
@@ -116,7 +138,7 @@ fn key_of(
     options: &[u8],
     spaces: ProcessSpaces,
 ) -> Result<Option<Vec<u8>>, AllocError> {
-    if NEW_EACH_TIME.iter().any(|each| *each == kind) {
+    if is_among(kind, &NEW_EACH_TIME) {
         return Ok(None);
     }
     if kind == b"sysfs".as_slice() {

@@ -16,8 +16,8 @@ const MOST_LOOKED_AT: usize = 400;
 const CLONES: [&[u8]; 4] = [b"clone", b"clone3", b"fork", b"vfork"];
 
 /// Whether a name is that of a call that makes a process.
-pub(crate) fn makes_process(name: &[u8]) -> bool {
-    CLONES.iter().any(|clone| *clone == name)
+fn makes_process(name: &[u8], clones: &[&[u8]]) -> bool {
+    clones.iter().any(|clone| *clone == name)
 }
 
 /// Whether a call names the old root again, after both paths of pivot_root(2) were one: `None` if it changes no mount.
@@ -82,7 +82,7 @@ fn birth_in(
     let StraceLine::Resumed { process, name, end } = read_strace_line(line) else {
         return Ok(None);
     };
-    if !makes_process(name.bytes()) {
+    if !makes_process(name.bytes(), &CLONES) {
         return Ok(None);
     }
     let Some(text) = beginnings.with_end(process, name.bytes(), end.bytes())? else {

@@ -49,6 +49,7 @@ mod sharing;
 pub mod spaces;
 pub mod spots;
 pub mod stage;
+pub mod stage_changes;
 pub mod standing;
 pub mod string_argument;
 pub mod system_call;

@@ -47,12 +47,20 @@ fn is_told(name: CallName) -> bool {
     }
 }
 
-/// The process of a line, where it is one of a process.
-fn process_of(line: &StraceLine<'_>) -> Option<u64> {
+/// The process of a line, where it is one of a process that begins a call or ends.
+fn beginner_of(line: &StraceLine<'_>) -> Option<u64> {
     match line {
         StraceLine::Call(call) => Some(call.process.unwrap_or(0)),
         StraceLine::Unfinished { process, .. } => Some(process.unwrap_or(0)),
         StraceLine::Exited { process } => Some(process.unwrap_or(0)),
+        _ => None,
+    }
+}
+
+/// The process whose call a line ends, if strace tells it.
+fn ender_of(line: &StraceLine<'_>) -> Option<u64> {
+    match line {
+        StraceLine::Resumed { process, .. } => *process,
         _ => None,
     }
 }
@@ -251,26 +259,53 @@ impl Player {
         ahead: &mut A,
         out: &mut Vec<u8>,
     ) -> Result<Option<Trouble>, AllocError> {
-        match (joined, line) {
-            (JoinedLine::Whole, StraceLine::Call(call)) => {
+        match joined {
+            JoinedLine::Whole => self.play_whole(number, line, ahead, out),
+            JoinedLine::Ended(text) => {
+                let process = ender_of(line);
+                self.play_ended(number, process, &text, ahead, out)
+            }
+            JoinedLine::Begun(Some(lost)) => Ok(Some(Trouble::Lost(lost))),
+            JoinedLine::Begun(None) => Ok(None),
+            JoinedLine::Unbegun => Ok(Some(Trouble::Unbegun)),
+            JoinedLine::Over(_lost) => {
+                self.play_over(number, line, out)?;
+                Ok(None)
+            }
+        }
+    }
+
+    /// Plays a line that says all itself.
+    fn play_whole<A: Ahead>(
+        &mut self,
+        number: u64,
+        line: &StraceLine<'_>,
+        ahead: &mut A,
+        out: &mut Vec<u8>,
+    ) -> Result<Option<Trouble>, AllocError> {
+        match line {
+            StraceLine::Call(call) => {
                 self.play_call(number, call, ahead, out)?;
                 Ok(None)
             }
-            (JoinedLine::Whole, StraceLine::Bad(why)) => Ok(Some(Trouble::Unread(*why))),
-            (JoinedLine::Ended(text), StraceLine::Resumed { process, .. }) => {
-                self.play_ended(number, *process, &text, ahead, out)
-            }
-            (JoinedLine::Begun(Some(lost)), _) => Ok(Some(Trouble::Lost(lost))),
-            (JoinedLine::Unbegun, _) => Ok(Some(Trouble::Unbegun)),
-            (JoinedLine::Over(_lost), StraceLine::Exited { process }) => {
-                self.play_end(number, process.unwrap_or(0), out)?;
-                Ok(None)
-            }
-            (JoinedLine::Over(_lost), StraceLine::Superseded { process, by }) => {
-                self.processes.supersede(process.unwrap_or(0), *by)?;
-                Ok(None)
-            }
+            StraceLine::Bad(why) => Ok(Some(Trouble::Unread(*why))),
             _ => Ok(None),
+        }
+    }
+
+    /// Plays the end of a process, or lets a thread go on under the number of its process.
+    fn play_over(
+        &mut self,
+        number: u64,
+        line: &StraceLine<'_>,
+        out: &mut Vec<u8>,
+    ) -> Result<(), AllocError> {
+        match line {
+            StraceLine::Exited { process } => self.play_end(number, process.unwrap_or(0), out),
+            StraceLine::Superseded { process, by } => {
+                self.processes.supersede(process.unwrap_or(0), *by)
+            }
+            _ => Ok(()),
         }
     }
 
@@ -304,7 +339,7 @@ impl Player {
     ) -> Result<Option<Trouble>, AllocError> {
         let read = read_strace_line(line);
         let joined = self.beginnings.join(&read)?;
-        if let Some(process) = process_of(&read) {
+        if let Some(process) = beginner_of(&read) {
             self.adopt(number, process, ahead, out)?;
         }
         let trouble = self.play_joined(number, &read, joined, ahead, out)?;

@@ -123,8 +123,10 @@ impl Player {
         is_deleted: bool,
     ) -> Result<Option<Reached>, Halt> {
         let Some(reached) = walked else {
-            let told = if_known(self.lookup(process).told(path))?;
-            return Ok(told.map(|standing| Reached::Standing(standing)));
+            return match if_known(self.lookup(process).told(path))? {
+                Some(told) => Ok(Some(Reached::Standing(told))),
+                None => Ok(None),
+            };
         };
         let Reached::Standing(standing) = &reached else {
             return Ok(Some(reached));

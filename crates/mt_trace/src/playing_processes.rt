@@ -133,6 +133,12 @@ impl Player {
         Ok(())
     }
 
+    /// The namespace whose file is bound where a process stands.
+    fn bound_at(&self, standing: &Standing) -> Option<(SpaceKind, u64)> {
+        let fs = shown_filesystem(self.stage.world(), standing.place.mount)?;
+        self.spaces.of_file(fs)
+    }
+
     /// The namespace that a descriptor leads to.
     fn space_behind(
         &mut self,
@@ -142,8 +148,7 @@ impl Player {
         match self.descriptor(process, at) {
             Ok(Reached::Space(kind, number)) => return Ok((kind, number)),
             Ok(Reached::Standing(standing)) => {
-                let fs = shown_filesystem(self.stage.world(), standing.place.mount);
-                if let Some(found) = fs.and_then(|fs| self.spaces.of_file(fs)) {
+                if let Some(found) = self.bound_at(&standing) {
                     return Ok(found);
                 }
             }

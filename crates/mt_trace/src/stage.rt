@@ -1,35 +1,22 @@
 //! The world that calls are played on.
-ghost use Rattle.std.specs.Prelude.{◌≡◌, ◌≢◌, false, true, Ok, Err, IfOk, IfErr, OnErr, IsOkUnless};
+ghost use Rattle.std.specs.Prelude.{◌≡◌, ◌≢◌, false, true, Ok, Err, IfOk, IfErr, OnErr, IfSome, IsOkUnless};
 ghost use Rattle.mt_propagate.specs.World.{world_view};
 ghost use Rattle.mt_propagate.specs.WellFormed.{IsWellFormed};
+ghost use Rattle.mt_propagate.specs.Touched.{since_of, since_view};
 ghost use Rattle.mt_book.specs.Step.{makes_directories};
+ghost use Rattle.mt_book.specs.declared.command.Reply.{Reply as ReplyOf};
 ghost use Rattle.mt_attempt.specs.Attempts.{tried};
-ghost use Rattle.mt_trace.specs.Stages.{all_tried, why_refused};
+ghost use Rattle.mt_trace.specs.Stages.{IsAttempt, IsSpareWorld, all_tried, why_refused};
+ghost use Rattle.mt_trace.specs.declared.stage.Spare.TheVariants as spare_with;
 
+use crate::stage_changes::{SpaceChange, changes_between};
 use mt_attempt::attempt::try_step;
 use mt_book::command::{Command, Reply};
-use mt_events::mirror::Mirror;
-use mt_events::post::Post;
-use mt_events::touched::change_of;
-use mt_info::row::Row;
-use mt_info::table::{Table, row_of};
-use mt_info::touched::rows_touched;
-use mt_mounts::mount::{MountId, SpaceId};
-use mt_propagate::touched::touched;
 use mt_propagate::world::World;
 use mt_skel::fault::Fault;
 use std::alloc::Global;
 use std::marker::Model;
 use std::mem;
-
-/// What a command changes in the table of a namespace: the rows before it of the mounts that change, and the change.
-#[derive(Drop)]
-pub struct SpaceChange {
-    /// What is known of the table before.
-    pub before: Mirror,
-    /// The change.
-    pub post: Post,
-}
 
 /// A second world beside the one that is shown.
 #[derive(Drop)]
@@ -40,6 +27,15 @@ pub(crate) enum Spare {
     Level(Box<World>),
     /// It lacks the last command.
     Behind(Box<World>),
+}
+
+/// How a command went on a world.
+#[derive(Drop)]
+pub(crate) enum Attempt {
+    /// The world after it, and its answer.
+    Changed(Box<World>, Reply),
+    /// The world as it was, and why it was refused.
+    Refused(Box<World>, Fault),
 }
 
 /// The world that calls are played on, and beside it the one before the last command.
@@ -69,6 +65,80 @@ impl Drop for Stage {
             spare: _spare,
         } = self;
     }
+}
+
+/// Does a command on a world, in which changes are noted from here on.
+fn try_on(world: Box<World>, command: &Command) -> Attempt
+    requires { IsWellFormed (world_view world.value) }
+    ensures { IsAttempt (world_view world.value) command.now result }
+{
+    let mut next = world;
+    next.begin();
+    match try_step(&mut next, command) {
+        Ok(reply) => Attempt::Changed(next, reply),
+        Err(fault) => Attempt::Refused(next, fault),
+    }
+}
+
+/// A world after a command; none where there is no memory for it.
+fn grown(world: Box<World>, command: &Command) -> Option<Box<World>>
+    requires { IsWellFormed (world_view world.value) }
+    ensures { IfSome result (λ next. (reply : ReplyOf) × (tried (world_view world.value) command.now ≡ Ok (world_view next.value, reply))) }
+{
+    let mut next = world;
+    match try_step(&mut next, command) {
+        Ok(_reply) => Some(next),
+        Err(_fault) => None,
+    }
+}
+
+/// A copy of a world, in a box of its own.
+fn boxed_copy(alloc: Global, world: &World) -> Result<Box<World>, Fault>
+    ensures world { IfOk result (λ copy. world_view copy.value ≡ world_view world.now) }
+    ensures memory { IsOkUnless result Fault.NoMemory }
+{
+    let copy = world.copy()?;
+    let boxed = Box::new(alloc, copy)?;
+    Ok(boxed)
+}
+
+/// Brings a world that lacks the last command to the one that is shown.
+fn followed(world: Box<World>, shown: &World) -> Result<Box<World>, Fault>
+    requires since { since_view shown.now ≡ since_of (world_view world.value) }
+    requires skel { (world_view shown.now).skel ≡ (world_view world.value).skel }
+    ensures world { IfOk result (λ next. world_view next.value ≡ world_view shown.now) }
+    ensures memory { IsOkUnless result Fault.NoMemory }
+{
+    let mut next = world;
+    next.follow(shown)?;
+    Ok(next)
+}
+
+/// A world that is equal to the one that is shown.
+fn level(alloc: Global, spare: Spare, shown: &World) -> Result<Box<World>, Fault>
+    requires { IsSpareWorld (world_view shown.now) (since_view shown.now) spare }
+    ensures world { IfOk result (λ world. world_view world.value ≡ world_view shown.now) }
+    ensures memory { IsOkUnless result Fault.NoMemory }
+{
+    match spare {
+        Spare::Gone => boxed_copy(alloc, shown),
+        Spare::Level(world) => Ok(world),
+        Spare::Behind(world) => followed(world, shown),
+    }
+}
+
+/// Keeps a world that is equal to the one that is shown.
+fn keep_level(spare: &mut Spare, world: Box<World>)
+    ensures { spare.new ≡ spare_with.Level world }
+{
+    *spare = Spare::Level(world);
+}
+
+/// Keeps a world that lacks the last command.
+fn keep_behind(spare: &mut Spare, world: Box<World>)
+    ensures { spare.new ≡ spare_with.Behind world }
+{
+    *spare = Spare::Behind(world);
 }
 
 /// Does commands where they can be done. Refused as `NoMemory` alone.
@@ -156,41 +226,22 @@ impl Stage {
         ensures same { self.new ≡ self.old }
         ensures memory { IsOkUnless result Fault.NoMemory }
     {
-        match mem::replace(&mut self.spare, Spare::Gone) {
-            Spare::Gone => {
-                let copy = self.shown.copy()?;
-                let boxed = Box::new(self.alloc, copy)?;
-                Ok(boxed)
-            }
-            Spare::Level(world) => Ok(world),
-            Spare::Behind(world) => {
-                let mut next = world;
-                next.follow(&self.shown)?;
-                Ok(next)
-            }
-        }
+        let spare = mem::replace(&mut self.spare, Spare::Gone);
+        level(self.alloc, spare, &self.shown)
     }
 
-    /// Does a command that makes a filesystem or a directory. Refused as the command is;
-    /// then nothing has changed.
+    /// Does a command that makes a filesystem or a directory. Refused as the command is; then nothing has changed.
     fn grow(&mut self, command: &Command) -> Result<Reply, Fault>
-        requires { makes_directories command.now ≡ true }
         ensures done { IfOk result (λ reply. tried self.old command.now ≡ Ok (self.new, reply)) }
         ensures refused { IfErr result (λ fault. fault ≢ Fault.NoMemory → tried self.old command.now ≡ Err fault) }
         ensures unchanged { OnErr result (self.new ≡ self.old) }
     {
-        let mut next = self.take_level()?;
-        match try_step(&mut next, command) {
-            Ok(reply) => {
-                let _same = try_step(&mut self.shown, command)?;
-                self.spare = Spare::Level(next);
-                Ok(reply)
-            }
-            Err(fault) => {
-                self.spare = Spare::Level(next);
-                Err(fault)
-            }
+        let next = self.take_level()?;
+        let reply = try_step(&mut self.shown, command)?;
+        if let Some(next) = grown(next, command) {
+            keep_level(&mut self.spare, next);
         }
+        Ok(reply)
     }
 
     /// Does another command. Refused as the command is; then nothing has changed.
@@ -200,16 +251,15 @@ impl Stage {
         ensures refused { IfErr result (λ fault. fault ≢ Fault.NoMemory → tried self.old command.now ≡ Err fault) }
         ensures unchanged { OnErr result (self.new ≡ self.old) }
     {
-        let mut next = self.take_level()?;
-        next.begin();
-        match try_step(&mut next, command) {
-            Ok(reply) => {
+        let next = self.take_level()?;
+        match try_on(next, command) {
+            Attempt::Changed(next, reply) => {
                 let before = mem::replace(&mut self.shown, next);
-                self.spare = Spare::Behind(before);
+                keep_behind(&mut self.spare, before);
                 Ok(reply)
             }
-            Err(fault) => {
-                self.spare = Spare::Level(next);
+            Attempt::Refused(next, fault) => {
+                keep_level(&mut self.spare, next);
                 Err(fault)
             }
         }
@@ -228,6 +278,23 @@ impl Stage {
         }
     }
 
+    /// Whether a command would be done on a world that is equal to the one that is shown: why it is refused, if it is.
+    fn ask_level(&mut self, world: Box<World>, command: &Command) -> Result<Option<Fault>, Fault>
+        requires { world_view world.value ≡ self.old }
+        ensures answer { IfOk result (λ why. why ≡ why_refused (tried self.old command.now)) }
+        ensures unchanged { self.new ≡ self.old }
+        ensures memory { IsOkUnless result Fault.NoMemory }
+    {
+        match try_on(world, command) {
+            Attempt::Changed(_world, _reply) => Ok(None),
+            Attempt::Refused(_world, Fault::NoMemory) => Err(Fault::NoMemory),
+            Attempt::Refused(world, fault) => {
+                keep_level(&mut self.spare, world);
+                Ok(Some(fault))
+            }
+        }
+    }
+
     /// Whether a command would be done once others are, which are done where they can be: why it is refused, if it is. Nothing changes.
     /// Refused as `NoMemory` alone.
     pub fn ask(&mut self, before: &[Command], command: &Command) -> Result<Option<Fault>, Fault>
@@ -236,11 +303,10 @@ impl Stage {
         ensures memory { IsOkUnless result Fault.NoMemory }
     {
         let mut scratch = self.take_level()?;
-        let answer = asked_on(&mut scratch, before, command)?;
-        if before.is_empty() && answer.is_some() {
-            self.spare = Spare::Level(scratch);
+        if before.is_empty() {
+            return self.ask_level(scratch, command);
         }
-        Ok(answer)
+        asked_on(&mut scratch, before, command)
     }
 
     /// What the last command has changed in each namespace that is there after it. Refused as `NoMemory` alone.
@@ -252,86 +318,4 @@ impl Stage {
             Spare::Gone | Spare::Level(_) => Ok(Vec::new(self.alloc)),
         }
     }
-}
-
-/// What changes from one world to another one, which has noted it, in each namespace that is there in the second.
-fn changes_between(
-    alloc: Global,
-    before: &World,
-    after: &World,
-) -> Result<Vec<SpaceChange>, Fault> {
-    let mut changes = Vec::new(alloc);
-    let ids = touched(before, after)?;
-    let ids = rows_touched(before, after, &ids)?;
-    for space in &spaces_of(alloc, before, after, &ids)? {
-        if let Some(change) = change_in(alloc, before, after, *space, &ids)? {
-            changes.push(change)?;
-        }
-    }
-    Ok(changes)
-}
-
-/// Adds the namespace of a mount, unless it is there.
-fn push_space(spaces: &mut Vec<SpaceId>, world: &World, id: MountId) -> Result<(), Fault> {
-    if let Some(mount) = world.forest.get(id) {
-        if !spaces.contains(&mount.space) {
-            spaces.push(mount.space)?;
-        }
-    }
-    Ok(())
-}
-
-/// The namespaces of mounts, before and after, that are there after.
-fn spaces_of(
-    alloc: Global,
-    before: &World,
-    after: &World,
-    ids: &[MountId],
-) -> Result<Vec<SpaceId>, Fault> {
-    let mut spaces = Vec::new(alloc);
-    for id in ids {
-        push_space(&mut spaces, before, *id)?;
-        push_space(&mut spaces, after, *id)?;
-    }
-    spaces.retain(|space| after.forest.root(*space).is_some());
-    spaces.sort_unstable();
-    Ok(spaces)
-}
-
-/// The rows of those of these mounts that are in a namespace.
-fn rows_in(
-    alloc: Global,
-    world: &World,
-    space: SpaceId,
-    ids: &[MountId],
-) -> Result<Vec<Row>, Fault> {
-    let mut rows = Vec::new(alloc);
-    for id in ids {
-        if let Some(mount) = world.forest.get(*id) {
-            if mount.space == space {
-                rows.push(row_of(world, *id)?)?;
-            }
-        }
-    }
-    Ok(rows)
-}
-
-/// What changes in the table of a namespace, if something does.
-fn change_in(
-    alloc: Global,
-    before: &World,
-    after: &World,
-    space: SpaceId,
-    ids: &[MountId],
-) -> Result<Option<SpaceChange>, Fault> {
-    let Some(delta) = change_of(before, after, space, ids)? else {
-        return Ok(None);
-    };
-    let Some(table) = Table::from_rows(rows_in(alloc, before, space, ids)?) else {
-        return Ok(None);
-    };
-    Ok(Some(SpaceChange {
-        before: Mirror::new(space, 0, table),
-        post: Post::telling(space, 1, delta),
-    }))
 }

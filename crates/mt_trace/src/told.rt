@@ -18,7 +18,7 @@ pub enum Told {
     ProgramUnknown,
     /// It is not known which namespace is meant.
     SpaceUnknown,
-    /// A path has more than 40 symbolic links, one in the target of another (path_resolution(7)).
+    /// A path has more than 40 symbolic links (path_resolution(7)).
     TooManyLinks,
     /// A name of a path is no name: it has more than 255 bytes.
     NoName,

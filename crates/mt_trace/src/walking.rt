@@ -17,7 +17,7 @@ use mt_propagate::world::World;
 use mt_skel::name::Name;
 use std::alloc::{AllocError, Global};
 
-/// The most symbolic links that are followed, one in the target of another (path_resolution(7)).
+/// The most symbolic links that are followed in a path (path_resolution(7)).
 const MOST_LINKS: u32 = 40;
 
 /// What the paths of a process are looked up in.
@@ -146,7 +146,7 @@ impl<'a> Lookup<'a> {
     fn walk_to_link(&self, start: &Standing, path: &[u8], follows: bool) -> Result<Arrival, Halt> {
         let mut here = Reached::Standing(settled_standing(self.world, start)?);
         let mut names = Pieces::new(b'/', path);
-        while let Some(name) = names.next() {
+        'names: while let Some(name) = names.next() {
             if !name.is_empty() && name != b".".as_slice() {
                 match self.step(here, name, follows || !are_over(&names))? {
                     Arrival::At(reached) => here = reached,
@@ -220,8 +220,7 @@ impl<'a> Lookup<'a> {
     /// What a path leads to that strace tells of a descriptor: one without links, from the root of the namespace.
     pub fn told(&self, path: &[u8]) -> Result<Standing, Halt> {
         let mut here = self.told_root(self.processes.spaces(self.number))?;
-        let mut names = Pieces::new(b'/', path);
-        while let Some(bytes) = names.next() {
+        for bytes in Pieces::new(b'/', path) {
             if !bytes.is_empty() {
                 let name = self.name(bytes)?;
                 here = self.topped(child_standing(self.world, &here, &name)?);
