@@ -13,4 +13,5 @@ pub mod OpenFiles
 pub mod Stages
 pub mod Standings
 pub mod Walks
+pub mod Failures
 pub mod Texts

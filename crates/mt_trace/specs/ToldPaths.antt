@@ -14,8 +14,11 @@ use Rattle.mt_trace.specs.declared.told_path.ToldPath.TheVariants as told
 use Rattle.mt_trace.specs.ProcessSpaces.{kind_of_file}
 
 -- a namespace: its kind, and its number between brackets, as in mnt:[4026532205] (namespaces(7))
+abbrev pub number_between : List ℕ → List ℕ → List ℕ → Option ℕ
+number_between front end text = option_and_then (λ behind. option_and_then number_in_text (stripped_end end behind)) (stripped front text)
+
 abbrev pub number_in_brackets : List ℕ → Option ℕ
-number_in_brackets text = option_and_then (λ digits. option_and_then number_in_text (stripped_end (codes "]") digits)) (stripped (codes "[") text)
+number_in_brackets text = number_between (codes "[") (codes "]") text
 
 abbrev pub namespace_with : List (List ℕ) → Option (SpaceKind × ℕ)
 namespace_with (word ∷ text ∷ []) = option_and_then (λ kind. option_map (λ n. (kind, n)) (number_in_brackets text)) (kind_of_file word)
@@ -32,8 +35,7 @@ told_path text =
 -- the number that strace has for a child: what the call returned, unless that is a number of another namespace, where a comment
 -- says it
 abbrev pub number_in_comment : List ℕ → Option ℕ
-number_in_comment notes =
-    option_and_then (λ behind. option_and_then number_in_text (stripped_end (codes " in strace's PID NS */") behind)) (stripped (codes " /* ") notes)
+number_in_comment notes = number_between (codes " /* ") (codes " in strace's PID NS */") notes
 
 abbrev pub child_of : CallResult → Option ℕ
 child_of (outcome.Returned value path is_deleted notes) = if length notes == 0 then value else number_in_comment notes

@@ -14,7 +14,7 @@ named_below s name = record s { below = s.below ++ name ∷ [] }
 
 abbrev pub spot_below : WorldView → Standing → List ℕ → Standing
 spot_below w s name =
-    if length s.below == 0 then option_map_or (λ d. spot_at (record { mount = s.place.mount; dir = d })) (named_below s name) (child w.skel s.place.dir name)
+    if length s.below == 0 then option_map_or (λ d. spot_at (record { mount = s.place.mount; dir = d })) (child w.skel s.place.dir name) (named_below s name)
     else named_below s name
 
 -- a spot of which more directories are there by now

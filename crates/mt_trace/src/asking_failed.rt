@@ -1,4 +1,5 @@
 //! Calls that failed: what the model would say to them.
+ghost use Rattle.mt_trace.specs.Failures.{IsStill};
 
 use crate::mount_flags::MountOperation;
 use crate::player::Player;
@@ -254,7 +255,9 @@ impl Player {
     }
 
     /// Notes what the model answers of a call that failed with an error.
-    fn note_answer(&mut self, asked: &Asked, error: &[u8]) -> Result<(), Halt> {
+    fn note_answer(&mut self, asked: &Asked, error: &[u8]) -> Result<(), Halt>
+        ensures still { IsStill self.old self.new }
+    {
         match self.stage.ask(&asked.directories, &asked.command)? {
             None => {
                 let words = b"the model would do it: it does not know the reason of ";
@@ -277,16 +280,19 @@ impl Player {
         process: u64,
         asked: &SystemCall<'_>,
         error: &[u8],
-    ) -> Result<(), Halt> {
+    ) -> Result<(), Halt>
+        ensures still { IsStill self.old self.new }
+    {
         if error == b"ENOTDIR".as_slice() {
-            self.note(b"the model: files are directories there")?;
+            self.account
+                .note(b"the model: files are directories there")?;
             return Ok(());
         }
         match self.asked_of(process, asked, shows_directories(error)) {
             Ok(Some(asked)) => self.note_answer(&asked, error),
             Ok(None) => Ok(()),
             Err(Halt::Told(Told::Gone)) => {
-                self.note(b"the model: the mount was taken away")?;
+                self.account.note(b"the model: the mount was taken away")?;
                 Ok(())
             }
             Err(Halt::Told(why)) => {

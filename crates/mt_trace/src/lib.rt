@@ -18,6 +18,7 @@ mod asking_failed;
 mod births;
 pub mod call_flags;
 pub mod call_name;
+mod calls_told;
 mod covers;
 mod file_calls;
 mod filesystems;

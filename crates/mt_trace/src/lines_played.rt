@@ -1,9 +1,11 @@
 //! The lines of a trace, played one after another.
+ghost use Rattle.std.specs.Prelude.{◌≡◌, true};
+ghost use Rattle.mt_trace.specs.Failures.{is_failed, IsStill};
 
-use crate::account::{Account, Caller};
 use crate::ahead::Ahead;
 use crate::asking::asked_by_call;
 use crate::call_name::{CallName, call_named};
+use crate::calls_told::call_written_if;
 use crate::foreseen::is_named_again;
 use crate::joining::{CallText, JoinedLine};
 use crate::player::Player;
@@ -11,7 +13,7 @@ use crate::playing::is_loud;
 use crate::system_call::{AskedCall, SystemCall};
 use crate::told::{Halt, Told};
 use crate::unknown::Unknown;
-use crate::written::{CallOutcome, call_written, push_account};
+use crate::written::CallOutcome;
 use mt_strace::call::TracedCall;
 use mt_strace::line::{StraceLine, read_call, read_strace_line};
 use mt_strace::result::CallResult;
@@ -65,6 +67,29 @@ fn ender_of(line: &StraceLine<'_>) -> Option<u64> {
     }
 }
 
+/// Whether a call failed.
+fn is_failed(of: &CallResult<'_>) -> bool
+    ensures { result ≡ is_failed of.now }
+{
+    match of {
+        CallResult::Failed { .. } => true,
+        CallResult::Returned { .. } => false,
+        CallResult::Unknown => false,
+    }
+}
+
+/// The error of a call that failed; none of another one.
+fn error_of<'c>(of: &'c CallResult<'_>) -> &'c [u8] {
+    match of {
+        CallResult::Failed {
+            error,
+            notes: _notes,
+        } => error.bytes(),
+        CallResult::Returned { .. } => b"",
+        CallResult::Unknown => b"",
+    }
+}
+
 /// What is left of a halt: nothing but want of memory.
 pub(crate) fn but_memory(played: Result<(), Halt>) -> Result<(), AllocError> {
     match played {
@@ -74,88 +99,38 @@ pub(crate) fn but_memory(played: Result<(), Halt>) -> Result<(), AllocError> {
 }
 
 impl Player {
-    /// Begins to tell a call.
-    pub(crate) fn begin_account(&mut self, line: u64, process: u64, marks: bool) {
-        let caller = Caller {
-            line,
-            process,
-            space: self.process_spaces(process).mount,
-            next_space: self.stage.world().next_space,
-            marks,
-        };
-        self.account = Account::new(self.alloc, self.form, caller);
-    }
-
-    /// Notes why a call is not played to its end, and answers what came of it.
-    pub(crate) fn outcome_of(
+    /// Tells a call that failed: neither the world nor the processes change.
+    fn tell_failed(
         &mut self,
-        played: Result<(), Halt>,
-    ) -> Result<CallOutcome, AllocError> {
-        match played {
-            Ok(()) => Ok(CallOutcome::Played),
-            Err(Halt::NoMemory) => Err(AllocError),
-            Err(Halt::Told(Told::Refused(refusal))) => {
-                self.account.note_of(b"the model: no ", refusal.name())?;
-                Ok(CallOutcome::Differing)
-            }
-            Err(Halt::Told(why)) => {
-                self.account
-                    .note_of(b"not played: ", why.text().as_bytes())?;
-                Ok(CallOutcome::Told)
-            }
-        }
-    }
-
-    /// Counts what came of a call.
-    fn count(&mut self, outcome: CallOutcome) {
-        let tally = &mut self.tally;
-        match outcome {
-            CallOutcome::Played => tally.played = tally.played.saturating_add(1),
-            CallOutcome::Told => tally.told = tally.told.saturating_add(1),
-            CallOutcome::Failed => tally.failed = tally.failed.saturating_add(1),
-            CallOutcome::Differing => {
-                tally.told = tally.told.saturating_add(1);
-                tally.differing = tally.differing.saturating_add(1);
-            }
-        }
-    }
-
-    /// Appends what is told of a call.
-    fn tell(
-        &mut self,
-        out: &mut Vec<u8>,
-        said: &[u8],
-        outcome: CallOutcome,
-    ) -> Result<(), AllocError> {
-        let elsewhere = self.account.elsewhere();
-        self.tally.elsewhere = self.tally.elsewhere.saturating_add(elsewhere);
-        if self.only_leaks && elsewhere == 0 && outcome != CallOutcome::Differing {
-            return Ok(());
-        }
-        push_account(out, self.form, &self.account, said, outcome)
-    }
-
-    /// Tells and counts a call that is always told.
-    pub(crate) fn tell_loud(
-        &mut self,
-        out: &mut Vec<u8>,
+        process: u64,
         call: &TracedCall<'_>,
-        outcome: CallOutcome,
-    ) -> Result<(), AllocError> {
-        self.count(outcome);
-        let said = call_written(self.alloc, call)?;
-        self.tell(out, &said, outcome)
-    }
-
-    /// Tells a call that is told only where it changes something.
-    fn tell_quiet(&mut self, out: &mut Vec<u8>, said: &[u8]) -> Result<(), AllocError> {
-        if self.account.changes().is_empty()
-            && self.account.commands().is_empty()
-            && self.account.notes().is_empty()
-        {
+        asked: &SystemCall<'_>,
+        out: &mut Vec<u8>,
+    ) -> Result<(), AllocError>
+        ensures still { IsStill self.old self.new }
+    {
+        if !is_loud(asked) {
             return Ok(());
         }
-        self.tell(out, said, CallOutcome::Played)
+        let noted = self.ask_failed(process, asked, error_of(&call.result));
+        but_memory(noted)?;
+        self.tell_loud(out, call, CallOutcome::Failed)
+    }
+
+    /// Plays a call that did not fail.
+    fn play_done<A: Ahead>(
+        &mut self,
+        process: u64,
+        call: &TracedCall<'_>,
+        asked: &SystemCall<'_>,
+        ahead: &mut A,
+        out: &mut Vec<u8>,
+    ) -> Result<(), AllocError> {
+        match asked {
+            SystemCall::Clone(words) => self.play_clone(process, call, *words, out),
+            other if is_loud(other) => self.play_loud(process, call, other, ahead, out),
+            other => self.play_quiet(process, call, other, out),
+        }
     }
 
     /// Plays a call that is always told.
@@ -167,24 +142,12 @@ impl Player {
         ahead: &mut A,
         out: &mut Vec<u8>,
     ) -> Result<(), AllocError> {
-        let outcome = match &call.result {
-            CallResult::Failed {
-                error,
-                notes: _notes,
-            } => {
-                let asked = self.ask_failed(process, asked, error.bytes());
-                but_memory(asked)?;
-                CallOutcome::Failed
-            }
-            of => {
-                let again = match asked {
-                    SystemCall::PivotRoot { .. } => is_named_again(self.alloc, ahead, process)?,
-                    _ => false,
-                };
-                let played = self.play_asked(process, asked, of, again);
-                self.outcome_of(played)?
-            }
+        let again = match asked {
+            SystemCall::PivotRoot { .. } => is_named_again(self.alloc, ahead, process)?,
+            _ => false,
         };
+        let played = self.play_asked(process, asked, &call.result, again);
+        let outcome = self.outcome_of(played)?;
         self.tell_loud(out, call, outcome)
     }
 
@@ -211,7 +174,9 @@ impl Player {
         call: &TracedCall<'_>,
         why: Unknown,
         out: &mut Vec<u8>,
-    ) -> Result<(), AllocError> {
+    ) -> Result<(), AllocError>
+        ensures still { IsStill self.old self.new }
+    {
         match call_named(call.name.bytes()) {
             Some(name) if is_told(name) => {
                 let outcome = self.outcome_of(Err(Halt::Told(Told::Unknown(why))))?;
@@ -221,24 +186,28 @@ impl Player {
         }
     }
 
-    /// Plays a call.
-    fn play_call<A: Ahead>(
+    /// Plays a call. One that failed changes neither the world nor the processes.
+    pub(crate) fn play_call<A: Ahead>(
         &mut self,
         number: u64,
         call: &TracedCall<'_>,
         ahead: &mut A,
         out: &mut Vec<u8>,
-    ) -> Result<(), AllocError> {
+    ) -> Result<(), AllocError>
+        ensures failed { is_failed call.now.result ≡ true → IsStill self.old self.new }
+    {
         let process = call.process.unwrap_or(0);
         self.begin_account(number, process, true);
         match asked_by_call(call) {
             AskedCall::Silent => Ok(()),
             AskedCall::Unknown(why) => self.tell_unknown(call, why, out),
-            AskedCall::Call(SystemCall::Clone(words)) => self.play_clone(process, call, words, out),
-            AskedCall::Call(asked) if is_loud(&asked) => {
-                self.play_loud(process, call, &asked, ahead, out)
+            AskedCall::Call(asked) => {
+                if is_failed(&call.result) {
+                    self.tell_failed(process, call, &asked, out)
+                } else {
+                    self.play_done(process, call, &asked, ahead, out)
+                }
             }
-            AskedCall::Call(asked) => self.play_quiet(process, call, &asked, out),
         }
     }
 
@@ -362,12 +331,4 @@ impl Player {
         }
         found
     }
-}
-
-/// A call as it is told, where something is told of it.
-fn call_written_if(player: &Player, call: &TracedCall<'_>) -> Result<Vec<u8>, AllocError> {
-    if player.account.changes().is_empty() && player.account.commands().is_empty() {
-        return Ok(Vec::new(player.alloc));
-    }
-    call_written(player.alloc, call)
 }

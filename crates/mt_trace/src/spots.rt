@@ -3,7 +3,7 @@ ghost use Rattle.std.specs.Prelude.{◌≡◌, ◌≢◌, ◌++◌, false, IfOk,
 ghost use Rattle.mt_skel.specs.Skeleton.{is_directory, is_filesystem};
 ghost use Rattle.mt_propagate.specs.World.{world_view};
 ghost use Rattle.mt_trace.specs.declared.told.Halt.{Halt as HaltOf};
-ghost use Rattle.mt_trace.specs.Walks.{spot_settled, spot_below, spot_directory};
+ghost use Rattle.mt_trace.specs.Walks.{spot_settled, settled_from, spot_below, spot_directory};
 
 use crate::standing::Standing;
 use crate::told::{Halt, Told};
@@ -29,16 +29,25 @@ pub fn is_there(world: &World, dir: Dir) -> bool
     world.skel.holds(dir, dir)
 }
 
+/// Names with others at their end.
+fn with_all(names: Names, more: &[Name]) -> Result<Names, Fault>
+    ensures joined { IfOk result (λ joined. joined ≡ names ++ more.now) }
+    ensures memory { IsOkUnless result Fault.NoMemory }
+{
+    let mut names = names;
+    'each: for name in more {
+        names = names.with(name)?;
+    }
+    Ok(names)
+}
+
 /// Names with some more at their end. Refused as `NoMemory` alone.
 pub fn names_joined(names: Names, more: &Names) -> Result<Names, Fault>
     ensures joined { IfOk result (λ joined. joined ≡ names ++ more.now) }
     ensures memory { IsOkUnless result Fault.NoMemory }
 {
-    let mut names = names;
-    for name in &more.to_vec()? {
-        names = names.with(name)?;
-    }
-    Ok(names)
+    let more = more.to_vec()?;
+    with_all(names, &more)
 }
 
 /// The way from a place up to the root of its namespace, the lowest step first. `None` if its mount is not there.
@@ -146,28 +155,35 @@ pub fn settled_standing(world: &World, standing: &Standing) -> Result<Standing, 
     ensures settled { IfOk result (λ settled. settled ≡ spot_settled (world_view world.now) standing.now) }
     ensures memory { IsOkUnless result Fault.NoMemory }
 {
-    if standing.is_made() {
-        return standing.copy();
-    }
-    let mut settled = Standing::at(world.forest.allocator(), standing.place);
-    for name in &standing.below.to_vec()? {
+    let names = standing.below.to_vec()?;
+    let start = Standing::at(world.forest.allocator(), standing.place);
+    settled_from(world, start, &names)
+}
+
+/// Where names lead from a standing, one after another: nothing that is mounted there counts.
+fn settled_from(world: &World, start: Standing, names: &[Name]) -> Result<Standing, Fault>
+    ensures settled { IfOk result (λ settled. settled ≡ settled_from (world_view world.now) start names.now) }
+    ensures memory { IsOkUnless result Fault.NoMemory }
+{
+    let mut settled = start;
+    'each: for name in names {
         settled = down(world, settled, name)?;
     }
     Ok(settled)
 }
 
 /// The directory of a name in a standing: nothing that is mounted there counts.
-fn down(world: &World, standing: Standing, name: &Name) -> Result<Standing, Fault> {
-    let Standing { place, below } = standing;
-    if below.text().is_empty() {
-        if let Some(dir) = world.skel.child(place.dir, name) {
-            let place = Place {
-                mount: place.mount,
-                dir,
-            };
-            return Ok(Standing { place, below });
+fn down(world: &World, standing: Standing, name: &Name) -> Result<Standing, Fault>
+    ensures below { IfOk result (λ below. below ≡ spot_below (world_view world.now) standing name.now) }
+    ensures memory { IsOkUnless result Fault.NoMemory }
+{
+    if standing.is_made() {
+        if let Some(dir) = world.skel.child(standing.place.dir, name) {
+            let mount = standing.place.mount;
+            return Ok(Standing::at(world.forest.allocator(), Place { mount, dir }));
         }
     }
+    let Standing { place, below } = standing;
     let below = below.with(name)?;
     Ok(Standing { place, below })
 }

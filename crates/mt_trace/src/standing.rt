@@ -42,6 +42,7 @@ impl Standing {
     }
 
     /// Whether its directory is there.
+    #[tactic(auto, using(crate::proofs::SpotLaws::empty_text))]
     pub fn is_made(&self) -> bool
         ensures { result ≡ (length self.now.below == 0) }
     {

@@ -1,6 +1,6 @@
 //! What strace tells a descriptor to lead to, and the number of a child.
 ghost use Rattle.std.specs.Prelude.{◌≡◌};
-ghost use Rattle.mt_trace.specs.ToldPaths.{number_in_brackets, namespace_told, told_path, number_in_comment, child_of};
+ghost use Rattle.mt_trace.specs.ToldPaths.{number_between, number_in_brackets, namespace_told, told_path, number_in_comment, child_of};
 
 use crate::process_spaces::{SpaceKind, kind_of_file};
 use mt_lines::words::{Pieces, number};
@@ -18,14 +18,19 @@ pub enum ToldPath<'a> {
     Other,
 }
 
+/// The number between a text's front and its end.
+fn number_between(front: &[u8], end: &[u8], text: &[u8]) -> Option<u64>
+    ensures { result ≡ number_between front.now end.now text.now }
+{
+    let behind = text.strip_prefix(front)?;
+    number(behind.strip_suffix(end)?)
+}
+
 /// The number between brackets.
 fn number_in_brackets(text: &[u8]) -> Option<u64>
     ensures { result ≡ number_in_brackets text.now }
 {
-    number(
-        text.strip_prefix(b"[".as_slice())?
-            .strip_suffix(b"]".as_slice())?,
-    )
+    number_between(b"[", b"]", text)
 }
 
 /// The namespace that a text names.
@@ -58,8 +63,7 @@ pub fn told_path<'a>(text: &'a [u8]) -> ToldPath<'a>
 fn number_in_comment(notes: &[u8]) -> Option<u64>
     ensures { result ≡ number_in_comment notes.now }
 {
-    let behind = notes.strip_prefix(b" /* ".as_slice())?;
-    number(behind.strip_suffix(b" in strace's PID NS */".as_slice())?)
+    number_between(b" /* ", b" in strace's PID NS */", notes)
 }
 
 /// The number that strace has for the child that a call has made. `None` if the call failed, or it does not tell the number.
