@@ -8,7 +8,6 @@ use mt_skel::fault::Fault as Refusal;
 use mt_trace::player::Player;
 use mt_trace::spots::names_inside;
 use mt_trace::standing::Standing;
-use mt_trace::told::Halt;
 
 /// The first number that is none of a namespace that a model may have.
 const MOST_SPACES: u64 = 1_048_576;
@@ -50,10 +49,9 @@ fn push_root(text: &mut Vec<u8>, player: &Player, root: &Standing) -> Result<(),
     if player.world().forest.get(root.place.mount).is_none() {
         return Ok(text.extend_from_slice(b"gone")?);
     }
-    match names_inside(player.world(), root) {
-        Ok(names) => Ok(push_path(text, &names)?),
-        Err(Halt::NoMemory) => Err(Refusal::NoMemory),
-        Err(Halt::Told(_)) => Ok(text.extend_from_slice(b"gone")?),
+    match names_inside(player.world(), root)? {
+        Some(names) => Ok(push_path(text, &names)?),
+        None => Ok(text.extend_from_slice(b"gone")?),
     }
 }
 

@@ -2,3 +2,4 @@ pub mod CallNameLaws
 pub mod ChangeLaws
 pub mod SpotLaws
 pub mod StageLaws
+pub mod TextLaws

@@ -1,5 +1,6 @@
 -- Directories that are there, and names below them.
-use Rattle.std.proofs.Common.{◌≡◌, ℕ, ◌<◌, ◌==◌, List, [], ◌∷◌, length, refl}
+use Rattle.std.proofs.Common.{◌≡◌, ℕ, ◌<◌, ◌==◌, List, [], ◌∷◌, ◌++◌, length, refl, sym, ◌∙◌}
+use Rattle.std.proofs.Math.Dec.{eqb-suc-zero}
 use Rattle.std.proofs.lemmas.Bool.Decides.{Decides-ltb, Decides-like, same_from_decides}
 use Rattle.mt_skel.specs.Names.{names_text}
 use Rattle.mt_skel.specs.Skeleton.{Skeleton, is_directory, holds}
@@ -15,4 +16,4 @@ holds_itself s d =
 -- a path without text has no names
 pub empty_text : (names : List (List ℕ)) → (length (names_text names) == 0) ≡ (length names == 0)
 empty_text [] = refl
-empty_text (name ∷ names) = refl
+empty_text (name ∷ names) = eqb-suc-zero (length (name ++ names_text names)) ∙ sym (eqb-suc-zero (length names))

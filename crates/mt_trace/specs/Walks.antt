@@ -1,8 +1,8 @@
 -- Where the paths of a process lead (path_resolution(7), proc(5)).
 -- A word with no source is this project's rule.
-use Rattle.std.specs.Prelude.{ℕ, ◌==◌, if◌then◌else◌, List, [], ◌∷◌, ◌++◌, length}
+use Rattle.std.specs.Prelude.{ℕ, ◌==◌, if◌then◌else◌, List, [], ◌∷◌, ◌++◌, length, Option, Some, None}
 use Rattle.std.specs.Option.{option_map_or}
-use Rattle.mt_skel.specs.Skeleton.{Directory, directory, child}
+use Rattle.mt_skel.specs.Skeleton.{is_directory, directory, child}
 use Rattle.mt_mounts.specs.declared.mount.Place.{Place}
 use Rattle.mt_propagate.specs.World.{WorldView}
 use Rattle.mt_trace.specs.declared.standing.Standing.{Standing}
@@ -25,6 +25,6 @@ settled_from w s (name ∷ names) = settled_from w (spot_below w s name) names
 abbrev pub spot_settled : WorldView → Standing → Standing
 spot_settled w s = settled_from w (spot_at s.place) s.below
 
--- the filesystem of a spot, and the names from its root down to it
-abbrev pub spot_directory : WorldView → Standing → Directory
-spot_directory w s = record { fs = (directory w.skel s.place.dir).fs; path = (directory w.skel s.place.dir).path ++ s.below }
+-- the names from the root of its filesystem down to a spot, if its directory is there
+abbrev pub names_inside : WorldView → Standing → Option (List (List ℕ))
+names_inside w s = if is_directory w.skel s.place.dir then Some ((directory w.skel s.place.dir).path ++ s.below) else None

@@ -301,7 +301,10 @@ impl Player {
         let Some(label) = self.filesystems.name(fs)? else {
             return Err(Halt::Told(Told::NoRoom));
         };
-        let mut path = names_inside(world, &Standing::at(self.alloc, standing.place))?;
+        let start = Standing::at(self.alloc, standing.place);
+        let Some(mut path) = names_inside(world, &start)? else {
+            return Err(Halt::Told(Told::Gone));
+        };
         for name in &standing.below.to_vec()? {
             path = path.with(name)?;
             commands.push(Command::MakeDir {

@@ -9,7 +9,6 @@ use crate::standing::{Reached, Standing};
 use crate::string_argument::StringArgument;
 use crate::told::Halt;
 use crate::told_path::{ToldPath, told_path};
-use mt_skel::names::Names;
 use mt_strace::descriptor::{Descriptor, DescriptorNumber};
 use mt_strace::excerpt::Excerpt;
 use mt_strace::string::unescaped_bytes;
@@ -25,14 +24,13 @@ pub(crate) struct Returned<'c, 'a> {
     pub(crate) is_deleted: bool,
 }
 
-/// Whether names are those of a path as strace tells it.
-fn is_path(names: &Names, path: &[u8]) -> bool {
-    let text = names.text();
+/// Whether the text of a path is the path that strace tells.
+fn is_path(text: &[u8], path: &[u8]) -> bool {
     text == path || text.is_empty() && path == b"/".as_slice()
 }
 
 /// What is known, if it is: only want of memory ends the call.
-fn if_known<T: Drop>(found: Result<T, Halt>) -> Result<Option<T>, Halt> {
+pub(crate) fn if_known<T: Drop>(found: Result<T, Halt>) -> Result<Option<T>, Halt> {
     match found {
         Ok(value) => Ok(Some(value)),
         Err(Halt::NoMemory) => Err(Halt::NoMemory),
@@ -143,7 +141,7 @@ impl Player {
     /// Whether strace tells this path of a standing.
     fn is_told_so(&self, process: u64, standing: &Standing, path: &[u8]) -> Result<bool, Halt> {
         match self.lookup(process).path_told(standing)? {
-            Some(names) => Ok(is_path(&names, path)),
+            Some(text) => Ok(is_path(&text, path)),
             None => Ok(false),
         }
     }
@@ -153,7 +151,9 @@ impl Player {
         if !is_of_kind(self.stage.world(), standing.place.mount, b"proc") {
             return Ok(false);
         }
-        let inside = names_inside(self.stage.world(), standing)?;
+        let Some(inside) = names_inside(self.stage.world(), standing)? else {
+            return Ok(false);
+        };
         match inside.text() {
             [b'/', digit, ..] => Ok(digit.is_ascii_digit()),
             _ => Ok(false),
@@ -248,7 +248,9 @@ impl Player {
         let Some(fs) = shown_filesystem(world, mount) else {
             return Ok(());
         };
-        let inside = names_inside(world, standing)?;
+        let Some(inside) = names_inside(world, standing)? else {
+            return Ok(());
+        };
         self.links.note(fs, &inside, target)?;
         Ok(())
     }

@@ -3,6 +3,7 @@
 use crate::call_flags::CloneWords;
 use crate::covers::mount_copied;
 use crate::player::Player;
+use crate::playing_files::if_known;
 use crate::process::Directories;
 use crate::process_calls::here;
 use crate::process_spaces::{ProcessSpaces, SpaceKind};
@@ -139,22 +140,25 @@ impl Player {
         self.spaces.of_file(fs)
     }
 
+    /// The namespace that something is the file of.
+    fn space_in(&self, reached: &Reached) -> Option<(SpaceKind, u64)> {
+        match reached {
+            Reached::Space(kind, number) => Some((*kind, *number)),
+            Reached::Standing(standing) => self.bound_at(standing),
+            Reached::Context(_context) => None,
+        }
+    }
+
     /// The namespace that a descriptor leads to.
     fn space_behind(
         &mut self,
         process: u64,
         at: &Descriptor<'_>,
     ) -> Result<(SpaceKind, u64), Halt> {
-        match self.descriptor(process, at) {
-            Ok(Reached::Space(kind, number)) => return Ok((kind, number)),
-            Ok(Reached::Standing(standing)) => {
-                if let Some(found) = self.bound_at(&standing) {
-                    return Ok(found);
-                }
+        if let Some(reached) = if_known(self.descriptor(process, at))? {
+            if let Some(found) = self.space_in(&reached) {
+                return Ok(found);
             }
-            Ok(Reached::Context(_)) => {}
-            Err(Halt::NoMemory) => return Err(Halt::NoMemory),
-            Err(Halt::Told(_)) => {}
         }
         let Some(excerpt) = &at.path else {
             return Err(Halt::Told(Told::SpaceUnknown));
@@ -252,11 +256,16 @@ impl Player {
         path: &StringArgument<'_>,
         follows: bool,
     ) -> Result<(), Halt> {
-        let program = match self.reach(process, at, path, follows) {
-            Ok(Reached::Standing(standing)) => Some(Reached::Standing(standing)),
-            Ok(Reached::Space(_, _) | Reached::Context(_)) => None,
-            Err(Halt::NoMemory) => return Err(Halt::NoMemory),
-            Err(Halt::Told(_)) => None,
+        let found = if_known(self.reach(process, at, path, follows))?;
+        let program = match found {
+            Some(reached) => {
+                if reached.is_standing() {
+                    Some(reached)
+                } else {
+                    None
+                }
+            }
+            None => None,
         };
         self.processes.execute(process, program)
     }

@@ -1,9 +1,8 @@
 //! Directories of mounts, and the paths that lead to them.
-ghost use Rattle.std.specs.Prelude.{◌≡◌, ◌≢◌, ◌++◌, false, IfOk, IfErr, IfSome, IsOkUnless, IsTrue};
-ghost use Rattle.mt_skel.specs.Skeleton.{is_directory, is_filesystem};
+ghost use Rattle.std.specs.Prelude.{◌≡◌, ◌++◌, IfOk, IfSome, IsOkUnless, IsTrue};
+ghost use Rattle.mt_skel.specs.Skeleton.{is_directory, is_filesystem, directory};
 ghost use Rattle.mt_propagate.specs.World.{world_view};
-ghost use Rattle.mt_trace.specs.declared.told.Halt.{Halt as HaltOf};
-ghost use Rattle.mt_trace.specs.Walks.{spot_settled, settled_from, spot_below, spot_directory};
+ghost use Rattle.mt_trace.specs.Walks.{spot_settled, settled_from, spot_below, names_inside};
 
 use crate::standing::Standing;
 use crate::told::{Halt, Told};
@@ -101,18 +100,29 @@ pub fn names_to(world: &World, standing: &Standing) -> Result<Option<(SpaceId, N
     Ok(Some((space, names_joined(names, &standing.below)?)))
 }
 
-/// The names from the root of its filesystem down to a standing. Told as [`Told::Gone`] if its directory is not there.
-pub fn names_inside(world: &World, standing: &Standing) -> Result<Names, Halt>
-    ensures inside { IfOk result (λ inside. inside ≡ (spot_directory (world_view world.now) standing.now).path) }
-    ensures told { IfErr result (λ why. why ≢ HaltOf.NoMemory → is_directory (world_view world.now).skel standing.now.place.dir ≡ false) }
+/// The names from the root of its filesystem down to a standing. `None` if its directory is not there. Refused as `NoMemory` alone.
+pub fn names_inside(world: &World, standing: &Standing) -> Result<Option<Names>, Fault>
+    ensures inside { IfOk result (λ inside. inside ≡ names_inside (world_view world.now) standing.now) }
+    ensures memory { IsOkUnless result Fault.NoMemory }
 {
     let dir = standing.place.dir;
     if !is_there(world, dir) {
-        return Err(Halt::Told(Told::Gone));
+        return Ok(None);
     }
+    let names = names_down_to(world, dir)?;
+    let names = names_joined(names, &standing.below)?;
+    Ok(Some(names))
+}
+
+/// The names from the root of its filesystem down to a directory. Refused as `NoMemory` alone.
+fn names_down_to(world: &World, dir: Dir) -> Result<Names, Fault>
+    requires { IsTrue (is_directory (world_view world.now).skel dir) }
+    ensures names { IfOk result (λ names. names ≡ (directory (world_view world.now).skel dir).path) }
+    ensures memory { IsOkUnless result Fault.NoMemory }
+{
     let root = Names::root(world.forest.allocator());
     let names = world.skel.add_path(root, dir, world.skel.depth(dir))?;
-    Ok(names_joined(names, &standing.below)?)
+    Ok(names)
 }
 
 /// Where a path leads in a namespace.

@@ -1,12 +1,12 @@
 //! The world that calls are played on.
-ghost use Rattle.std.specs.Prelude.{◌≡◌, ◌≢◌, false, true, Ok, Err, IfOk, IfErr, OnErr, IfSome, IsOkUnless};
+ghost use Rattle.std.specs.Prelude.{◌≡◌, ◌≢◌, false, true, Ok, Err, IfOk, OnOk, IfErr, OnErr, IfSome, IsOkUnless};
 ghost use Rattle.mt_propagate.specs.World.{world_view};
 ghost use Rattle.mt_propagate.specs.WellFormed.{IsWellFormed};
 ghost use Rattle.mt_propagate.specs.Touched.{since_of, since_view};
 ghost use Rattle.mt_book.specs.Step.{makes_directories};
 ghost use Rattle.mt_book.specs.declared.command.Reply.{Reply as ReplyOf};
 ghost use Rattle.mt_attempt.specs.Attempts.{tried};
-ghost use Rattle.mt_trace.specs.Stages.{IsAttempt, IsSpareWorld, all_tried, why_refused};
+ghost use Rattle.mt_trace.specs.Stages.{IsAttempt, IsSpareWorld, IsStage, world_after_trial, all_tried, why_refused};
 ghost use Rattle.mt_trace.specs.declared.stage.Spare.TheVariants as spare_with;
 
 use crate::stage_changes::{SpaceChange, changes_between};
@@ -128,30 +128,55 @@ fn level(alloc: Global, spare: Spare, shown: &World) -> Result<Box<World>, Fault
 }
 
 /// Keeps a world that is equal to the one that is shown.
-fn keep_level(spare: &mut Spare, world: Box<World>)
-    ensures { spare.new ≡ spare_with.Level world }
+fn keep_level(shown: &World, spare: &mut Spare, world: Box<World>)
+    requires shown { IsWellFormed (world_view shown.now) }
+    requires level { world_view world.value ≡ world_view shown.now }
+    ensures { IsStage (world_view shown.now) (since_view shown.now) spare.new }
 {
     *spare = Spare::Level(world);
 }
 
-/// Keeps a world that lacks the last command.
-fn keep_behind(spare: &mut Spare, world: Box<World>)
-    ensures { spare.new ≡ spare_with.Behind world }
+/// Shows a world, and keeps the one that was shown before the last command.
+fn show(shown: &mut Box<World>, spare: &mut Spare, world: Box<World>)
+    requires before { IsWellFormed (world_view shown.old.value) }
+    requires after { IsWellFormed (world_view world.value) }
+    requires since { since_view world.value ≡ since_of (world_view shown.old.value) }
+    requires skel { (world_view world.value).skel ≡ (world_view shown.old.value).skel }
+    ensures stage { IsStage (world_view shown.new.value) (since_view shown.new.value) spare.new }
+    ensures shown { world_view shown.new.value ≡ world_view world.value }
 {
-    *spare = Spare::Behind(world);
+    let before = mem::replace(shown, world);
+    *spare = Spare::Behind(before);
+}
+
+/// Does a command where it can be done. Refused as `NoMemory` alone.
+fn grow_one(world: &mut World, command: &Command) -> Result<(), Fault>
+    requires { IsWellFormed (world_view world.old) }
+    ensures grown { OnOk result (world_view world.new ≡ world_after_trial (world_view world.old) (tried (world_view world.old) command.now)) }
+    ensures kept { IsWellFormed (world_view world.new) }
+    ensures memory { IsOkUnless result Fault.NoMemory }
+{
+    match try_step(world, command) {
+        Ok(_reply) => Ok(()),
+        Err(fault) => {
+            if fault == Fault::NoMemory {
+                Err(Fault::NoMemory)
+            } else {
+                Ok(())
+            }
+        }
+    }
 }
 
 /// Does commands where they can be done. Refused as `NoMemory` alone.
 fn grow_all(world: &mut World, commands: &[Command]) -> Result<(), Fault>
     requires { IsWellFormed (world_view world.old) }
-    ensures grown { IfOk result (λ _. world_view world.new ≡ all_tried (world_view world.old) commands.now) }
+    ensures grown { OnOk result (world_view world.new ≡ all_tried (world_view world.old) commands.now) }
     ensures kept { IsWellFormed (world_view world.new) }
     ensures memory { IsOkUnless result Fault.NoMemory }
 {
-    'commands: for command in commands {
-        if let Err(Fault::NoMemory) = try_step(world, command) {
-            return Err(Fault::NoMemory);
-        }
+    'each: for command in commands {
+        grow_one(world, command)?;
     }
     Ok(())
 }
@@ -169,8 +194,13 @@ fn asked_on(
     grow_all(world, before)?;
     match try_step(world, command) {
         Ok(_reply) => Ok(None),
-        Err(Fault::NoMemory) => Err(Fault::NoMemory),
-        Err(fault) => Ok(Some(fault)),
+        Err(fault) => {
+            if fault == Fault::NoMemory {
+                Err(Fault::NoMemory)
+            } else {
+                Ok(Some(fault))
+            }
+        }
     }
 }
 
@@ -195,6 +225,19 @@ fn makes_directories(command: &Command) -> bool
         | Command::NewTree { .. }
         | Command::MoveTree { .. } => false,
     }
+}
+
+/// Does a command on the world that is shown, beside which there is no other one from here on. Refused as the command is.
+fn grow_shown(shown: &mut World, spare: &mut Spare, command: &Command) -> Result<Reply, Fault>
+    requires { IsWellFormed (world_view shown.old) }
+    ensures done { IfOk result (λ reply. tried (world_view shown.old) command.now ≡ Ok (world_view shown.new, reply)) }
+    ensures refused { IfErr result (λ fault. fault ≢ Fault.NoMemory → tried (world_view shown.old) command.now ≡ Err fault) }
+    ensures unchanged { OnErr result (world_view shown.new ≡ world_view shown.old) }
+    ensures kept { IsWellFormed (world_view shown.new) }
+    ensures spare { spare.new ≡ spare_with.Gone }
+{
+    *spare = Spare::Gone;
+    try_step(shown, command)
 }
 
 impl Stage {
@@ -223,6 +266,7 @@ impl Stage {
     /// Takes a world out that is equal to the one that is shown. Refused as `NoMemory` alone.
     fn take_level(&mut self) -> Result<Box<World>, Fault>
         ensures level { IfOk result (λ level. world_view level.value ≡ self.old) }
+        ensures well_formed { IfOk result (λ level. IsWellFormed (world_view level.value)) }
         ensures same { self.new ≡ self.old }
         ensures memory { IsOkUnless result Fault.NoMemory }
     {
@@ -231,20 +275,22 @@ impl Stage {
     }
 
     /// Does a command that makes a filesystem or a directory. Refused as the command is; then nothing has changed.
+    #[tactic(auto, using(crate::proofs::StageLaws::one_after))]
     fn grow(&mut self, command: &Command) -> Result<Reply, Fault>
         ensures done { IfOk result (λ reply. tried self.old command.now ≡ Ok (self.new, reply)) }
         ensures refused { IfErr result (λ fault. fault ≢ Fault.NoMemory → tried self.old command.now ≡ Err fault) }
         ensures unchanged { OnErr result (self.new ≡ self.old) }
     {
         let next = self.take_level()?;
-        let reply = try_step(&mut self.shown, command)?;
+        let reply = grow_shown(&mut self.shown, &mut self.spare, command)?;
         if let Some(next) = grown(next, command) {
-            keep_level(&mut self.spare, next);
+            keep_level(&self.shown, &mut self.spare, next);
         }
         Ok(reply)
     }
 
     /// Does another command. Refused as the command is; then nothing has changed.
+    #[tactic(auto, using(crate::proofs::StageLaws::skel_after))]
     fn change(&mut self, command: &Command) -> Result<Reply, Fault>
         requires { makes_directories command.now ≡ false }
         ensures done { IfOk result (λ reply. tried self.old command.now ≡ Ok (self.new, reply)) }
@@ -254,12 +300,11 @@ impl Stage {
         let next = self.take_level()?;
         match try_on(next, command) {
             Attempt::Changed(next, reply) => {
-                let before = mem::replace(&mut self.shown, next);
-                keep_behind(&mut self.spare, before);
+                show(&mut self.shown, &mut self.spare, next);
                 Ok(reply)
             }
             Attempt::Refused(next, fault) => {
-                keep_level(&mut self.spare, next);
+                keep_level(&self.shown, &mut self.spare, next);
                 Err(fault)
             }
         }
@@ -280,17 +325,21 @@ impl Stage {
 
     /// Whether a command would be done on a world that is equal to the one that is shown: why it is refused, if it is.
     fn ask_level(&mut self, world: Box<World>, command: &Command) -> Result<Option<Fault>, Fault>
-        requires { world_view world.value ≡ self.old }
+        requires level { world_view world.value ≡ self.old }
+        requires well_formed { IsWellFormed (world_view world.value) }
         ensures answer { IfOk result (λ why. why ≡ why_refused (tried self.old command.now)) }
         ensures unchanged { self.new ≡ self.old }
         ensures memory { IsOkUnless result Fault.NoMemory }
     {
         match try_on(world, command) {
             Attempt::Changed(_world, _reply) => Ok(None),
-            Attempt::Refused(_world, Fault::NoMemory) => Err(Fault::NoMemory),
             Attempt::Refused(world, fault) => {
-                keep_level(&mut self.spare, world);
-                Ok(Some(fault))
+                keep_level(&self.shown, &mut self.spare, world);
+                if fault == Fault::NoMemory {
+                    Err(Fault::NoMemory)
+                } else {
+                    Ok(Some(fault))
+                }
             }
         }
     }

@@ -1,5 +1,5 @@
 //! What a command has changed in the tables of namespaces.
-ghost use Rattle.std.specs.Prelude.{◌≡◌, ℕ, IsTrue, IsOkUnless};
+ghost use Rattle.std.specs.Prelude.{◌≡◌, ℕ, IfOk, IsTrue, IsOkUnless};
 ghost use Rattle.mt_skel.specs.Keyed.{rises};
 ghost use Rattle.mt_propagate.specs.World.{world_view};
 ghost use Rattle.mt_propagate.specs.WellFormed.{IsWellFormed};
@@ -39,7 +39,8 @@ fn changed_rows(before: &World, after: &World) -> Result<Vec<MountId>, Fault>
     ensures memory { IsOkUnless result Fault.NoMemory }
 {
     let ids = touched(before, after)?;
-    rows_touched(before, after, &ids)
+    let rows = rows_touched(before, after, &ids)?;
+    Ok(rows)
 }
 
 /// What changes from one world to another one, which has noted it, in each namespace that is there in the second.

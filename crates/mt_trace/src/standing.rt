@@ -100,6 +100,14 @@ impl Reached {
         }
     }
 
+    /// Whether it is a directory or a file of a mount.
+    pub fn is_standing(&self) -> bool {
+        match self {
+            Reached::Standing(_standing) => true,
+            Reached::Space(_, _) | Reached::Context(_) => false,
+        }
+    }
+
     /// Whether it is the file of this namespace.
     pub fn is_space(&self, kind: SpaceKind, number: u64) -> bool {
         match self {

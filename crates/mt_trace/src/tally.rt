@@ -1,6 +1,6 @@
 //! How many calls were played, told and refused.
 ghost use Rattle.std.specs.Prelude.{◌≡◌, ◌++◌, OnOk};
-ghost use Rattle.mt_trace.specs.Texts.{with_count, tally_words};
+ghost use Rattle.mt_trace.specs.Texts.{with_count, differing_told, played_words, other_words, tally_words};
 
 use mt_info::print::push_number;
 use std::alloc::AllocError;
@@ -30,6 +30,16 @@ fn push_count(text: &mut Vec<u8>, words: &[u8], count: u64) -> Result<(), AllocE
     push_number(text, count)
 }
 
+/// Appends how many calls the model alone refuses, if there are any.
+fn push_differing(text: &mut Vec<u8>, count: u64) -> Result<(), AllocError>
+    ensures { OnOk result (text.new.items ≡ text.old.items ++ differing_told count) }
+{
+    if count == 0 {
+        return Ok(());
+    }
+    push_count(text, b"; refused by the model alone: ", count)
+}
+
 impl Tally {
     /// Nothing is counted yet.
     pub fn new() -> Tally {
@@ -43,20 +53,32 @@ impl Tally {
         }
     }
 
-    /// Appends the counts in words, without a line end. Fails for want of memory alone.
-    #[tactic(auto, unfolding(crate::specs::Texts::tally_words))]
-    pub fn push_words(&self, text: &mut Vec<u8>) -> Result<(), AllocError>
-        ensures { OnOk result (text.new.items ≡ text.old.items ++ tally_words self.now) }
+    /// Appends the counts of calls in words.
+    #[tactic(auto, unfolding(crate::specs::Texts::played_words))]
+    fn push_played(&self, text: &mut Vec<u8>) -> Result<(), AllocError>
+        ensures { OnOk result (text.new.items ≡ text.old.items ++ played_words self.now) }
     {
         push_count(text, b"played: ", self.played)?;
         push_count(text, b"; not played: ", self.told)?;
-        push_count(text, b"; failed: ", self.failed)?;
+        push_count(text, b"; failed: ", self.failed)
+    }
+
+    /// Appends the other counts in words.
+    #[tactic(auto, unfolding(crate::specs::Texts::other_words))]
+    fn push_others(&self, text: &mut Vec<u8>) -> Result<(), AllocError>
+        ensures { OnOk result (text.new.items ≡ text.old.items ++ other_words self.now) }
+    {
         push_count(text, b"; changes elsewhere: ", self.elsewhere)?;
         push_count(text, b"; bad lines: ", self.bad)?;
-        if self.differing > 0 {
-            push_count(text, b"; refused by the model alone: ", self.differing)?;
-        }
-        Ok(())
+        push_differing(text, self.differing)
+    }
+
+    /// Appends the counts in words, without a line end. Fails for want of memory alone.
+    pub fn push_words(&self, text: &mut Vec<u8>) -> Result<(), AllocError>
+        ensures { OnOk result (text.new.items ≡ text.old.items ++ tally_words self.now) }
+    {
+        self.push_played(text)?;
+        self.push_others(text)
     }
 
     /// Appends the counts as a JSON object, without a line end.

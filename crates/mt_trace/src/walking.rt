@@ -103,7 +103,9 @@ impl<'a> Lookup<'a> {
         let Some(fs) = shown_filesystem(self.world, there.place.mount) else {
             return Ok(None);
         };
-        let inside = names_inside(self.world, there)?;
+        let Some(inside) = names_inside(self.world, there)? else {
+            return Ok(None);
+        };
         match self.links.target(fs, &inside)? {
             Some(target) => Ok(Some(Vec::from_slice(self.alloc, target)?)),
             None => Ok(None),
@@ -247,8 +249,10 @@ impl<'a> Lookup<'a> {
 
     /// What a name of the directory of a proc filesystem leads to, if it is no directory of it and no link by text.
     fn magic(&self, standing: &Standing, name: &Name) -> Result<Option<Reached>, Halt> {
-        let mut text = Vec::new(self.alloc);
-        text.extend_from_slice(names_inside(self.world, standing)?.text())?;
+        let Some(inside) = names_inside(self.world, standing)? else {
+            return Ok(None);
+        };
+        let mut text = Vec::from_slice(self.alloc, inside.text())?;
         text.push(b'/')?;
         text.extend_from_slice(name.bytes())?;
         let Some((number, file)) = magic_file(self.processes, self.number, &text) else {

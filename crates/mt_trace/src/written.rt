@@ -1,10 +1,13 @@
 //! A call as it is told.
-ghost use Rattle.std.specs.Prelude.{◌≡◌, ◌++◌, IfOk, OnOk};
+ghost use Rattle.std.specs.Prelude.{◌≡◌, ◌∷◌, ◌++◌, IfOk, OnOk};
+ghost use Rattle.std.specs.List.{flat_map};
+ghost use Rattle.mt_strace.specs.Printed.{arguments_text};
 ghost use Rattle.mt_trace.specs.Texts.{value_told, result_told, call_told};
 
 use crate::account::{Account, TraceForm};
 use mt_info::print::push_number;
 use mt_render::wording::push_shown;
+use mt_strace::arguments::Arguments;
 use mt_strace::call::TracedCall;
 use mt_strace::result::CallResult;
 use mt_terminal::json::quoted_text;
@@ -68,6 +71,29 @@ fn push_result(text: &mut Vec<u8>, of: &CallResult<'_>) -> Result<(), AllocError
     }
 }
 
+/// Appends arguments, each behind a comma and a space.
+fn push_later(text: &mut Vec<u8>, arguments: Arguments<'_>) -> Result<(), AllocError>
+    ensures { OnOk result (text.new.items ≡ text.old.items ++ flat_map (λ argument. 44 ∷ 32 ∷ argument) arguments.entry) }
+{
+    'later: for argument in arguments {
+        text.extend_from_slice(b", ")?;
+        text.extend_from_slice(argument)?;
+    }
+    Ok(())
+}
+
+/// Appends arguments, with commas between them.
+fn push_arguments(text: &mut Vec<u8>, arguments: &Arguments<'_>) -> Result<(), AllocError>
+    ensures { OnOk result (text.new.items ≡ text.old.items ++ arguments_text arguments.entry.now) }
+{
+    let mut left = arguments.again();
+    let Some(first) = left.next() else {
+        return Ok(());
+    };
+    text.extend_from_slice(first)?;
+    push_later(text, left)
+}
+
 /// A call as strace has it, without its process: its name, its arguments, and of its result the value or the error. Fails for want of
 /// memory alone.
 #[tactic(auto, unfolding(crate::specs::Texts::call_told))]
@@ -76,14 +102,7 @@ pub fn call_written(alloc: Global, call: &TracedCall<'_>) -> Result<Vec<u8>, All
 {
     let mut text = Vec::from_slice(alloc, call.name.bytes())?;
     text.push(b'(')?;
-    let mut is_first = true;
-    for argument in call.arguments.again() {
-        if !is_first {
-            text.extend_from_slice(b", ")?;
-        }
-        is_first = false;
-        text.extend_from_slice(argument)?;
-    }
+    push_arguments(&mut text, &call.arguments)?;
     text.extend_from_slice(b") = ")?;
     push_result(&mut text, &call.result)?;
     Ok(text)

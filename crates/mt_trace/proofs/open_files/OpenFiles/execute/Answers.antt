@@ -1,3 +1,4 @@
+use Rattle.std.proofs.Common.{rules}
 use Rattle.std.specs.Prelude.{not}
 use Rattle.std.proofs.lemmas.Map.Made.{filter_same_pairs}
 use Rattle.mt_trace.proofs.open_files.OpenFiles.execute.Goals as goal
