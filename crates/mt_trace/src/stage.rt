@@ -290,7 +290,6 @@ impl Stage {
     }
 
     /// Does another command. Refused as the command is; then nothing has changed.
-    #[tactic(auto, using(crate::proofs::StageLaws::skel_after))]
     fn change(&mut self, command: &Command) -> Result<Reply, Fault>
         requires { makes_directories command.now ≡ false }
         ensures done { IfOk result (λ reply. tried self.old command.now ≡ Ok (self.new, reply)) }
