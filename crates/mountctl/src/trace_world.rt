@@ -1,9 +1,11 @@
 //! The world that a trace is played on.
+ghost use Rattle.std.specs.Prelude.{IfOk};
 ghost use Rattle.mt_propagate.specs.World.{world_view};
 ghost use Rattle.mt_propagate.specs.WellFormed.{IsWellFormed};
 
 use crate::PROGRAM;
 use crate::fault::Fault;
+use crate::import::script_text;
 use crate::missed::{tell_lockless_tables, tell_missed};
 use crate::namespaces::named_tables;
 use crate::script::is_comment;
@@ -13,12 +15,13 @@ use crate::task::WordFault;
 use crate::what_if::numbers_in;
 use mt_attempt::attempt::try_step;
 use mt_book::command::Command;
-use mt_import::script::Script;
+use mt_import::import::Import;
 use mt_lines::words::Pieces;
 use mt_propagate::world::World;
 use mt_requests::request::{Request, read_request};
 use mt_skel::fault::Fault as Refusal;
 use mt_skel::name::Label;
+use mt_skel::skel::MOST_ROOM;
 use mt_trace::opening::GivenSpace;
 use mt_what_if::scene::begin;
 use std::alloc::{AllocError, Global};
@@ -86,7 +89,7 @@ fn joined_name(alloc: Global, name: &[u8]) -> Result<Vec<u8>, AllocError> {
 pub(crate) fn world_of_tables(rt: &HostRuntime, words: &[&str]) -> Result<TraceWorld, ExitCode> {
     let names = named_tables(rt, words, WordFault::Trace)?;
     let alloc = rt.alloc();
-    let Ok(begun) = begin(alloc, names.tables()) else {
+    let Ok(begun) = begin(alloc, names.tables(), MOST_ROOM) else {
         return Err(no_memory(rt));
     };
     tell_missed(rt, &names, begun.missed.as_slice());
@@ -162,15 +165,24 @@ fn given_in(
     }))
 }
 
+/// A new world of a room, as a server has it.
+fn new_world(alloc: Global, room: usize) -> Result<World, Refusal>
+    ensures { IfOk result (λ world. IsWellFormed (world_view world)) }
+{
+    let mut world = World::new(alloc);
+    let _reply = try_step(&mut world, &Command::Room { room })?;
+    Ok(world)
+}
+
 /// Does all lines of a script in a new world.
-fn played(alloc: Global, script: &Script, files: &[TableFile]) -> Result<TraceWorld, Refusal> {
+fn played(alloc: Global, import: &Import, files: &[TableFile]) -> Result<TraceWorld, Refusal> {
     let mut all = TraceWorld {
-        world: World::new(alloc),
+        world: new_world(alloc, import.room)?,
         filesystems: Vec::new(alloc),
         spaces: Vec::new(alloc),
-        script: Vec::from_slice(alloc, script.text())?,
+        script: script_text(alloc, import)?,
     };
-    for line in Pieces::new(b'\n', script.text()) {
+    for line in Pieces::new(b'\n', import.script.text()) {
         if let Some(given) = given_in(alloc, files, line)? {
             all.spaces.push(given)?;
         }
@@ -184,8 +196,8 @@ fn played(alloc: Global, script: &Script, files: &[TableFile]) -> Result<TraceWo
 /// The world that the script of an import of the tables makes, which words name.
 pub(crate) fn world_of_script(rt: &HostRuntime, words: &[&str]) -> Result<TraceWorld, ExitCode> {
     let files = named_files(rt, words, WordFault::Trace)?;
-    let script = script_of_files(rt, files.as_slice())?;
-    match played(rt.alloc(), &script, files.as_slice()) {
+    let import = script_of_files(rt, files.as_slice(), MOST_ROOM)?;
+    match played(rt.alloc(), &import, files.as_slice()) {
         Ok(world) => Ok(world),
         Err(_) => Err(no_memory(rt)),
     }

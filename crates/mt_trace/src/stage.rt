@@ -204,12 +204,12 @@ fn asked_on(
     }
 }
 
-/// Whether a command makes a filesystem or a directory, which no table shows before a mount does.
+/// Whether a command makes a filesystem or a directory, or gives room for them, which no table shows before a mount does.
 fn makes_directories(command: &Command) -> bool
     ensures { result ≡ makes_directories command.now }
 {
     match command {
-        Command::MakeFs { .. } | Command::MakeDir { .. } => true,
+        Command::Room { .. } | Command::MakeFs { .. } | Command::MakeDir { .. } => true,
         Command::NewSpace { .. }
         | Command::CopySpace { .. }
         | Command::DropSpace { .. }
