@@ -1,6 +1,7 @@
 -- A well-formed world stays so where numbers are left out.
-use Rattle.std.proofs.Common.{◌≡◌, ℕ, ◌≤◌, nat_lt, [], ◌∷◌, ◌++◌, length, Ok, refl, sym, ap, subst, ◌∙◌, inl, arith}
+use Rattle.std.proofs.Common.{◌≡◌, ℕ, ◌≤◌, nat_lt, List, [], ◌∷◌, ◌++◌, length, Option, Result, Ok, Err, IfErr, OnOk, OnErr, refl, sym, ap, subst, ◌∙◌, inl, arith}
 use Rattle.std.specs.Prelude.{◌^◌}
+use Rattle.std.proofs.lemmas.Bool.Decides.{nat_tests}
 use Rattle.std.proofs.lemmas.Option.{slice_get_within}
 use Rattle.mt_skel.specs.Skeleton.{Skeleton, IsSkeleton, empty_skeleton, room_limit, given_room}
 use Rattle.mt_propagate.specs.World.{WorldView, empty_world}
@@ -9,12 +10,13 @@ use Rattle.mt_propagate.proofs.GrownLaws.{grown-kept}
 use Rattle.mt_info.specs.Laws.{Grows}
 use Rattle.mt_info.proofs.GrownTables.{room_grows}
 use Rattle.mt_skel.specs.Outcome.{refuse_if}
+use Rattle.mt_skel.specs.declared.fault.Fault.{Fault}
 use Rattle.mt_skel.specs.declared.fault.Fault.TheVariants.{TooMany}
-use Rattle.mt_skel.proofs.OutcomeLaws.{accepted}
+use Rattle.mt_skel.proofs.OutcomeLaws.{not_refused, accepted}
 use Rattle.mt_skel.proofs.SkeletonLaws.{roomed}
 use Rattle.mt_world.specs.Hidden.{HasMoreHidden}
-use Rattle.mt_world.specs.Made.{HasNoMounts}
-use Rattle.mt_world.proofs.DirectoryLaws.{more_same}
+use Rattle.mt_world.specs.Made.{HasNoMounts, room_or_one}
+use Rattle.mt_world.proofs.DirectoryLaws.{grows_same, more_same}
 
 -- the world with these numbers
 abbrev pub raised : WorldView → ℕ → ℕ → ℕ → WorldView
@@ -76,10 +78,37 @@ bare_grown w t b is g = record {
 }
 
 -- and with another room
-pub bare_roomed : (w : WorldView) (t : Skeleton) (k : ℕ) → HasNoMounts w → given_room w.skel k ≡ Ok t → HasNoMounts (record w { skel = t })
+abbrev room_refusals : Skeleton → ℕ → List (Option Fault)
+room_refusals s k =
+    refuse_if (nat_lt k 1) TooMany
+    ∷ refuse_if (nat_lt room_limit k) TooMany
+    ∷ refuse_if (nat_lt 0 (length s.filesystems)) TooMany ∷ []
+
+bare_roomed : (w : WorldView) (t : Skeleton) (k : ℕ) → HasNoMounts w → given_room w.skel k ≡ Ok t → HasNoMounts (record w { skel = t })
 bare_roomed w t k b e =
-    let a = accepted (refuse_if (nat_lt k 1) TooMany ∷ refuse_if (nat_lt room_limit k) TooMany ∷ refuse_if (nat_lt 0 (length w.skel.filesystems)) TooMany ∷ []) (record w.skel { room = k }) t e in
+    let a = accepted (room_refusals w.skel k) (record w.skel { room = k }) t e in
     bare_grown w t b (subst IsSkeleton a.0 (roomed w.skel k b.sound.skel)) (room_grows w.skel t k (sym a.0))
+
+-- so it stays bare where another one was asked for
+pub bare_asked : {A : Type 0} (w : WorldView) (t : Skeleton) (k : ℕ) (r : Result A Fault) → HasNoMounts w → OnOk r (given_room w.skel k ≡ Ok t) → OnErr r (t ≡ w.skel) → HasNoMounts (record w { skel = t })
+bare_asked w t k (Ok x) b done same = bare_roomed w t k b done
+bare_asked w t k (Err f) b done same = bare_grown w t b (subst IsSkeleton (sym same) b.sound.skel) (subst (Grows w.skel) (sym same) (grows_same w.skel))
+
+-- the room that an empty skeleton has then
+room_given : (k : ℕ) (t : Skeleton) → given_room empty_skeleton k ≡ Ok t → t.room ≡ room_or_one k
+room_given k t e =
+    let a = accepted (room_refusals empty_skeleton k) (record empty_skeleton { room = k }) t e in
+    let low = not_refused _ _ a.1.0 in
+    let high = not_refused _ _ a.1.1.0 in
+    let same : k ≡ room_or_one k = grind (arith, nat_tests) in
+    ap (λ (s : Skeleton). s.room) (sym a.0) ∙ same
+
+room_refused : (k : ℕ) (f : Fault) → given_room empty_skeleton k ≡ Err f → 1 ≡ room_or_one k
+room_refused k f e = grind (arith, nat_tests)
+
+pub room_asked : {A : Type 0} (s t : Skeleton) (k : ℕ) (r : Result A Fault) → s ≡ empty_skeleton → OnOk r (given_room s k ≡ Ok t) → IfErr r (λ f. given_room s k ≡ Err f) → OnErr r (t ≡ s) → t.room ≡ room_or_one k
+room_asked s t k (Ok x) empty done refused same = room_given k t (ap (λ u. given_room u k) (sym empty) ∙ done)
+room_asked s t k (Err f) empty done refused same = ap (λ (u : Skeleton). u.room) (same ∙ empty) ∙ room_refused k f (ap (λ u. given_room u k) (sym empty) ∙ refused)
 
 -- numbers that were left out change nothing else
 pub raised_beside : (n : ℕ) (w : WorldView) (group mount space : ℕ) → w.next_space ≤ space → HasMoreHidden n w (raised w group mount space)

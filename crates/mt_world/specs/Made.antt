@@ -1,6 +1,7 @@
 -- The world of tables.
 -- A word with no source is this project's rule.
-use Rattle.std.specs.Prelude.{◌≡◌, ◌≢◌, ◌⊎◌, ℕ, ◌<◌, ◌≤◌, ◌^◌, List, [], length, slice_get, Option, Some, None}
+use Rattle.std.specs.Prelude.{◌≡◌, ◌≢◌, ◌⊎◌, ℕ, ◌<◌, ◌≤◌, ◌^◌, nat_le, ◌&&◌, if◌then◌else◌, List, [], length, slice_get, Option, Some, None}
+use Rattle.mt_skel.specs.Skeleton.{room_limit}
 use Rattle.mt_mounts.specs.declared.mount.Mount.{Mount}
 use Rattle.mt_mounts.specs.Forest.{mount_at}
 use Rattle.mt_propagate.specs.World.{WorldView, private, state_of}
@@ -10,6 +11,10 @@ use Rattle.mt_world.specs.Kept.{keeps_row, IsKeptRow, AreGrown}
 use Rattle.mt_world.specs.Leaves.{IsSound, IsGrown}
 use Rattle.mt_world.specs.Plain.{IsPlain, HasRoom}
 use Rattle.mt_world.specs.Told.{IsMounted}
+
+-- the room of a world of tables: the one that is asked for, or 1 where there is no such room
+abbrev pub room_or_one : ℕ → ℕ
+room_or_one k = if nat_le 1 k && nat_le k room_limit then k else 1
 
 -- a world has no mount yet, and its next numbers leave room for those that come later
 pub record HasNoMounts (w : WorldView) : Type 0 where

@@ -132,6 +132,7 @@ impl Kept {
         ensures kept { OnOk result (AreKept (world_view world.new) rows.now self.new.left.items (get nat_eq self.new.put)) }
         ensures others { OnOk result ((k : ℕ) → waits_for_parent self.new.left.items k → waits_for_parent self.old.left.items k) }
         ensures done { OnOk result (waits_for_parent self.new.left.items number → ⊥) }
+        ensures room { OnOk result (world.new.skel.room ≡ world.old.skel.room) }
         ensures memory { IsOkUnless result Fault.NoMemory }
     {
         let Some(why) = put_row(world, row, above)? else {
@@ -157,6 +158,7 @@ impl Kept {
         ensures done { IfOk result (λ waiting. waiting ≡ false → waits_for_parent self.new.left.items number → ⊥) }
         ensures same { IfOk result (λ waiting. waiting ≡ true → self.new.left.items ≡ self.old.left.items) }
         ensures parentless { IfOk result (λ waiting. waiting ≡ true → (row : RowOf) → slice_get rows.now number ≡ Some row → IsParentless rows.now self.old.left.items row) }
+        ensures room { OnOk result (world.new.skel.room ≡ world.old.skel.room) }
         ensures memory { IsOkUnless result Fault.NoMemory }
     {
         let (Some(row), Some(Some(Misfit::NoParent))) = (rows.get(number), self.left.get(number))
@@ -189,6 +191,7 @@ impl Kept {
         ensures waiting { IfOk result (λ later. (k : ℕ) → waits_for_parent self.new.left.items k → among later.items k ≡ true) }
         ensures fewer { IfOk result (λ later. length later.items ≤ length waiting.now) }
         ensures parentless { IfOk result (λ later. length waiting.now ≤ length later.items → (k : ℕ) (row : RowOf) → among later.items k ≡ true → slice_get rows.now k ≡ Some row → IsParentless rows.now self.new.left.items row) }
+        ensures room { OnOk result (world.new.skel.room ≡ world.old.skel.room) }
         ensures memory { IsOkUnless result Fault.NoMemory }
     {
         let mut later = Vec::new(alloc);
@@ -212,6 +215,7 @@ impl Kept {
         ensures sound { IsSound (world_view world.new) }
         ensures kept { OnOk result (AreKept (world_view world.new) rows.now self.new.left.items (get nat_eq self.new.put)) }
         ensures parentless { OnOk result ((k : ℕ) (row : RowOf) → waits_for_parent self.new.left.items k → slice_get rows.now k ≡ Some row → IsParentless rows.now self.new.left.items row) }
+        ensures room { OnOk result (world.new.skel.room ≡ world.old.skel.room) }
         ensures memory { IsOkUnless result Fault.NoMemory }
     {
         let mut waiting = order;
@@ -258,6 +262,7 @@ pub(crate) fn grow(
     requires few { (world.old.next_mount ≤ 2 ^ 62) × (world.old.next_space ≤ 2 ^ 62) }
     ensures sound { IsSound (world_view world.new) }
     ensures kept { IfOk result (λ left. AreGrown (world_view world.new) rows.now left.items) }
+    ensures room { OnOk result (world.new.skel.room ≡ world.old.skel.room) }
     ensures memory { IsOkUnless result Fault.NoMemory }
 {
     let ties = ties_of(alloc, rows)?;

@@ -1,9 +1,10 @@
 //! The world of tables.
-ghost use Rattle.std.specs.Prelude.{◌≡◌, ◌<◌, ◌≤◌, IfOk, IsOkUnless, IsTrue};
+ghost use Rattle.std.specs.Prelude.{◌≡◌, ◌<◌, ◌≤◌, IfOk, OnOk, IsOkUnless, IsTrue};
+ghost use Rattle.mt_skel.specs.Skeleton.{empty_skeleton};
 ghost use Rattle.mt_propagate.specs.World.{world_view};
 ghost use Rattle.mt_propagate.specs.WellFormed.{IsWellFormed};
 ghost use Rattle.mt_world.specs.Kept.{HaveNumbers};
-ghost use Rattle.mt_world.specs.Made.{HasNoMounts, IsMade, KeepsPlain};
+ghost use Rattle.mt_world.specs.Made.{HasNoMounts, IsMade, KeepsPlain, room_or_one};
 ghost use Rattle.mt_world.specs.Rows.{is_numbered, is_group};
 
 use crate::directory::add_filesystems;
@@ -85,15 +86,14 @@ fn pass_rows(world: &mut World, rows: &[TableRow])
     }
 }
 
-/// Gives a world without filesystems another room, if there is such a room.
-#[tactic(auto, using(crate::proofs::RaisedLaws::bare_roomed))]
+/// Gives a world without filesystems another room; one of 1 if there is no such room.
 fn give_room(world: &mut World, room: usize)
     requires bare { HasNoMounts (world_view world.old) }
+    requires empty { world.old.skel ≡ empty_skeleton }
     ensures bare { HasNoMounts (world_view world.new) }
+    ensures room { world.new.skel.room ≡ room_or_one room }
 {
-    if world.skel.give_room(room).is_err() {
-        return;
-    }
+    let _given = world.skel.give_room(room);
 }
 
 /// The world of tables: each row that fits has its mount there, with its own ID, in the namespace of the number of its table.
@@ -107,6 +107,7 @@ pub fn world_of(alloc: Global, rows: &[TableRow], room: usize) -> Result<Made, F
     ensures well_formed { IfOk result (λ made. IsWellFormed (world_view made.world)) }
     ensures made { IfOk result (λ made. IsMade (world_view made.world) rows.now made.left.items made.private.items) }
     ensures plain { IfOk result (λ made. KeepsPlain (world_view made.world) rows.now made.left.items) }
+    ensures room { IfOk result (λ made. made.world.skel.room ≡ room_or_one room) }
     ensures memory { IsOkUnless result Fault.NoMemory }
 {
     let mut world = World::new(alloc);
@@ -127,6 +128,7 @@ type Reasons = (Vec<Option<Misfit>>, Vec<Option<Misfit>>);
 fn fill(alloc: Global, world: &mut World, rows: &[TableRow]) -> Result<Reasons, Fault>
     requires bare { HasNoMounts (world_view world.old) }
     ensures made { IfOk result (λ reasons. IsMade (world_view world.new) rows.now reasons.0.items reasons.1.items) }
+    ensures room { OnOk result (world.new.skel.room ≡ world.old.skel.room) }
     ensures memory { IsOkUnless result Fault.NoMemory }
 {
     pass_rows(world, rows);

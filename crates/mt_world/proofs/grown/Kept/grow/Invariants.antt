@@ -11,6 +11,7 @@ abbrev pub invariant-rounds : goal.invariant-rounds
 invariant-rounds l = record {
   sound : IsSound (world_view l.world);
   kept : AreKept (world_view l.world) l.rows l.self.left.items (get nat_eq l.self.put);
+  room : l.world.skel.room ≡ l.initial.world.skel.room;
   waiting : (k : ℕ) → waits_for_parent l.self.left.items k → among l.waiting.items k ≡ true;
 }
 

@@ -19,6 +19,7 @@ turns-preserved c =
     record {
       sound = c.try_row.ensures.sound;
       kept = c.in_ok-waits.ensures.kept;
+      room = c.in_ok-waits.ensures.room ∙ c.turns.invariant.room;
       waiting = λ k e.
           ap (λ (l : List ℕ). among l k || among (drop (i + 1) ws) k) list
           ∙ still_waiting rows old new later ws i n 0 c.turns-test.true refl flag c.turns.invariant.waiting c.in_ok-waits.ensures.others c.in_ok-waits.ensures.done k e;

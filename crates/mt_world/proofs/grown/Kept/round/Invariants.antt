@@ -14,5 +14,6 @@ invariant-turns l = record {
   kept : AreKept (world_view l.world) l.rows l.self.left.items (get nat_eq l.self.put);
   waiting : (k : ℕ) → waits_for_parent l.self.left.items k → (among l.later.items k || among (drop l.number-index l.waiting) k) ≡ true;
   fewer : length l.later.items ≤ l.number-index;
+  room : l.world.skel.room ≡ l.initial.world.skel.room;
   parentless : l.number-index ≤ length l.later.items → (k : ℕ) (row : TableRow) → among l.later.items k ≡ true → slice_get l.rows k ≡ Some row → IsParentless l.rows l.self.left.items row;
 }
