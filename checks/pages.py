@@ -230,6 +230,12 @@ PUT_TOGETHER = {
         "TABLE: N more, of which each is private here: REASON",
         "line N: LINE: REASON",
         "line N: a quote is not closed",
+        "line N: REASON",
+        "line N: the end of a call that has not begun",
+        "line N: a call before has no end: CALL",
+        "line N: the last line has no end",
+        "line N: no line end within a mebibyte: no text, and the reading ends",
+        "process PID: unfinished at the end: CALL",
         "WORD: neither a refusal nor an errno",
         "WORD: neither a refusal nor an errno; the nearest is NAME",
         "WORD: no word of the help",
@@ -329,7 +335,7 @@ def offered(*words):
 def check_offers(helps):
     """The completion offers the options and words of mountctl --help, and after each word what may stand there."""
     check_same("the options that the completion offers", options(helps["mountctl"]), offered("-"))
-    check_same("the words that the completion offers alone", words_in_place(helps["mountctl"], "SOCKET WORD.."), [*offered("wha"), *offered("imp"), *offered("exp"), *offered("rea"), *offered("ori"), *offered("hol"), *offered("ses"), *offered("pla"), *offered("help")])
+    check_same("the words that the completion offers alone", words_in_place(helps["mountctl"], "SOCKET WORD.."), [*offered("wha"), *offered("imp"), *offered("exp"), *offered("rea"), *offered("ori"), *offered("hol"), *offered("ses"), *offered("pla"), *offered("tra"), *offered("help")])
     pages = {*usages(helps["mountctl"]), *words_in_place(helps["mountctl"]), *words_in_place(helps["mountctl"], "SOCKET WORD..")}
     check_same("the words that the completion offers behind help", pages, offered("help", ""))
     check_same("what the completion offers behind help and a word", ["none"], [*offered("help", "show", ""), "none"])

@@ -48,6 +48,7 @@ from clients.saves import check_saves
 from clients.screens import check_screens
 from clients.starts import check_starts
 from clients.terminals import check_terminals
+from clients.traces import check_traces
 from clients.transcripts import check_transcripts
 from clients.worlds import check_worlds
 from clients.writes import check_writes
@@ -124,6 +125,7 @@ CLIENT_PARTS = {
     "foretold": check_foretold,
     "nodes": check_nodes,
     "rooms": check_rooms,
+    "traces": check_traces,
     "paged": check_paged,
 }
 

@@ -117,13 +117,13 @@ _mountctl()
     if ((${#words[@]} == 0)); then
         mapfile -t COMPREPLY < <(
             _mountctl_sockets "$current"
-            compgen -W "-e -h --help -q -V --version --wait what-if import explain help reach origin holders page session play ${MOUNTD_SOCKET:+$(_mountctl_words)}" -- "$current"
+            compgen -W "-e -h --help -q -V --version --wait what-if trace import explain help reach origin holders page session play ${MOUNTD_SOCKET:+$(_mountctl_words)}" -- "$current"
         )
         compopt -o filenames 2> /dev/null
         return
     fi
     if [[ ${words[0]} == help ]]; then
-        mapfile -t COMPREPLY < <(((${#words[@]} == 1)) && compgen -W "$(_mountctl_words) import explain help session play" -- "$current")
+        mapfile -t COMPREPLY < <(((${#words[@]} == 1)) && compgen -W "$(_mountctl_words) trace import explain help session play" -- "$current")
         return
     fi
     if [[ ${words[0]} == explain ]]; then
@@ -145,6 +145,11 @@ _mountctl()
     # Tables are asked where files come first, and a namespace of a server else.
     if [[ ${words[0]} == @(reach|origin|holders) && " ${words[*]} " != *" -- "* ]]; then
         [[ $current == -* ]] && mapfile -t COMPREPLY < <(compgen -W "-- --pid --all" -- "$current")
+        compopt -o default 2> /dev/null
+        return
+    fi
+    if [[ ${words[0]} == trace ]]; then
+        [[ $current == -* && " ${words[*]} " != *" -- "* ]] && mapfile -t COMPREPLY < <(compgen -W "-- --pid --all --script --json --leaks --tables --ns --links --calls" -- "$current")
         compopt -o default 2> /dev/null
         return
     fi

@@ -15,4 +15,4 @@ end
 set -g __mountctl_folder (status dirname)
 complete -c mountctl -f -a '(__mountctl_offers)'
 # Files stand after the words of an import.
-complete -c mountctl -F -n 'string match -qr "^(import|what-if|reach|origin|holders)\$" -- (commandline -opc)'
+complete -c mountctl -F -n 'string match -qr "^(import|what-if|trace|reach|origin|holders)\$" -- (commandline -opc)'

@@ -63,10 +63,14 @@ pub(crate) const IN_PLACE_OF_LINES: [Usage; 14] = [
 ];
 
 /// What may stand in the place of a socket and a line.
-pub(crate) const IN_PLACE_OF_SOCKETS: [Usage; 12] = [
+pub(crate) const IN_PLACE_OF_SOCKETS: [Usage; 13] = [
     Usage {
         words: "what-if [OPTION].. TABLE.. -- LINE [-- LINE]..",
         says: "tells what lines would change in the namespaces of tables, with no server: each TABLE is a file, or\nwith --pid a process; --all stands for each mount namespace of this machine. A LINE is one of\nmount, umount, unshare, nsenter, pivot_root or of a session; - stands for those of standard input.\n--each tells what each line changes, --json prints objects, and --page a page for a browser that plays\nthe lines; with --fail-if-elsewhere the status is 4 where a namespace changes that no line names; --room N\nholds the namespaces to N times the limits of a server, and else to 256 times those",
+    },
+    Usage {
+        words: "trace [OPTION].. TABLE.. -- LOG",
+        says: "tells what each call that strace has written to the file LOG did in the namespaces of tables, as in\nwhat-if; - stands for standard input. --script prints lines of a session, --json objects, --leaks only\ncalls that changed another namespace, --tables the tables at the end; --ns 2=mnt:[N] says what the\nsystem calls a table's namespace, --links FILE what links lead to; --calls alone prints the calls that\nstrace has to record",
     },
     Usage {
         words: "import [--room N]",

@@ -40,6 +40,7 @@ fn example_of(word: &str) -> &'static str {
         "holders" => "mountctl holders host container -- host /media",
         "save" => "mountctl mounts.sock save > saved",
         "page" => "mountctl page < session > page.html",
+        "trace" => "mountctl trace host container -- run",
         "import" => "mountctl import host container > script",
         "session" => "mountctl session < session",
         "play" => "mountctl play transcript",

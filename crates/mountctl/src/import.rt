@@ -82,6 +82,13 @@ fn room_comment(alloc: Global, room: usize) -> Result<Vec<u8>, AllocError> {
     Ok(comment)
 }
 
+/// A script, behind a comment that says which room it takes if that is not 1.
+pub(crate) fn script_text(alloc: Global, import: &Import) -> Result<Vec<u8>, AllocError> {
+    let mut text = room_comment(alloc, import.room)?;
+    text.extend_from_slice(import.script.text())?;
+    Ok(text)
+}
+
 /// Sends a text.
 fn send_text<O: Output>(out: &mut O, text: &[u8]) -> Result<(), Fault> {
     match send(out, text) {

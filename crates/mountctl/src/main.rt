@@ -50,6 +50,10 @@ mod sources;
 mod spaces;
 mod tables;
 mod task;
+mod trace;
+mod trace_ends;
+mod trace_words;
+mod trace_world;
 mod what_if;
 
 use crate::arguments::{Lack, Manner, manner_of, parser, socket_of, usage, words_of};
@@ -79,6 +83,7 @@ use crate::session::run_session;
 use crate::spaces::list_spaces;
 use crate::tables::import_files;
 use crate::task::{Task, WordFault, found_words, part_words, task_of};
+use crate::trace::run_trace;
 use crate::what_if::{line_of, run_what_if};
 use clap::{ArgMatches, Error};
 use mt_arguments::program::{Program, read_arguments};
@@ -356,6 +361,7 @@ fn run(rt: &HostRuntime) -> io::Result<ExitCode> {
         [_, "help", words @ ..] => run_help(rt, words),
         [_, "import", words @ ..] => run_import_words(rt, words),
         [_, "what-if", words @ ..] => run_foretold(rt, words),
+        [_, "trace", words @ ..] => run_trace(rt, words),
         [_, "explain", words @ ..] => explain(rt, words),
         [_, "play", words @ ..] => run_play(rt, words),
         [_, "session", words @ ..] => run_session(rt, words),

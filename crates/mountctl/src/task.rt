@@ -96,6 +96,8 @@ pub(crate) enum WordFault {
     WhatIf,
     /// Behind `what-if`, without a server.
     Question,
+    /// Behind `trace`, which stands in the place of a socket.
+    Trace,
     /// Two forms of an answer, which has one.
     Form,
     /// Behind `--room`.
@@ -136,6 +138,9 @@ impl WordFault {
             WordFault::WhatIf => "what-if takes files, and lines behind --",
             WordFault::Question => {
                 "what-if takes files, --pid and processes or --all, and lines behind --, or - for those of standard input"
+            }
+            WordFault::Trace => {
+                "trace takes files, --pid and processes or --all, and behind -- a file, or - for standard input"
             }
             WordFault::Form => "what-if prints a page or JSON",
             WordFault::Room => "a room is given once, as --room 2, from 1 to 256",

@@ -49,7 +49,7 @@ pub(crate) enum Effects {
 }
 
 /// Which table a comment of a script says is which namespace, by their numbers.
-fn numbers_in(comment: &[u8]) -> Option<(u64, u64)> {
+pub(crate) fn numbers_in(comment: &[u8]) -> Option<(u64, u64)> {
     let mut words = words(comment.strip_prefix(b"# table ")?);
     let (Some(table), Some(is), Some(namespace), Some(space), None) = (
         words.next(),

@@ -1,2 +1,5 @@
 pub mod CallNameLaws
 pub mod ChangeLaws
+pub mod SpotLaws
+pub mod StageLaws
+pub mod TextLaws

@@ -5,5 +5,13 @@ pub mod CallFlags
 pub mod MountFlags
 pub mod SystemCalls
 pub mod Asking
+pub mod ProcessSpaces
+pub mod ToldPaths
 pub mod Joining
 pub mod Laws
+pub mod OpenFiles
+pub mod Stages
+pub mod Standings
+pub mod Walks
+pub mod Failures
+pub mod Texts

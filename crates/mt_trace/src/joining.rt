@@ -101,6 +101,16 @@ fn begins_call(name: &[u8], beginning: &[u8]) -> bool
     }
 }
 
+/// Whether a beginning is one of a call of one of these names.
+fn begins_one_of(names: &[&[u8]], beginning: &[u8]) -> bool {
+    for name in names {
+        if begins_call(name, beginning) {
+            return true;
+        }
+    }
+    false
+}
+
 impl Beginnings {
     /// None.
     pub fn new(alloc: Global) -> Beginnings
@@ -133,6 +143,43 @@ impl Beginnings {
         ensures new { self.new ≡ not_waiting n self.old }
     {
         self.waiting.remove(&n)
+    }
+
+    /// The call of a process that has begun, with this end behind it. `None` if no call of this name has begun.
+    pub fn with_end(
+        &self,
+        process: Option<u64>,
+        name: &[u8],
+        end: &[u8],
+    ) -> Result<Option<Vec<u8>>, AllocError> {
+        let Some(beginning) = self.waiting.get(&waiting_number(process)) else {
+            return Ok(None);
+        };
+        if !begins_call(name, beginning.bytes()) {
+            return Ok(None);
+        }
+        let mut text = Vec::from_slice(self.alloc, beginning.bytes())?;
+        text.extend_from_slice(end)?;
+        Ok(Some(text))
+    }
+
+    /// The process and the beginning of the only call that has begun of these names. `None` if none has, or several.
+    pub fn only_of(&self, names: &[&[u8]]) -> Option<(u64, &[u8])> {
+        let mut found = None;
+        for (process, beginning) in self.waiting.iter() {
+            if begins_one_of(names, beginning.bytes()) {
+                if found.is_some() {
+                    return None;
+                }
+                found = Some((*process, beginning.bytes()));
+            }
+        }
+        found
+    }
+
+    /// Takes one of them out, with its process. `None` if there is none.
+    pub fn take_any(&mut self) -> Option<(u64, CallText)> {
+        self.waiting.pop_first()
     }
 
     /// Joins an end with its beginning.

@@ -3,19 +3,16 @@ ghost use Rattle.std.specs.Prelude.{◌≡◌, ◌≢◌, List, [], ◌∷◌, �
 ghost use Rattle.mt_propagate.specs.World.{world_view};
 ghost use Rattle.mt_propagate.specs.WellFormed.{IsWellFormed};
 ghost use Rattle.mt_book.specs.declared.command.Command.{Command as CommandOf};
-ghost use Rattle.mt_what_if.specs.Trials.{last_space, has_numbers, tried, world_after, names_made, for_next, attempt, give, give_all, all_done, stopped};
+ghost use Rattle.mt_what_if.specs.Trials.{last_space, world_after, names_made, for_next, attempt, give, give_all, all_done, stopped};
 
-use mt_book::command::{Command, Reply};
-use mt_book::step::step;
+use mt_attempt::attempt::try_step;
+use mt_book::command::Command;
 use mt_mounts::mount::SpaceId;
 use mt_propagate::world::World;
 use mt_skel::fault::Fault;
 use mt_skel::name::Label;
 use std::alloc::Global;
 use std::marker::Model;
-
-/// The first number that is none of a mount, a peer group or a namespace.
-const NO_NUMBER: u64 = 9_223_372_036_854_775_808;
 
 /// A world, and what commands that were tried on it made of it.
 pub struct Trial {
@@ -56,29 +53,6 @@ pub(crate) fn last_space(world: &World) -> SpaceId
     ensures { result ≡ last_space (world_view world.now) }
 {
     world.next_space.saturating_sub(1)
-}
-
-/// Whether a world has numbers left for all that a command may make.
-fn has_numbers(world: &World) -> bool
-    ensures { result ≡ has_numbers (world_view world.now) }
-{
-    world.next_mount < NO_NUMBER
-        && world.peers.next_group() < NO_NUMBER
-        && world.next_space < NO_NUMBER
-}
-
-/// Does a command, or refuses it: as `TooMany` where numbers run out, and else as it is refused.
-fn try_step(world: &mut World, command: &Command) -> Result<Reply, Fault>
-    requires { IsWellFormed (world_view world.old) }
-    ensures done { IfOk result (λ reply. tried (world_view world.old) command.now ≡ Ok (world_view world.new, reply)) }
-    ensures refused { IfErr result (λ fault. fault ≢ Fault.NoMemory → tried (world_view world.old) command.now ≡ Err fault) }
-    ensures unchanged { OnErr result (world_view world.new ≡ world_view world.old) }
-    ensures kept { IsWellFormed (world_view world.new) }
-{
-    if !has_numbers(world) {
-        return Err(Fault::TooMany);
-    }
-    step(world, command)
 }
 
 /// Adds the name of the filesystem that a command makes, if it makes one.

@@ -1,0 +1,17 @@
+-- Calls that failed.
+-- A word with no source is this project's rule.
+use Rattle.std.specs.Prelude.{◌≡◌, Bool, true, false}
+use Rattle.mt_strace.specs.declared.result.CallResult.{CallResult}
+use Rattle.mt_strace.specs.declared.result.CallResult.TheVariants as outcome
+use Rattle.mt_trace.specs.declared.player.Player.{Player}
+
+-- strace tells an error in the place of a value (strace(1))
+abbrev pub is_failed : CallResult → Bool
+is_failed (outcome.Returned value path is_deleted notes) = false
+is_failed (outcome.Failed error notes) = true
+is_failed outcome.Unknown = false
+
+-- the world and the processes are as they were
+pub record IsStill (before after : Player) : Type 0 where
+  pub world : after.stage ≡ before.stage
+  pub processes : after.processes ≡ before.processes
