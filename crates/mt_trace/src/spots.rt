@@ -296,7 +296,7 @@ pub fn space_root(world: &World, space: SpaceId) -> Option<Place> {
 }
 
 /// The filesystem of a directory, if it is there.
-pub fn filesystem_of(world: &World, dir: Dir) -> Option<FsId>
+pub fn filesystem_holding(world: &World, dir: Dir) -> Option<FsId>
     ensures there { IfSome result (λ fs. IsTrue (is_filesystem (world_view world.now).skel fs)) }
 {
     if is_there(world, dir) {
@@ -311,7 +311,7 @@ pub fn shown_filesystem(world: &World, id: MountId) -> Option<FsId>
     ensures there { IfSome result (λ fs. IsTrue (is_filesystem (world_view world.now).skel fs)) }
 {
     let mount = world.forest.get(id)?;
-    filesystem_of(world, mount.root)
+    filesystem_holding(world, mount.root)
 }
 
 /// The filesystems that mounts show. Refused as `NoMemory` alone.
@@ -319,7 +319,7 @@ pub fn filesystems_shown(world: &World) -> Result<Vec<FsId>, Fault> {
     let mounts = world.forest.mounts()?;
     let mut shown = Vec::new(world.forest.allocator());
     for mount in &mounts {
-        if let Some(fs) = filesystem_of(world, mount.root) {
+        if let Some(fs) = filesystem_holding(world, mount.root) {
             shown.push(fs)?;
         }
     }

@@ -1,5 +1,5 @@
 //! The world that calls are played on.
-ghost use Rattle.std.specs.Prelude.{◌≡◌, ◌≢◌, false, true, Ok, Err, IfOk, OnOk, IfErr, OnErr, IfSome, IsOkUnless};
+ghost use Rattle.std.specs.Prelude.{◌≡◌, ◌≢◌, false, Ok, Err, IfOk, OnOk, IfErr, OnErr, IfSome, IsOkUnless};
 ghost use Rattle.mt_propagate.specs.World.{world_view};
 ghost use Rattle.mt_propagate.specs.WellFormed.{IsWellFormed};
 ghost use Rattle.mt_propagate.specs.Touched.{since_of, since_view};
@@ -97,8 +97,8 @@ fn boxed_copy(alloc: Global, world: &World) -> Result<Box<World>, Fault>
     ensures world { IfOk result (λ copy. world_view copy.value ≡ world_view world.now) }
     ensures memory { IsOkUnless result Fault.NoMemory }
 {
-    let copy = world.copy()?;
-    let boxed = Box::new(alloc, copy)?;
+    let same = world.copy()?;
+    let boxed = Box::new(alloc, same)?;
     Ok(boxed)
 }
 
@@ -109,9 +109,9 @@ fn followed(world: Box<World>, shown: &World) -> Result<Box<World>, Fault>
     ensures world { IfOk result (λ next. world_view next.value ≡ world_view shown.now) }
     ensures memory { IsOkUnless result Fault.NoMemory }
 {
-    let mut next = world;
-    next.follow(shown)?;
-    Ok(next)
+    let mut equal = world;
+    equal.follow(shown)?;
+    Ok(equal)
 }
 
 /// A world that is equal to the one that is shown.
