@@ -30,8 +30,8 @@ differing_told n = if n == 0 then [] else with_count (codes "; refused by the mo
 unfoldable pub played_words : Tally → List ℕ
 played_words t = with_count (codes "played: ") t.played ++ (with_count (codes "; not played: ") t.told ++ with_count (codes "; failed: ") t.failed)
 
-unfoldable pub elsewhere_words : Tally → List ℕ
-elsewhere_words t = with_count (codes "; changes elsewhere: ") t.elsewhere ++ (with_count (codes "; bad lines: ") t.bad ++ differing_told t.differing)
+unfoldable pub trouble_words : Tally → List ℕ
+trouble_words t = with_count (codes "; changes elsewhere: ") t.elsewhere ++ (with_count (codes "; bad lines: ") t.bad ++ differing_told t.differing)
 
 abbrev pub tally_words : Tally → List ℕ
-tally_words t = played_words t ++ elsewhere_words t
+tally_words t = played_words t ++ trouble_words t

@@ -1,6 +1,6 @@
 //! How many calls were played, told and refused.
 ghost use Rattle.std.specs.Prelude.{◌≡◌, ◌++◌, OnOk};
-ghost use Rattle.mt_trace.specs.Texts.{with_count, differing_told, played_words, elsewhere_words, tally_words};
+ghost use Rattle.mt_trace.specs.Texts.{with_count, differing_told, played_words, trouble_words, tally_words};
 
 use mt_info::print::push_number;
 use std::alloc::AllocError;
@@ -64,9 +64,9 @@ impl Tally {
     }
 
     /// Appends the other counts in words.
-    #[tactic(auto, unfolding(crate::specs::Texts::elsewhere_words))]
+    #[tactic(auto, unfolding(crate::specs::Texts::trouble_words))]
     fn push_others(&self, text: &mut Vec<u8>) -> Result<(), AllocError>
-        ensures { OnOk result (text.new.items ≡ text.old.items ++ elsewhere_words self.now) }
+        ensures { OnOk result (text.new.items ≡ text.old.items ++ trouble_words self.now) }
     {
         push_count(text, b"; changes elsewhere: ", self.elsewhere)?;
         push_count(text, b"; bad lines: ", self.bad)?;
