@@ -27,8 +27,9 @@ CLIENT = os.path.join(TOP, "crates", "mountctl", "out", "mountctl")
 
 # How many checks rt ci runs at once, each with one job. Where it is not told, it gives a check the processors that are
 # idle, and each further job of a check reads the libraries again: a third more of processor time (docs/GATE.md). Four at
-# once take half as much again each, where two processors share a core.
-LANES = min(2, len(os.sched_getaffinity(0)))
+# once take half as much again each, where two processors share a core, and three take 15 GB at most.
+PROCESSORS = len(os.sched_getaffinity(0))
+LANES = min(2, PROCESSORS) if PROCESSORS < 4 else 3
 
 # What is run before anything is proved, and on the libraries and programs that are built then: what it is called, and
 # its words.
