@@ -119,8 +119,8 @@ class Played(NamedTuple):
     complaint: bytes
 
 
-def trace(mountctl, run_recorded, *options):
-    """Status, standard output and standard error of a recorded run that is played."""
+def trace(mountctl, run_recorded, *options, is_file=True):
+    """Status, standard output and standard error of a recorded run that is played, from a file or from standard input."""
     with tempfile.TemporaryDirectory() as folder:
         words, tables = [], []
         for number, (title, text) in enumerate(run_recorded.before, 1):
@@ -132,7 +132,8 @@ def trace(mountctl, run_recorded, *options):
         log = os.path.join(folder, "log")
         with open(log, "wb") as file:
             file.write(run_recorded.trace)
-        return run(mountctl, b"", "trace", *options, *words, *tables, "--", log)
+        text, where = (b"", log) if is_file else (run_recorded.trace, "-")
+        return run(mountctl, text, "trace", *options, *words, *tables, "--", where)
 
 
 def play(mountctl, run_recorded):
@@ -290,6 +291,15 @@ def check_script(mountctl, name):
     check(f"the script of the trace {name} leads to its tables", good, f"{refused[:3]}\n{shown(complaint)}")
 
 
+def check_page(mountctl, name):
+    """The page of a run is that of its script."""
+    status, page, complaint = trace(mountctl, recording(name), "--page", is_file=False)
+    _, script, _ = trace(mountctl, recording(name), "--script", is_file=False)
+    wanted = run(mountctl, script, "page", "--room", "256")
+    good = status in (0, 1) and len(page) > len(script) > 0 and (wanted[0], wanted[1]) == (0, page)
+    check(f"the page of the trace {name}", good, f"{status} {len(page)} {wanted[0]} {len(wanted[1])} {shown(complaint)}")
+
+
 def check_misfits(mountctl):
     """What is no line of a trace, or not whole, is told, and a call that is not played says why."""
     with tempfile.TemporaryDirectory() as folder:
@@ -315,4 +325,5 @@ def check_traces(_mountd, mountctl):
     for name in names_of_runs:
         check_recording(mountctl, name)
         check_script(mountctl, name)
+    check_page(mountctl, names_of_runs[0])
     print(f"{len(names_of_runs)} recorded traces are played", flush=True)

@@ -149,7 +149,7 @@ _mountctl()
         return
     fi
     if [[ ${words[0]} == trace ]]; then
-        [[ $current == -* && " ${words[*]} " != *" -- "* ]] && mapfile -t COMPREPLY < <(compgen -W "-- --pid --all --script --json --leaks --tables --ns --links --calls" -- "$current")
+        [[ $current == -* && " ${words[*]} " != *" -- "* ]] && mapfile -t COMPREPLY < <(compgen -W "-- --pid --all --script --json --page --leaks --tables --ns --links --calls" -- "$current")
         compopt -o default 2> /dev/null
         return
     fi

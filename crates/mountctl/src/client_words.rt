@@ -70,7 +70,7 @@ pub(crate) const IN_PLACE_OF_SOCKETS: [Usage; 13] = [
     },
     Usage {
         words: "trace [OPTION].. TABLE.. -- LOG",
-        says: "tells what each call that strace has written to the file LOG did in the namespaces of tables, as in\nwhat-if; - stands for standard input. --script prints lines of a session, --json objects, --leaks only\ncalls that changed another namespace, --tables the tables at the end; --ns 2=mnt:[N] says what the\nsystem calls a table's namespace, --links FILE what links lead to; --calls alone prints the calls that\nstrace has to record",
+        says: "tells what each call that strace has written to the file LOG did in the namespaces of tables, as in\nwhat-if; - stands for standard input. --script prints lines of a session, --page a page for a browser\nthat plays them, --json objects, --leaks only calls that changed another namespace, --tables the\ntables at the end; --ns 2=mnt:[N] says what the system calls a table's namespace, --links FILE what\nlinks lead to; --calls alone prints the calls that strace has to record",
     },
     Usage {
         words: "import [--room N]",

@@ -85,6 +85,23 @@ fn play_over(
     play(alloc, session, title, &mut lines, &mut writer)
 }
 
+/// The session of a text, of which no line is for a watcher.
+fn read_text(alloc: Global, text: &[u8]) -> Result<Played, Unplayed> {
+    let mut input = LineReader::new(alloc, Reading::new(text), SCRIPT_LIMIT)?;
+    match read_played(alloc, &mut input) {
+        Ok(played) => Ok(played),
+        Err(PlayedFault::Failed(fault)) => Err(Unplayed::Failed(fault)),
+        Err(PlayedFault::Watcher(_)) => Err(Unplayed::Failed(Fault::Connection)),
+    }
+}
+
+/// The data of the page of a session, which a new server of its own answers: one of the greatest room, since all of it was
+/// accepted before.
+pub(crate) fn play_text(rt: &HostRuntime, text: &[u8], title: &str) -> Result<PageData, Unplayed> {
+    let session = read_text(rt.alloc(), text)?;
+    play_alone(rt, session, title.as_bytes(), MOST_ROOM)
+}
+
 /// The session of the commands that a server has accepted, as it tells them over a connection.
 fn read_journal(rt: &HostRuntime, stream: &UnixStream) -> Result<Played, Unplayed> {
     let alloc = rt.alloc();
@@ -94,12 +111,7 @@ fn read_journal(rt: &HostRuntime, stream: &UnixStream) -> Result<Played, Unplaye
     if let Some(refusal) = save(alloc, &mut lines, &mut writer, &mut saved)? {
         return Err(Unplayed::Refused(refusal));
     }
-    let mut input = LineReader::new(alloc, Reading::new(saved.text()), SCRIPT_LIMIT)?;
-    match read_played(alloc, &mut input) {
-        Ok(played) => Ok(played),
-        Err(PlayedFault::Failed(fault)) => Err(Unplayed::Failed(fault)),
-        Err(PlayedFault::Watcher(_)) => Err(Unplayed::Failed(Fault::Connection)),
-    }
+    read_text(alloc, saved.text())
 }
 
 /// The data of the page of a server's journal, which a new server of its own answers: one of the greatest room, since all
@@ -120,7 +132,11 @@ pub(crate) fn print_page(rt: &HostRuntime, data: &PageData) -> Result<bool, Faul
 }
 
 /// Prints a page, or says why there is none, and answers the status. `socket` is that of the server, or the program's name.
-fn end_page(rt: &HostRuntime, socket: &str, played: Result<PageData, Unplayed>) -> ExitCode {
+pub(crate) fn end_page(
+    rt: &HostRuntime,
+    socket: &str,
+    played: Result<PageData, Unplayed>,
+) -> ExitCode {
     match played {
         Ok(data) => status_of(rt, socket, print_page(rt, &data)),
         Err(Unplayed::Failed(fault)) => status_of(rt, socket, Err(fault)),

@@ -2,7 +2,9 @@
 
 use crate::PROGRAM;
 use crate::fault::Fault;
+use crate::kept::Kept;
 use crate::messages::NAME;
+use crate::page_task::{end_page, play_text, print_page};
 use crate::screen::{print_out, standard_output};
 use crate::tables::TableFault;
 use crate::task::{WordFault, parted};
@@ -39,6 +41,21 @@ const TROUBLED: u8 = 1;
 
 /// The longest part of a call without an end that is told.
 const MOST_TOLD: usize = 100;
+
+/// Why a trace is not played to its end.
+#[derive(Clone, Copy)]
+enum Unplayed {
+    /// Its file cannot be opened.
+    Open(ErrorKind),
+    /// It cannot be read, or what is told of it cannot be printed.
+    Failed(Fault),
+}
+
+impl From<Fault> for Unplayed {
+    fn from(fault: Fault) -> Unplayed {
+        Unplayed::Failed(fault)
+    }
+}
 
 /// Says what is wrong with a line.
 fn tell_trouble(rt: &HostRuntime, number: u64, trouble: &Trouble) {
@@ -181,7 +198,7 @@ fn push_tables(text: &mut Vec<u8>, player: &Player, form: TraceForm) -> Result<(
 
 /// The form that words ask for.
 fn form_of(words: &TraceWords<'_>) -> TraceForm {
-    if words.script {
+    if words.script || words.page {
         TraceForm::Script
     } else if words.json {
         TraceForm::Json
@@ -191,24 +208,24 @@ fn form_of(words: &TraceWords<'_>) -> TraceForm {
 }
 
 /// Plays an input, and prints what is told of it: the status.
-fn play_input<R: Input + Drop>(
+fn play_input<R: Input + Drop, O: Output>(
     rt: &HostRuntime,
     player: &mut Player,
     words: &TraceWords<'_>,
     input: R,
     script: &[u8],
+    out: &mut O,
 ) -> Result<ExitCode, Fault> {
     let mut feed = Feed::new(rt.alloc(), input, LINE_LIMIT)?;
-    let mut out = standard_output(rt);
-    print(&mut out, script)?;
-    play_lines(rt, player, &mut feed, &mut out)?;
+    print(out, script)?;
+    play_lines(rt, player, &mut feed, out)?;
     tell_unfinished(rt, player);
     let mut text = Vec::new(rt.alloc());
     push_tally(&mut text, player, form_of(words))?;
     if words.ends {
         push_tables(&mut text, player, form_of(words))?;
     }
-    print(&mut out, &text)?;
+    print(out, &text)?;
     let tally = player.tally();
     if tally.bad > 0 || tally.differing > 0 {
         return Ok(ExitCode::from(TROUBLED));
@@ -267,26 +284,73 @@ fn unread(rt: &HostRuntime, path: &str, kind: ErrorKind) -> ExitCode {
     ExitCode::from(2)
 }
 
+/// Plays the file of a trace, and prints what is told of it: the status, or why it is not played.
+fn play_file<O: Output>(
+    rt: &HostRuntime,
+    player: &mut Player,
+    words: &TraceWords<'_>,
+    script: &[u8],
+    out: &mut O,
+) -> Result<ExitCode, Unplayed> {
+    if words.log == "-" {
+        let input = Reading::new(rt.reader());
+        return Ok(play_input(rt, player, words, input, script, out)?);
+    }
+    match File::open(rt, words.log) {
+        Ok(file) => Ok(play_input(rt, player, words, Reading::new(file), script, out)?),
+        Err(error) => Err(Unplayed::Open(error.kind())),
+    }
+}
+
+/// Says why a trace is not played, and answers the status.
+fn tell_unplayed(rt: &HostRuntime, words: &TraceWords<'_>, why: Unplayed) -> ExitCode {
+    match why {
+        Unplayed::Open(kind) => unread(rt, words.log, kind),
+        Unplayed::Failed(fault) => PROGRAM.fail(rt, fault.message()),
+    }
+}
+
+/// Plays a trace as lines of a session, and prints the page that plays these: the status.
+fn play_page(
+    rt: &HostRuntime,
+    player: &mut Player,
+    words: &TraceWords<'_>,
+    script: &[u8],
+) -> Result<ExitCode, ExitCode> {
+    let mut session = Kept::new(rt.alloc());
+    let status = match play_file(rt, player, words, script, &mut session) {
+        Ok(status) => status,
+        // The session is kept in memory.
+        Err(Unplayed::Failed(Fault::Output)) => {
+            return Err(PROGRAM.fail(rt, Fault::NoMemory.message()));
+        }
+        Err(why) => return Err(tell_unplayed(rt, words, why)),
+    };
+    let title = if words.log == "-" { "" } else { words.log };
+    match play_text(rt, session.text(), title) {
+        Ok(data) => match print_page(rt, &data) {
+            Ok(_) => Ok(status),
+            Err(fault) => Err(PROGRAM.fail(rt, fault.message())),
+        },
+        Err(why) => Err(end_page(rt, NAME, Err(why))),
+    }
+}
+
 /// Plays the trace that words name.
 fn play_trace(rt: &HostRuntime, words: &TraceWords<'_>) -> Result<ExitCode, ExitCode> {
-    let all = if words.script {
-        world_of_script(rt, words.tables.as_slice())?
-    } else {
-        world_of_tables(rt, words.tables.as_slice())?
+    let all = match form_of(words) {
+        TraceForm::Script => world_of_script(rt, words.tables.as_slice())?,
+        TraceForm::Words | TraceForm::Json => world_of_tables(rt, words.tables.as_slice())?,
     };
     let mut player = player_of(rt, &all, words)?;
     let script = all.script.as_slice();
-    let played = if words.log == "-" {
-        play_input(rt, &mut player, words, Reading::new(rt.reader()), script)
-    } else {
-        match File::open(rt, words.log) {
-            Ok(file) => play_input(rt, &mut player, words, Reading::new(file), script),
-            Err(error) => return Err(unread(rt, words.log, error.kind())),
-        }
-    };
-    match played {
+    if words.page {
+        return play_page(rt, &mut player, words, script);
+    }
+    let mut out = standard_output(rt);
+    match play_file(rt, &mut player, words, script, &mut out) {
         Ok(status) => Ok(status),
-        Err(fault) => Err(PROGRAM.fail(rt, fault.message())),
+        Err(why) => Err(tell_unplayed(rt, words, why)),
     }
 }
 

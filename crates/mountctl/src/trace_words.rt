@@ -17,6 +17,8 @@ pub(crate) struct TraceWords<'a> {
     pub(crate) script: bool,
     /// Whether objects are printed.
     pub(crate) json: bool,
+    /// Whether a page is printed, which plays the lines of that session.
+    pub(crate) page: bool,
     /// Whether only calls are told that change another namespace.
     pub(crate) leaks: bool,
     /// Whether the tables are printed behind the last call.
@@ -34,7 +36,7 @@ pub(crate) enum TraceLack {
     Words,
     /// A namespace is not given as `2=mnt:[4026532205]`.
     Namespace,
-    /// Two forms of an answer are asked for.
+    /// Several forms of an answer are asked for.
     Forms,
     /// There is no memory for them.
     NoMemory,
@@ -46,7 +48,7 @@ impl TraceLack {
         match self {
             TraceLack::Words => WordFault::Trace.message(),
             TraceLack::Namespace => "a namespace is given as --ns 2=mnt:[4026532205]",
-            TraceLack::Forms => "trace prints --script or --json",
+            TraceLack::Forms => "trace prints --script, --json or --page",
             TraceLack::NoMemory => "out of memory",
         }
     }
@@ -81,6 +83,7 @@ fn begun(alloc: Global, log: &str) -> TraceWords<'_> {
         log,
         script: false,
         json: false,
+        page: false,
         leaks: false,
         ends: false,
         known: Vec::new(alloc),
@@ -111,6 +114,7 @@ fn take_word<'a>(
     match word {
         "--script" => words.script = true,
         "--json" => words.json = true,
+        "--page" => words.page = true,
         "--leaks" => words.leaks = true,
         "--tables" => words.ends = true,
         "--ns" | "--links" => return Ok(Some(word)),
@@ -133,7 +137,7 @@ pub(crate) fn words_in<'a>(
     if option.is_some() || words.tables.is_empty() {
         return Err(TraceLack::Words);
     }
-    if words.script && words.json {
+    if (words.script && words.json) || (words.page && (words.script || words.json)) {
         return Err(TraceLack::Forms);
     }
     Ok(words)
