@@ -123,6 +123,7 @@ def check_commands(program, mountctl, examples):
             file.write("# a directory\nmkfs more tmpfs none\nmkdir more /more\n")
         with open(os.path.join(folder, "transcript"), "w", encoding="ascii") as file:
             file.write("> mkfs more tmpfs none\nok 1\n")
+        os.symlink(os.path.join(TOP, "docs", "traces", "sandbox"), os.path.join(folder, "run"))
         path = os.pathsep.join([links, os.environ["PATH"]])
         settings = {"cwd": folder, "env": dict(os.environ, PATH=path)}
         with server.free() as client:
