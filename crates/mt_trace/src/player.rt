@@ -1,4 +1,6 @@
 //! The state of a trace that is played: the world, the processes, and what is known besides.
+ghost use Rattle.mt_propagate.specs.World.{world_view};
+ghost use Rattle.mt_propagate.specs.WellFormed.{IsWellFormed};
 
 use crate::account::{Account, Caller, TraceForm};
 use crate::covers::Covers;
@@ -78,7 +80,9 @@ pub(crate) fn nobody() -> Caller {
 
 impl Player {
     /// The world after what was played.
-    pub fn world(&self) -> &World {
+    pub fn world(&self) -> &World
+        ensures well_formed { IsWellFormed (world_view result.now) }
+    {
         self.stage.world()
     }
 
