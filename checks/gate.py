@@ -27,9 +27,11 @@ CLIENT = os.path.join(TOP, "crates", "mountctl", "out", "mountctl")
 
 # How many checks rt ci runs at once, each with one job. Where it is not told, it gives a check the processors that are
 # idle, and each further job of a check reads the libraries again: a third more of processor time (docs/GATE.md). Four at
-# once take half as much again each, where two processors share a core, and three take 15 GB at most.
+# once take half as much again each, where two processors share a core. One was seen with 8 GB, others with 2 to 4; where
+# rt ci is told how many, it does not look at memory.
 PROCESSORS = len(os.sched_getaffinity(0))
-LANES = min(2, PROCESSORS) if PROCESSORS < 4 else 3
+MEMORY = os.sysconf("SC_PAGE_SIZE") * os.sysconf("SC_PHYS_PAGES")
+LANES = 3 if PROCESSORS >= 4 and MEMORY >= 20_000_000_000 else min(2, PROCESSORS)
 
 # What is run before anything is proved, and on the libraries and programs that are built then: what it is called, and
 # its words.
