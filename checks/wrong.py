@@ -37,7 +37,7 @@ CRATES = os.path.join(TOP, "crates")
 # The crates of which the gate tries the bodies: those of propagation, of posts up to a watcher and a client, of the server's
 # decisions and of imports. Another one costs the gate 15 to 60 seconds, most of them for reading its libraries.
 GATED = (
-    "mt_lines", "mt_peers", "mt_propagate", "mt_bind", "mt_unmount", "mt_setattr", "mt_locks", "mt_guard",
+    "mt_lines", "mt_protocol", "mt_peers", "mt_propagate", "mt_bind", "mt_unmount", "mt_setattr", "mt_locks", "mt_guard",
     "mt_events", "mt_queue", "mt_book", "mt_floor", "mt_desk", "mt_session", "mt_client", "mt_server", "mt_import",
 )
 

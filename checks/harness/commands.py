@@ -8,8 +8,8 @@ from harness.runs import read, shown
 # writes it, and what it does.
 Row = collections.namedtuple("Row", "word arguments form changes usage help")
 ROW = re.compile(
-    r'Verb::\w+ => (\w+)\(\s*b"(\w+)",\s*&\[(.*?)\],\s*(\w+),?\s*\)\s*(?:\.refused\([^)]*\)\s*)?'
-    r'\.says\(\s*"(.*?)",\s*"(.*?)",\s*"(?:.*?)",?\s*\)',
+    r'static \w+: Entry = Entry \{\s*word: b"(\w+)",\s*arguments: &\[(.*?)\],\s*form: Form::(\w+),\s*is_command: (\w+),'
+    r'\s*refusals: [^"]*,\s*usage: "(.*?)",\s*help: "(.*?)",',
     re.S,
 )
 VERBS = re.compile(r"VERBS: \[Verb; (\d+)\]")
@@ -17,12 +17,12 @@ VERBS = re.compile(r"VERBS: \[Verb; (\d+)\]")
 
 def read_table():
     """The rows of the table, each by its word, in the order of the help."""
-    text = shown(read("crates", "mt_protocol", "src", "verb.rt"))
+    text, verbs = (shown(read("crates", "mt_protocol", "src", name)) for name in ("line_table.rt", "verb.rt"))
     rows = [
-        Row(word.encode(), arguments.split(", ") if arguments else [], form, kind == "command", usage, does)
-        for kind, word, arguments, form, usage, does in ROW.findall(text)
+        Row(word.encode(), arguments.split(", ") if arguments else [], form, changes == "true", usage, does)
+        for word, arguments, form, changes, usage, does in ROW.findall(text)
     ]
-    if len(rows) != int(VERBS.search(text)[1]):
+    if len(rows) != int(VERBS.search(verbs)[1]):
         raise SystemExit(f"{len(rows)} rows are read of the table of lines, which has others")
     return {row.word: row for row in rows}
 

@@ -7,18 +7,20 @@ from harness.runs import read, shown
 
 # A row of the table: the name of a refusal, what it says, and the errors that Linux has in its place, by their numbers.
 Row = collections.namedtuple("Row", "name sentence errnos")
-ROW = re.compile(r'Fault::(\w+) => row\(\s*"(.*?)",\s*(?:Errors|Nothing)\((.*?)\),\s*"(?:.*?)",\s*"(?:.*?)",?\s*\)', re.S)
+ROW = re.compile(r'static (\w+): Entry = Entry \{\s*sentence: "(.*?)",\s*linux: (?:Errors|Nothing)\((.*?)\),\s*look: ', re.S)
+NAMED = re.compile(r"Fault::(\w+) => &refusal_table::(\w+),")
 REFUSALS = re.compile(r"REFUSALS: \[Fault; (\d+)\] = \[(.*?)\];", re.S)
 
 
 def read_table():
     """The rows of the table, each by its name, in the order of the pages."""
-    text = shown(read("crates", "mt_protocol", "src", "refusal.rt"))
+    table, text = (shown(read("crates", "mt_protocol", "src", name)) for name in ("refusal_table.rt", "refusal.rt"))
     number, listed = REFUSALS.search(text).groups()
     names = re.findall(r"Fault::(\w+)", listed)
+    told = {entry: (sentence, linux) for entry, sentence, linux in ROW.findall(table)}
     rows = {
-        name: Row(name, sentence, {getattr(errno, word.upper()) for word in re.findall(r"errno: (\w+)", linux)})
-        for name, sentence, linux in ROW.findall(text)
+        name: Row(name, told[entry][0], {getattr(errno, word.upper()) for word in re.findall(r"errno: (\w+)", told[entry][1])})
+        for name, entry in NAMED.findall(text)
     }
     if len(names) != int(number) or sorted(rows) != sorted(names):
         raise SystemExit(f"{len(rows)} rows are read of the table of refusals, which has others")

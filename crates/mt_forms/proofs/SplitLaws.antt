@@ -1,8 +1,10 @@
 -- Words with a zero byte between two.
-use Rattle.std.proofs.Common.{◌≡◌, ℕ, List, [], ◌∷◌, ◌++◌, refl, ap, sym, ◌∙◌, Bor}
+use Rattle.std.proofs.Common.{◌≡◌, ℕ, ◌+◌, ◌<◌, List, [], ◌∷◌, ◌++◌, length, drop, get_or, refl, ap, sym, ◌∙◌, Bor, append_assoc}
 use Rattle.std.specs.Prelude.{map}
 use Rattle.std.specs.List.{flat_map}
-use Rattle.mt_forms.specs.Splitting.{joined_text}
+use Rattle.std.proofs.lemmas.List.{at_drop_more}
+use Rattle.mt_forms.specs.declared.split.Before.{Before}
+use Rattle.mt_forms.specs.Splitting.{next_byte, emitted, emitted_from, joined_text}
 
 -- words of which the first was appended alone
 pub words_joined : (words others : List (Bor (List ℕ))) (first : Bor (List ℕ)) (one all : List ℕ) → words ≡ first ∷ others → one ≡ first.now
@@ -15,3 +17,14 @@ words_joined words others first one all is e f =
     behind : (ws : List (Bor (List ℕ))) → flat_map (λ word. 0 ∷ word.now) ws ≡ flat_map (λ w. 0 ∷ w) (map (λ word. word.now) ws)
     behind [] = refl
     behind (w ∷ ws) = ap (λ x. 0 ∷ w.now ++ x) (behind ws)
+
+-- a byte of which what it gives was appended
+pub byte_told : (line : List ℕ) (i : ℕ) (before after : Before) (text more : List ℕ) → i < length line → after ≡ next_byte before (get_or line i 0)
+    → more ≡ text ++ emitted before (get_or line i 0) → more ++ emitted_from after (drop (i + 1) line) ≡ text ++ emitted_from before (drop i line)
+byte_told line i before after text more within stepped pushed =
+    let rest = drop (i + 1) line in
+    let given = emitted before (get_or line i 0) in
+    ap (λ x. x ++ emitted_from after rest) pushed
+    ∙ append_assoc text given (emitted_from after rest)
+    ∙ ap (λ (s : Before). text ++ (given ++ emitted_from s rest)) stepped
+    ∙ ap (λ x. text ++ x) (sym (at_drop_more (emitted_from before) line i 0 within))

@@ -1,6 +1,6 @@
 //! Lines, and what they ask for.
 ghost use Rattle.std.specs.Prelude.{◌≡◌};
-ghost use Rattle.mt_forms.specs.Lines.{may_name, are_space_and_path, are_attributes, are_mount_words, is_own_line, asked_without, asked_by, by_beginning, asked_in, without_command, entered_from, by_first, behind_sudo, asked_of};
+ghost use Rattle.mt_forms.specs.Lines.{may_name, are_space_and_path, are_attributes, are_mount_words, is_own_line, asked_without, asked_by, by_beginning, over_space, asked_in, without_command, entered_from, by_first, behind_sudo, asked_of};
 
 use crate::command::{Beginning, Tool, beginning_of};
 use crate::given::{Given, nothing_given};
@@ -134,6 +134,27 @@ fn asked_by_beginning<'a>(
     }
 }
 
+/// What is asked for, in a namespace. One that is named there itself counts.
+fn over_space<'a>(
+    space: Word<'a>,
+    asked: Result<Asked<'a>, Slip<'a>>,
+) -> Result<Asked<'a>, Slip<'a>>
+    ensures { result ≡ over_space space.entry asked.entry }
+{
+    match asked {
+        Ok(asked) => {
+            if asked.space.is_some() {
+                return Ok(asked);
+            }
+            Ok(Asked {
+                space: Some(space),
+                ..asked
+            })
+        }
+        Err(slip) => Err(slip),
+    }
+}
+
 /// What a command of nsenter(1) asks for, in the namespace that its options name. A namespace that the command itself
 /// names counts.
 fn asked_in_space<'a>(
@@ -155,18 +176,8 @@ fn asked_in_space<'a>(
     let Some(space) = given.space.take() else {
         return Err(Slip::NoProcess);
     };
-    match asked_by_beginning(beginning_of(base_name(command)), command, words) {
-        Ok(asked) => {
-            if asked.space.is_some() {
-                return Ok(asked);
-            }
-            Ok(Asked {
-                space: Some(space),
-                ..asked
-            })
-        }
-        Err(slip) => Err(slip),
-    }
+    let beginning = beginning_of(base_name(command));
+    over_space(space, asked_by_beginning(beginning, command, words))
 }
 
 /// What is wrong with a line of nsenter(1) without a command.
@@ -174,10 +185,7 @@ fn slip_without_command<'a>(given: Given<'a>) -> Slip<'a>
     ensures { result ≡ without_command given.entry }
 {
     let mut given = given;
-    match given.slip.take() {
-        Some(slip) => slip,
-        None => Slip::NoLine,
-    }
+    given.slip.take().unwrap_or(Slip::NoLine)
 }
 
 /// What the words after nsenter(1) ask for, those after what was read.

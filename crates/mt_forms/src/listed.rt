@@ -11,7 +11,7 @@ use crate::table::{
 };
 
 /// What a word of the list means.
-#[derive(Clone, Copy, PartialEq, Eq, Debug)]
+#[derive(Clone, Copy)]
 pub(crate) enum Listed {
     /// An attribute is to be, or not.
     Turns(Attribute, bool),

@@ -1,8 +1,8 @@
 //! The word that was meant.
 
-use crate::command::{BEGINNINGS, BeginningRow, Tool};
+use crate::command::{BEGINNINGS, BeginningRow};
 use crate::slip::Slip;
-use crate::table::{MOUNT, NSENTER, OptionRow, UMOUNT, UNSHARE};
+use crate::table::{OptionRow, options_of};
 use std::alloc::{AllocError, Global};
 use strsim::generic_levenshtein;
 
@@ -79,13 +79,7 @@ pub fn meant_by(alloc: Global, slip: &Slip<'_>) -> Result<Option<&'static [u8]>,
             let Some(name) = word.bytes().strip_prefix(b"--") else {
                 return Ok(None);
             };
-            match tool {
-                Tool::Mount => nearest_option(alloc, name, &MOUNT),
-                Tool::Umount => nearest_option(alloc, name, &UMOUNT),
-                Tool::Unshare => nearest_option(alloc, name, &UNSHARE),
-                Tool::Nsenter => nearest_option(alloc, name, &NSENTER),
-                Tool::PivotRoot => Ok(None),
-            }
+            nearest_option(alloc, name, options_of(*tool))
         }
         _ => Ok(None),
     }

@@ -1,11 +1,11 @@
 //! What a line asks for, by its program and what its words give.
 ghost use Rattle.std.specs.Prelude.{◌≡◌};
-ghost use Rattle.mt_forms.specs.Operations.{path_slip, two_slip, in_front, then_place, moved_operation, change_operation, remount_operation, alone_operation, new_operation, mount_operation, umount_operation, spread, unshare_operation, pivot_operation, operation_by};
+ghost use Rattle.mt_forms.specs.Operations.{path_slip, two_slip, unless_slip, in_front, then_place, moved_operation, change_operation, remount_operation, alone_operation, new_operation, mount_operation, umount_at, umount_operation, spread, unshare_operation, pivot_operation, operation_by};
 
 use crate::attribute::Said;
 use crate::command::Tool;
 use crate::given::{Given, Places};
-use crate::operation::{Operation, Propagation, PropagationKind};
+use crate::operation::{Operation, Propagation, PropagationKind, Reach};
 use crate::slip::Slip;
 use crate::table::Change;
 use crate::word::{Word, has_dots, is_rooted};
@@ -35,6 +35,19 @@ fn two_slip<'a>(first: &Word<'a>, second: &Word<'a>) -> Option<Slip<'a>>
     match path_slip(first) {
         Some(slip) => Some(slip),
         None => path_slip(second),
+    }
+}
+
+/// A form, unless something is wrong.
+fn unless_slip<'a>(
+    slip: Option<Slip<'a>>,
+    operation: Operation<'a>,
+) -> Result<Operation<'a>, Slip<'a>>
+    ensures { result ≡ unless_slip slip.entry operation.entry }
+{
+    match slip {
+        Some(slip) => Err(slip),
+        None => Ok(operation),
     }
 }
 
@@ -108,10 +121,10 @@ fn change_operation<'a>(
     match places {
         Places::None => Err(Slip::NoTarget { tool: Tool::Mount }),
         Places::One(_word) => Err(Slip::OnePath { tool: Tool::Mount }),
-        Places::Two(from, to) => match two_slip(&from, &to) {
-            Some(slip) => Err(slip),
-            None => Ok(moved_operation(change, said, propagation, from, to)),
-        },
+        Places::Two(from, to) => {
+            let slip = two_slip(&from, &to);
+            unless_slip(slip, moved_operation(change, said, propagation, from, to))
+        }
         Places::Many => Err(Slip::Many { tool: Tool::Mount }),
     }
 }
@@ -139,14 +152,15 @@ fn remount_operation<'a>(
             return Err(Slip::Many { tool: Tool::Mount });
         }
     };
-    match path_slip(&to) {
-        Some(slip) => Err(slip),
-        None => Ok(Operation::Remount {
+    let slip = path_slip(&to);
+    unless_slip(
+        slip,
+        Operation::Remount {
             to,
             said,
             propagation,
-        }),
-    }
+        },
+    )
 }
 
 /// What a line of mount(8) with one word asks for: another propagation, or what stands in fstab(5).
@@ -163,10 +177,8 @@ fn alone_operation<'a>(
     if !is_unquoted {
         return Err(Slip::Alone { word: to });
     }
-    match path_slip(&to) {
-        Some(slip) => Err(slip),
-        None => Ok(Operation::Propagation { to, propagation }),
-    }
+    let slip = path_slip(&to);
+    unless_slip(slip, Operation::Propagation { to, propagation })
 }
 
 /// What a line of mount(8) without bind, rbind, move and remount asks for.
@@ -182,16 +194,19 @@ fn new_operation<'a>(
     match places {
         Places::None => Err(Slip::NoTarget { tool: Tool::Mount }),
         Places::One(to) => alone_operation(!has_list && kind.is_none(), propagation, to),
-        Places::Two(source, to) => match path_slip(&to) {
-            Some(slip) => Err(slip),
-            None => Ok(Operation::Mount {
-                source,
-                kind,
-                to,
-                said,
-                propagation,
-            }),
-        },
+        Places::Two(source, to) => {
+            let slip = path_slip(&to);
+            unless_slip(
+                slip,
+                Operation::Mount {
+                    source,
+                    kind,
+                    to,
+                    said,
+                    propagation,
+                },
+            )
+        }
         Places::Many => Err(Slip::Many { tool: Tool::Mount }),
     }
 }
@@ -222,16 +237,10 @@ fn mount_operation<'a>(given: Given<'a>) -> Result<Operation<'a>, Slip<'a>>
     }
 }
 
-/// What a line of umount(8) asks for.
-fn umount_operation<'a>(given: Given<'a>) -> Result<Operation<'a>, Slip<'a>>
-    ensures { result ≡ umount_operation given.entry }
+/// What a line of umount(8) with these words asks for.
+fn umount_at<'a>(lazy: bool, reach: Reach, places: Places<'a>) -> Result<Operation<'a>, Slip<'a>>
+    ensures { result ≡ umount_at lazy reach places.entry }
 {
-    let Given {
-        places,
-        is_lazy,
-        reach,
-        ..
-    } = given;
     match places {
         Places::None => Err(Slip::NoTarget { tool: Tool::Umount }),
         Places::One(target) => {
@@ -240,13 +249,20 @@ fn umount_operation<'a>(given: Given<'a>) -> Result<Operation<'a>, Slip<'a>>
             }
             Ok(Operation::Umount {
                 target,
-                lazy: is_lazy,
+                lazy,
                 reach,
             })
         }
         Places::Two(_first, _second) => Err(Slip::Many { tool: Tool::Umount }),
         Places::Many => Err(Slip::Many { tool: Tool::Umount }),
     }
+}
+
+/// What a line of umount(8) asks for.
+fn umount_operation<'a>(given: Given<'a>) -> Result<Operation<'a>, Slip<'a>>
+    ensures { result ≡ umount_operation given.entry }
+{
+    umount_at(given.is_lazy, given.reach, given.places)
 }
 
 /// What the mounts of a new namespace are made.
@@ -292,10 +308,10 @@ fn pivot_operation<'a>(given: Given<'a>) -> Result<Operation<'a>, Slip<'a>>
         Places::One(_word) => Err(Slip::OnePath {
             tool: Tool::PivotRoot,
         }),
-        Places::Two(new, old) => match two_slip(&new, &old) {
-            Some(slip) => Err(slip),
-            None => Ok(Operation::Pivot { new, old }),
-        },
+        Places::Two(new, old) => {
+            let slip = two_slip(&new, &old);
+            unless_slip(slip, Operation::Pivot { new, old })
+        }
         Places::Many => Err(Slip::Many {
             tool: Tool::PivotRoot,
         }),

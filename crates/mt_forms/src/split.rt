@@ -7,7 +7,7 @@ ghost use Rattle.mt_forms.specs.Splitting.{start, is_blank, is_kept, inside_word
 use std::alloc::{AllocError, Global};
 
 /// In which quotes a byte stands.
-#[derive(Clone, Copy, PartialEq, Eq, Debug)]
+#[derive(Clone, Copy)]
 enum Quotes {
     None,
     Single,
@@ -15,7 +15,7 @@ enum Quotes {
 }
 
 /// What the bytes before one say of it.
-#[derive(Clone, Copy, PartialEq, Eq, Debug)]
+#[derive(Clone, Copy)]
 struct Before {
     quotes: Quotes,
     /// Whether a backslash stands in front.

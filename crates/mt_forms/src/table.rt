@@ -1,16 +1,16 @@
 //! The options of programs: what each means, and whether it takes a value.
-ghost use Rattle.std.specs.Prelude.{◌≡◌};
+ghost use Rattle.std.specs.Prelude.{◌≡◌, map};
 ghost use Rattle.std.specs.Str.{bytes_eq};
 ghost use Rattle.mt_forms.specs.Lookup.{looked_up};
 ghost use Rattle.mt_forms.specs.Effects.{effect};
-ghost use Rattle.mt_forms.specs.Tables.{option_of_letter, option_of_name};
+ghost use Rattle.mt_forms.specs.Tables.{options_of_tool, option_of_letter, option_of_name};
 
 use crate::attribute::Attribute;
 use crate::command::Tool;
 use crate::operation::{Propagation, PropagationKind, Reach};
 
 /// Which of its changes a line of mount(8) asks for.
-#[derive(Clone, Copy, PartialEq, Eq, Debug)]
+#[derive(Clone, Copy)]
 pub(crate) enum Change {
     Bind,
     Rbind,
@@ -18,7 +18,7 @@ pub(crate) enum Change {
 }
 
 /// What an option means.
-#[derive(Clone, Copy, PartialEq, Eq, Debug)]
+#[derive(Clone, Copy)]
 pub(crate) enum Means {
     /// Bind, rbind or move.
     Changes(Change),
@@ -55,7 +55,7 @@ pub(crate) enum Means {
 }
 
 /// Whether an option takes a value.
-#[derive(Clone, Copy, PartialEq, Eq, Debug)]
+#[derive(Clone, Copy)]
 pub(crate) enum Takes {
     /// None.
     Nothing,
@@ -66,7 +66,7 @@ pub(crate) enum Takes {
 }
 
 /// What an option does: what it means, and whether it takes a value.
-#[derive(Clone, Copy, PartialEq, Eq, Debug)]
+#[derive(Clone, Copy)]
 pub(crate) struct Effect {
     pub(crate) takes: Takes,
     pub(crate) means: Means,
@@ -137,7 +137,7 @@ pub(crate) const ALL_UNBINDABLE: Propagation = Propagation {
 };
 
 /// The options of mount(8).
-pub(crate) const MOUNT: [OptionRow; 27] = [
+const MOUNT: [OptionRow; 27] = [
     OptionRow(b"B", b"bind", Takes::Nothing, Means::Changes(Change::Bind)),
     OptionRow(
         b"R",
@@ -208,7 +208,7 @@ pub(crate) const MOUNT: [OptionRow; 27] = [
 ];
 
 /// The options of umount(8).
-pub(crate) const UMOUNT: [OptionRow; 15] = [
+const UMOUNT: [OptionRow; 15] = [
     OptionRow(b"l", b"lazy", Takes::Nothing, Means::Lazy),
     OptionRow(
         b"R",
@@ -237,7 +237,7 @@ pub(crate) const UMOUNT: [OptionRow; 15] = [
 ];
 
 /// The options of unshare(1).
-pub(crate) const UNSHARE: [OptionRow; 13] = [
+const UNSHARE: [OptionRow; 13] = [
     OptionRow(b"m", b"mount", Takes::Nothing, Means::Mounts),
     OptionRow(b"U", b"user", Takes::Maybe, Means::Less),
     OptionRow(b"r", b"map-root-user", Takes::Nothing, Means::Less),
@@ -254,7 +254,7 @@ pub(crate) const UNSHARE: [OptionRow; 13] = [
 ];
 
 /// The options of nsenter(1).
-pub(crate) const NSENTER: [OptionRow; 14] = [
+const NSENTER: [OptionRow; 14] = [
     OptionRow(b"t", b"target", Takes::Value, Means::Space),
     OptionRow(b"m", b"mount", Takes::Maybe, Means::Mounts),
     OptionRow(b"a", b"all", Takes::Nothing, Means::Mounts),
@@ -270,6 +270,19 @@ pub(crate) const NSENTER: [OptionRow; 14] = [
     OptionRow(b"S", b"setuid", Takes::Value, Means::Unseen),
     OptionRow(b"G", b"setgid", Takes::Value, Means::Unseen),
 ];
+
+/// The options of a program.
+pub(crate) fn options_of(tool: Tool) -> &'static [OptionRow]
+    ensures { map (λ row. (row.0.now, row.1.now, row.2, row.3)) result.now ≡ options_of_tool tool }
+{
+    match tool {
+        Tool::Mount => &MOUNT,
+        Tool::Umount => &UMOUNT,
+        Tool::Unshare => &UNSHARE,
+        Tool::Nsenter => &NSENTER,
+        Tool::PivotRoot => &[],
+    }
+}
 
 /// What the option with a letter does, if it is in one of these rows.
 fn among_letters(letter: &[u8], rows: &[OptionRow]) -> Option<Effect>
@@ -296,29 +309,15 @@ fn among_names(name: &[u8], rows: &[OptionRow]) -> Option<Effect>
 }
 
 /// What an option of one letter does, if the program has it.
-#[tactic(auto, unfolding(crate::specs::Tables::option_of_letter))]
 pub(crate) fn option_of_letter(tool: Tool, letter: &[u8]) -> Option<Effect>
     ensures { result ≡ option_of_letter tool letter.now }
 {
-    match tool {
-        Tool::Mount => among_letters(letter, &MOUNT),
-        Tool::Umount => among_letters(letter, &UMOUNT),
-        Tool::Unshare => among_letters(letter, &UNSHARE),
-        Tool::Nsenter => among_letters(letter, &NSENTER),
-        Tool::PivotRoot => None,
-    }
+    among_letters(letter, options_of(tool))
 }
 
 /// What an option with a name does, if the program has it.
-#[tactic(auto, unfolding(crate::specs::Tables::option_of_name))]
 pub(crate) fn option_of_name(tool: Tool, name: &[u8]) -> Option<Effect>
     ensures { result ≡ option_of_name tool name.now }
 {
-    match tool {
-        Tool::Mount => among_names(name, &MOUNT),
-        Tool::Umount => among_names(name, &UMOUNT),
-        Tool::Unshare => among_names(name, &UNSHARE),
-        Tool::Nsenter => among_names(name, &NSENTER),
-        Tool::PivotRoot => None,
-    }
+    among_names(name, options_of(tool))
 }

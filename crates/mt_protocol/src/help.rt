@@ -1,6 +1,6 @@
 //! The lines of a session in words, for the helps of programs.
 
-use crate::line_row::LineRow;
+use crate::line_table::Entry;
 use crate::verb::VERBS;
 use std::alloc::{AllocError, Global};
 
@@ -8,7 +8,7 @@ use std::alloc::{AllocError, Global};
 const LONGEST_USAGE: usize = 23;
 
 /// Appends a line and what it does: beside its usage, or below a long one. Fails for want of memory alone.
-fn push_row(text: &mut String, row: LineRow) -> Result<(), AllocError> {
+fn push_row(text: &mut String, row: &Entry) -> Result<(), AllocError> {
     text.push_str("  ")?;
     text.push_str(row.usage)?;
     let mut width = row.usage.len();
@@ -28,7 +28,7 @@ fn push_row(text: &mut String, row: LineRow) -> Result<(), AllocError> {
 pub fn lines(alloc: Global) -> Result<String, AllocError> {
     let mut text = String::from_str(alloc, "Lines of a session:\n")?;
     for verb in &VERBS {
-        push_row(&mut text, verb.row())?;
+        push_row(&mut text, verb.entry())?;
     }
     text.push_str(
         "A line is answered with `ok` and what it asks for, or with `no` and the reason.",

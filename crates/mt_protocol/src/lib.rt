@@ -3,8 +3,8 @@
 //!
 //! The first word of a line is a [`verb`]. [`verb::Verb::row`] is the table of lines, in which each has a [`line_row`]: which
 //! [`argument`] each word after the verb is, which [`form`] an answer has that does not refuse, and as which [`refusal`]s one does.
-//! [`refusal::refusal_row`] is the table of refusals, with the [`errno`] of Linux that stands in the place of each. [`help`] has
-//! the lines in words, and [`laws`] what is true of all refusals.
+//! [`refusal::refusal_row`] is the table of refusals, with the [`errno`] of Linux that stands in the place of each. The rows of
+//! both stand in `line_table` and `refusal_table`. [`help`] has the lines in words, and [`laws`] what is true of all refusals.
 #![tactic(auto)]
 
 pub mod argument;
@@ -13,5 +13,7 @@ pub mod form;
 pub mod help;
 pub mod laws;
 pub mod line_row;
+mod line_table;
 pub mod refusal;
+mod refusal_table;
 pub mod verb;

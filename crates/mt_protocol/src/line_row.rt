@@ -1,5 +1,4 @@
 //! A row of the table of lines.
-ghost use Rattle.std.specs.Prelude.{◌≡◌, false, true, []};
 
 use crate::argument::Argument;
 use crate::form::Form;
@@ -41,65 +40,4 @@ impl Model for LineRow {
       refusals = row.refusals.now;
       example = row.example.now;
     } };
-}
-
-impl LineRow {
-    /// The row with what the line may be refused as.
-    pub(crate) fn refused(self, refusals: &'static [Fault]) -> LineRow
-        ensures { result ≡ record self { refusals = refusals.now } }
-    {
-        LineRow { refusals, ..self }
-    }
-
-    /// The row with its words of a help, and an example.
-    pub(crate) fn says(
-        self,
-        usage: &'static str,
-        help: &'static str,
-        example: &'static str,
-    ) -> LineRow
-        ensures { result ≡ record self { example = example.now } }
-    {
-        LineRow {
-            usage,
-            help,
-            example,
-            ..self
-        }
-    }
-}
-
-/// A row of a line that is never refused for what it asks.
-fn row_of(
-    word: &'static [u8],
-    arguments: &'static [Argument],
-    form: Form,
-    is_command: bool,
-) -> LineRow
-    ensures { result ≡ record { word = word.now; arguments = arguments.now; form = form; command = is_command; refusals = []; example = [] } }
-{
-    LineRow {
-        word,
-        arguments,
-        form,
-        is_command,
-        refusals: &[],
-        usage: "",
-        help: "",
-        example: "",
-    }
-}
-
-/// A row of a line that changes tables.
-pub(crate) fn command(word: &'static [u8], arguments: &'static [Argument], form: Form) -> LineRow
-    ensures { result ≡ record { word = word.now; arguments = arguments.now; form = form; command = true; refusals = []; example = [] } }
-{
-    row_of(word, arguments, form, true)
-}
-
-/// A row of another line.
-pub(crate) fn other(word: &'static [u8], arguments: &'static [Argument], form: Form) -> LineRow
-    ensures { result ≡ record { word = word.now; arguments = arguments.now; form = form; command = false; refusals = []; example = [] } }
-{
-    row_of(word, arguments, form, false)
 }

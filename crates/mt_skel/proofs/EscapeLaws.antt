@@ -1,5 +1,6 @@
 -- A text with escapes: its first byte, and the way back from the bytes that it stands for.
-use Rattle.std.proofs.lemmas.List.{take_all, append-nil}
+use Rattle.std.proofs.lemmas.Grind.{flat_map-append}
+use Rattle.std.proofs.lemmas.List.{take_all, take_more, append-nil, append_assoc}
 use Rattle.std.proofs.Common.{get_or, ◌-◌, ◌≡◌, ◌≢◌, ℕ, ◌+◌, ◌<◌, ◌≤◌, ◌==◌, List, [], ◌∷◌, ◌++◌, length, take, drop, Option, Some, None, true, false, refl, ap, sym, ◌∙◌, arith}
 use Rattle.std.proofs.lemmas.Bool.{ne_eqb, eqb-false}
 use Rattle.std.proofs.lemmas.Bool.Decides.{nat_tests}
@@ -99,6 +100,13 @@ not_empty text e = grind (arith, nat_tests)
 pub bare_escaped : (bytes : List ℕ) → list_any has_escape bytes ≡ false → escaped bytes ≡ bytes
 bare_escaped [] h = refl
 bare_escaped (b ∷ bytes) h = grind (arith, nat_tests, bare_escaped bytes)
+
+-- one byte more of those that were written
+pub escaped_more : {old new : List ℕ} (start bytes : List ℕ) (i : ℕ) → i < length bytes → old ≡ start ++ escaped (take i bytes) → new ≡ old ++ escaped_byte (get_or bytes i 0) → new ≡ start ++ escaped (take (i + 1) bytes)
+escaped_more start bytes i l e f =
+    let b = get_or bytes i 0 in
+    let longer = ap escaped (take_more bytes i 0 l) ∙ flat_map-append escaped_byte (take i bytes) (b ∷ []) ∙ ap (λ t. escaped (take i bytes) ++ t) (append-nil (escaped_byte b)) in
+    f ∙ ap (λ t. t ++ escaped_byte b) e ∙ append_assoc start (escaped (take i bytes)) (escaped_byte b) ∙ ap (λ t. start ++ t) (sym longer)
 
 -- a text without a backslash stands for itself
 pub bare_unescaped : (text : List ℕ) → list_any is_backslash text ≡ false → unescaped text ≡ Some text

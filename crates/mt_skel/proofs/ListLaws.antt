@@ -1,6 +1,7 @@
 -- A list with one more element at its end, and its fronts.
 use Rattle.std.proofs.Common.{◌≡◌, ◌⊎◌, ℕ, zero, suc, ◌+◌, ◌-◌, ◌<◌, ◌≤◌, List, [], ◌∷◌, ◌++◌, length, get_or, take, drop, reverse, Some, slice_get, refl, sym, ap, ◌∙◌, inl, inr, arith, append-nil, append_assoc}
 use Rattle.std.specs.List.{flat_map}
+use Rattle.mt_skel.specs.Front.{IsFront}
 use Rattle.std.proofs.lemmas.Grind.{flat_map-append}
 use Rattle.std.proofs.lemmas.List.{reverse-append, take_more, take-append-drop, drop-append-le, drop_all, length_push}
 use Rattle.std.proofs.Math.Seq.{take-append_seam}
@@ -36,6 +37,10 @@ kept (a ∷ xs) y x (suc i) e = kept xs y x i e
 pub last_place : {X : Type 0} (xs : List X) (y : X) → slice_get (xs ++ y ∷ []) (length xs) ≡ Some y
 last_place [] y = refl
 last_place (x ∷ xs) y = last_place xs y
+
+-- what is in front stays there when more is added twice
+pub front_through : {X : Type 0} (xs ys zs : List X) → IsFront xs ys → IsFront ys zs → IsFront xs zs
+front_through xs ys zs p q = (p.0 ++ q.0, q.1 ∙ ap (λ l. l ++ q.0) p.1 ∙ append_assoc xs p.0 q.0)
 
 -- the front of a list with one element more
 pub take_next : {X : Type 0} (xs : List X) (i : ℕ) (x : X) → i < length xs → x ≡ get_or xs i x → take (i + 1) xs ≡ take i xs ++ x ∷ []

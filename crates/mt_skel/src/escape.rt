@@ -74,7 +74,7 @@ fn push_byte(text: &mut Vec<u8>, byte: u8) -> Result<(), AllocError>
 ///
 /// Refused as `BadLine` exactly where a backslash begins none of the four escapes, which is found
 /// out without memory, and otherwise only as `NoMemory`.
-#[tactic(auto, using(crate::proofs::EscapeLaws::stands_for, crate::proofs::EscapeLaws::bare_unescaped))]
+#[tactic(auto, using(crate::proofs::EscapeLaws::bare_unescaped))]
 pub fn unescape(alloc: Global, text: &[u8]) -> Result<Vec<u8>, Fault>
     ensures bytes { IfOk result (λ bytes. unescaped text.now ≡ Some bytes.items) }
     ensures bad { unescaped text.now ≡ None → result ≡ Err Fault.BadLine }
@@ -82,9 +82,7 @@ pub fn unescape(alloc: Global, text: &[u8]) -> Result<Vec<u8>, Fault>
     ensures inverse { (bytes : List ℕ) → text.now ≡ escaped bytes → unescaped text.now ≡ Some bytes }
 {
     if !has_backslash(text) {
-        let mut bytes = Vec::with_capacity(alloc, text.len())?;
-        bytes.extend_from_slice(text)?;
-        return Ok(bytes);
+        return Ok(text.to_vec(alloc)?);
     }
     let Some(length) = unescaped_len(text) else {
         return Err(Fault::BadLine);

@@ -32,12 +32,23 @@ const MOST_DEPTH: usize = 32;
 /// The greatest room.
 pub const MOST_ROOM: usize = 256;
 
-#[derive(Drop, Clone)]
+#[derive(Clone)]
 struct Filesystem {
+    root: Dir,
     name: Label,
     kind: Label,
     source: Label,
-    root: Dir,
+}
+
+impl Drop for Filesystem {
+    fn drop(self) {
+        let Filesystem {
+            root: _root,
+            name: _name,
+            kind: _kind,
+            source: _source,
+        } = self;
+    }
 }
 
 /// The parent of a directory, and its name in it.
@@ -165,7 +176,14 @@ impl Skel {
         ensures refused { IfErr result (λ fault. fault ≢ Fault.NoMemory → added_fs self.old (record { name = name; kind = kind; source = source }) ≡ Err fault) }
         ensures unchanged { OnErr result (self.new ≡ self.old) }
     {
-        if self.fs(&name).is_some() {
+        let root = self.nodes.len() as u64;
+        let filesystem = Filesystem {
+            root,
+            name,
+            kind,
+            source,
+        };
+        if self.fs(&filesystem.name).is_some() {
             return Err(Fault::FilesystemExists);
         }
         if self.has_most_filesystems() || self.has_most_directories() {
@@ -174,15 +192,9 @@ impl Skel {
         self.nodes.reserve(1)?;
         self.filesystems.reserve(1)?;
         self.children.push_root()?;
-        let root = self.nodes.len() as u64;
         let fs = self.filesystems.len() as u64 + 1;
-        self.nodes.push(Node { fs, up: None })?;
-        self.filesystems.push(Filesystem {
-            name,
-            kind,
-            source,
-            root,
-        })?;
+        self.nodes.push(Node { fs, up: None }).unwrap();
+        self.filesystems.push(filesystem).unwrap();
         Ok(fs)
     }
 
@@ -381,7 +393,7 @@ impl Skel {
         self.nodes.reserve(1)?;
         self.children.push_child(parent, name.copy()?, dir)?;
         let up = Some(Link { dir: parent, name });
-        self.nodes.push(Node { fs, up })?;
+        self.nodes.push(Node { fs, up }).unwrap();
         Ok(dir)
     }
 }

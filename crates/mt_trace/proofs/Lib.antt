@@ -2,4 +2,5 @@ pub mod CallNameLaws
 pub mod ChangeLaws
 pub mod SpotLaws
 pub mod StageLaws
+pub mod TellingLaws
 pub mod TextLaws

@@ -3,7 +3,7 @@
 use Rattle.std.specs.Prelude.{◌≡◌, Bool, true, false}
 use Rattle.mt_strace.specs.declared.result.CallResult.{CallResult}
 use Rattle.mt_strace.specs.declared.result.CallResult.TheVariants as outcome
-use Rattle.mt_trace.specs.declared.player.Player.{Player}
+use Rattle.mt_trace.specs.declared.trace_state.TraceState.{TraceState}
 
 -- strace tells an error in the place of a value (strace(1))
 abbrev pub is_failed : CallResult → Bool
@@ -12,6 +12,6 @@ is_failed (outcome.Failed error notes) = true
 is_failed outcome.Unknown = false
 
 -- the world and the processes are as they were
-pub record IsStill (before after : Player) : Type 0 where
+pub record IsStill (before after : TraceState) : Type 0 where
   pub world : after.stage ≡ before.stage
   pub processes : after.processes ≡ before.processes

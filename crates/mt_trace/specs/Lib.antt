@@ -15,3 +15,7 @@ pub mod Standings
 pub mod Walks
 pub mod Failures
 pub mod Texts
+pub mod Players
+pub mod Counting
+pub mod Telling
+pub mod PlayedLines

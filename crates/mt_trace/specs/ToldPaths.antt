@@ -1,6 +1,6 @@
 -- What strace tells a descriptor to lead to (strace(1), -y), and the number of a child (strace(1), --decode-pids).
 -- A word with no source is this project's rule.
-use Rattle.std.specs.Prelude.{ℕ, nat_eq, if◌then◌else◌, ◌==◌, List, [], ◌∷◌, length, Option, None, Some, codes}
+use Rattle.std.specs.Prelude.{ℕ, nat_eq, if◌then◌else◌, ◌==◌, List, [], ◌∷◌, length, Option, None, codes}
 use Rattle.std.specs.List.{starts_with}
 use Rattle.std.specs.Option.{option_and_then, option_map, option_map_or}
 use Rattle.mt_lines.specs.Words.{pieces, number_in_text}

@@ -3,7 +3,6 @@
 use Rattle.std.specs.Prelude.{ℕ, ◌==◌, if◌then◌else◌, List, [], ◌∷◌, ◌++◌, length, Option, Some, None}
 use Rattle.std.specs.Option.{option_map_or}
 use Rattle.mt_skel.specs.Skeleton.{is_directory, directory, child}
-use Rattle.mt_mounts.specs.declared.mount.Place.{Place}
 use Rattle.mt_propagate.specs.World.{WorldView}
 use Rattle.mt_trace.specs.declared.standing.Standing.{Standing}
 use Rattle.mt_trace.specs.Standings.{spot_at}

@@ -21,13 +21,20 @@ pub enum TraceForm {
     Script,
 }
 
-/// Who makes a call, and where.
+/// Which line is played, and the process of its call.
 #[derive(Clone, Copy, PartialEq, Eq, Debug)]
-pub struct Caller {
+pub struct CallOrigin {
     /// The number of the line that has the end of the call.
     pub line: u64,
     /// The number of the process.
     pub process: u64,
+}
+
+/// Where the process of a call stands.
+#[derive(Clone, Copy, PartialEq, Eq, Debug)]
+pub struct Caller {
+    /// The number of the line that has the end of the call.
+    pub line: u64,
     /// Its namespace of mounts.
     pub space: SpaceId,
     /// The first number that no namespace has before the call.
@@ -60,11 +67,6 @@ impl Account {
             commands: Vec::new(alloc),
             elsewhere: 0,
         }
-    }
-
-    /// Who makes the call.
-    pub fn caller(&self) -> Caller {
-        self.caller
     }
 
     /// The lines of its changes.

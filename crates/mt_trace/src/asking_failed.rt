@@ -2,13 +2,13 @@
 ghost use Rattle.mt_trace.specs.Failures.{IsStill};
 
 use crate::mount_flags::MountOperation;
-use crate::player::Player;
 use crate::process_calls::here;
 use crate::spots::{names_joined, path_to_stack, settled_standing};
 use crate::standing::Standing;
 use crate::string_argument::StringArgument;
 use crate::system_call::SystemCall;
 use crate::told::{Halt, Told};
+use crate::trace_state::TraceState;
 use mt_book::command::Command;
 use mt_mounts::mount::SpaceId;
 use mt_protocol::errno::Errno;
@@ -62,7 +62,7 @@ fn both(first: Vec<Command>, second: Vec<Command>) -> Result<Vec<Command>, Halt>
     Ok(all)
 }
 
-impl Player {
+impl TraceState {
     /// What a path of a call leads to that failed; its directories are there if the call shows it.
     fn path_asked(&self, standing: &Standing, are_there: bool) -> Result<PathAsked, Halt> {
         let standing = settled_standing(self.stage.world(), standing)?;

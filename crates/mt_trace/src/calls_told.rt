@@ -1,31 +1,37 @@
 //! What comes of calls, told and counted.
+ghost use Rattle.std.specs.Prelude.{◌≡◌, not, IfOk, OnOk};
+ghost use Rattle.mt_trace.specs.Counting.{tallied, outcome_of, KeepsCounts};
 ghost use Rattle.mt_trace.specs.Failures.{IsStill};
+ghost use Rattle.mt_trace.specs.Players.{player_view};
+ghost use Rattle.mt_trace.specs.Telling.{IsAppended, IsTextTold};
+ghost use Rattle.mt_trace.specs.Texts.{call_told};
 
-use crate::account::{Account, Caller};
+use crate::account::{Account, CallOrigin, Caller, TraceForm};
 use crate::player::Player;
 use crate::told::{Halt, Told};
+use crate::trace_state::TraceState;
 use crate::written::{CallOutcome, call_written, push_account};
 use mt_strace::call::TracedCall;
 use std::alloc::AllocError;
 
-impl Player {
+impl TraceState {
     /// Begins to tell a call.
-    pub(crate) fn begin_account(&mut self, line: u64, process: u64, marks: bool)
+    pub(crate) fn begin_account(&mut self, form: TraceForm, origin: CallOrigin, marks: bool)
         ensures still { IsStill self.old self.new }
     {
         let caller = Caller {
-            line,
-            process,
-            space: self.process_spaces(process).mount,
+            line: origin.line,
+            space: self.process_spaces(origin.process).mount,
             next_space: self.stage.world().next_space,
             marks,
         };
-        self.account = Account::new(self.alloc, self.form, caller);
+        self.account = Account::new(self.alloc, form, caller);
     }
 
     /// Notes why a call is not played to its end, and answers what came of it.
     pub(crate) fn outcome_of(&mut self, played: Result<(), Halt>) -> Result<CallOutcome, AllocError>
         ensures still { IsStill self.old self.new }
+        ensures outcome { IfOk result (λ outcome. outcome ≡ outcome_of played) }
     {
         match played {
             Ok(()) => Ok(CallOutcome::Played),
@@ -42,9 +48,18 @@ impl Player {
         }
     }
 
+    /// Whether nothing is to be told of a call.
+    fn tells_nothing(&self) -> bool {
+        self.account.changes().is_empty()
+            && self.account.commands().is_empty()
+            && self.account.notes().is_empty()
+    }
+}
+
+impl Player {
     /// Counts what came of a call.
     fn count(&mut self, outcome: CallOutcome)
-        ensures still { IsStill self.old self.new }
+        ensures { self.new ≡ record self.old { tally = tallied outcome self.old.tally } }
     {
         let tally = &mut self.tally;
         match outcome {
@@ -61,55 +76,62 @@ impl Player {
     /// Appends what is told of a call.
     fn tell(
         &mut self,
-        out: &mut Vec<u8>,
+        origin: CallOrigin,
         said: &[u8],
         outcome: CallOutcome,
+        out: &mut Vec<u8>,
     ) -> Result<(), AllocError>
-        ensures still { IsStill self.old self.new }
+        ensures told { KeepsCounts (player_view self.old) (player_view self.new) }
+        ensures text { OnOk result (IsTextTold (not self.old.only_leaks) self.old.form origin said.now outcome out.old.items out.new.items) }
     {
-        let elsewhere = self.account.elsewhere();
+        let elsewhere = self.state.account.elsewhere();
         self.tally.elsewhere = self.tally.elsewhere.saturating_add(elsewhere);
         if self.only_leaks && elsewhere == 0 && outcome != CallOutcome::Differing {
             return Ok(());
         }
-        push_account(out, self.form, &self.account, said, outcome)
+        push_account(out, self.form, origin, &self.state.account, said, outcome)
     }
 
     /// Tells and counts a call that is always told.
     pub(crate) fn tell_loud(
         &mut self,
-        out: &mut Vec<u8>,
+        origin: CallOrigin,
         call: &TracedCall<'_>,
         outcome: CallOutcome,
+        out: &mut Vec<u8>,
     ) -> Result<(), AllocError>
-        ensures still { IsStill self.old self.new }
+        ensures told { KeepsCounts (record (player_view self.old) { tally = tallied outcome self.old.tally }) (player_view self.new) }
+        ensures text { OnOk result (IsTextTold (not self.old.only_leaks) self.old.form origin (call_told call.now) outcome out.old.items out.new.items) }
     {
         self.count(outcome);
         let said = call_written(self.alloc, call)?;
-        self.tell(out, &said, outcome)
+        self.tell(origin, &said, outcome, out)
     }
 
     /// Tells a call that is told only where it changes something.
-    pub(crate) fn tell_quiet(&mut self, out: &mut Vec<u8>, said: &[u8]) -> Result<(), AllocError>
-        ensures still { IsStill self.old self.new }
+    pub(crate) fn tell_quiet(
+        &mut self,
+        origin: CallOrigin,
+        said: &[u8],
+        out: &mut Vec<u8>,
+    ) -> Result<(), AllocError>
+        ensures told { KeepsCounts (player_view self.old) (player_view self.new) }
+        ensures text { OnOk result (IsAppended out.old.items out.new.items) }
     {
-        if self.account.changes().is_empty()
-            && self.account.commands().is_empty()
-            && self.account.notes().is_empty()
-        {
+        if self.state.tells_nothing() {
             return Ok(());
         }
-        self.tell(out, said, CallOutcome::Played)
+        self.tell(origin, said, CallOutcome::Played, out)
     }
 }
 
 /// A call as it is told, where something is told of it.
 pub(crate) fn call_written_if(
-    player: &Player,
+    state: &TraceState,
     call: &TracedCall<'_>,
 ) -> Result<Vec<u8>, AllocError> {
-    if player.account.changes().is_empty() && player.account.commands().is_empty() {
-        return Ok(Vec::new(player.alloc));
+    if state.account.changes().is_empty() && state.account.commands().is_empty() {
+        return Ok(Vec::new(state.alloc));
     }
-    call_written(player.alloc, call)
+    call_written(state.alloc, call)
 }

@@ -1,5 +1,5 @@
 //! Calls of which beginning and end stand on two lines.
-ghost use Rattle.std.specs.Prelude.{◌≡◌, [], ◌++◌, length, IfOk, OnOk};
+ghost use Rattle.std.specs.Prelude.{◌≡◌, [], ◌∷◌, ◌++◌, length, IfOk, OnOk, IfSome, IfNone};
 ghost use Rattle.std.specs.BTreeMap.{insert_entry};
 ghost use Rattle.std.specs.Ordering.{nat_cmp};
 ghost use Rattle.mt_trace.specs.declared.joining.JoinedLine.{JoinedLine};
@@ -178,7 +178,10 @@ impl Beginnings {
     }
 
     /// Takes one of them out, with its process. `None` if there is none.
-    pub fn take_any(&mut self) -> Option<(u64, CallText)> {
+    pub fn take_any(&mut self) -> Option<(u64, CallText)>
+        ensures some { IfSome result (λ first. self.old ≡ first ∷ self.new) }
+        ensures none { IfNone result (self.old ≡ []) }
+    {
         self.waiting.pop_first()
     }
 

@@ -1,22 +1,18 @@
 //! The lines of a trace, played one after another.
-ghost use Rattle.std.specs.Prelude.{◌≡◌, true};
-ghost use Rattle.mt_trace.specs.Failures.{is_failed, IsStill};
+ghost use Rattle.std.specs.Prelude.{◌≡◌, [], ◌∷◌, IfOk, OnOk, IfSome, IfNone};
+ghost use Rattle.mt_strace.specs.Lines.{strace_line_of};
+ghost use Rattle.mt_trace.specs.Counting.{IsUncounted, IsTallied, line_counting, early_after_read, ender_of, beginner_of, line_ended, line_trouble, read_trouble, bad_if, bad_counted, IsBeginnerCounted};
+ghost use Rattle.mt_trace.specs.Joining.{joined_line};
+ghost use Rattle.mt_trace.specs.PlayedLines.{IsLinePlayed};
+ghost use Rattle.mt_trace.specs.Players.{player_view, IsSameSetting};
+ghost use Rattle.mt_trace.specs.Telling.{IsAppended, IsLineTold};
 
+use crate::account::CallOrigin;
 use crate::ahead::Ahead;
-use crate::asking::asked_by_call;
-use crate::call_name::{CallName, call_named};
-use crate::calls_told::call_written_if;
-use crate::foreseen::is_named_again;
+use crate::calls_played::but_memory;
 use crate::joining::{CallText, JoinedLine};
 use crate::player::Player;
-use crate::playing::is_loud;
-use crate::system_call::{AskedCall, SystemCall};
-use crate::told::{Halt, Told};
-use crate::unknown::Unknown;
-use crate::written::CallOutcome;
-use mt_strace::call::TracedCall;
 use mt_strace::line::{StraceLine, read_call, read_strace_line};
-use mt_strace::result::CallResult;
 use mt_strace::unread::Unread;
 use std::alloc::AllocError;
 
@@ -31,26 +27,10 @@ pub enum Trouble {
     Lost(CallText),
 }
 
-/// Whether the calls of a name are told, even where it is not known what they ask for.
-fn is_told(name: CallName) -> bool {
-    match name {
-        CallName::Mount
-        | CallName::Umount
-        | CallName::Umount2
-        | CallName::PivotRoot
-        | CallName::MountSetattr
-        | CallName::OpenTree
-        | CallName::MoveMount
-        | CallName::Fsmount
-        | CallName::Unshare
-        | CallName::Setns
-        | CallName::Chroot => true,
-        _ => false,
-    }
-}
-
 /// The process of a line, where it is one of a process that begins a call or ends.
-fn beginner_of(line: &StraceLine<'_>) -> Option<u64> {
+fn beginner_of(line: &StraceLine<'_>) -> Option<u64>
+    ensures { result ≡ beginner_of line.now }
+{
     match line {
         StraceLine::Call(call) => Some(call.process.unwrap_or(0)),
         StraceLine::Unfinished { process, .. } => Some(process.unwrap_or(0)),
@@ -60,163 +40,32 @@ fn beginner_of(line: &StraceLine<'_>) -> Option<u64> {
 }
 
 /// The process whose call a line ends, if strace tells it.
-fn ender_of(line: &StraceLine<'_>) -> Option<u64> {
+fn ender_of(line: &StraceLine<'_>) -> Option<u64>
+    ensures { result ≡ ender_of line.now }
+{
     match line {
         StraceLine::Resumed { process, .. } => *process,
         _ => None,
     }
 }
 
-/// Whether a call failed.
-fn is_failed(of: &CallResult<'_>) -> bool
-    ensures { result ≡ is_failed of.now }
-{
-    match of {
-        CallResult::Failed { .. } => true,
-        CallResult::Returned { .. } => false,
-        CallResult::Unknown => false,
-    }
-}
-
-/// The error of a call that failed; none of another one.
-fn error_of<'c>(of: &'c CallResult<'_>) -> &'c [u8] {
-    match of {
-        CallResult::Failed {
-            error,
-            notes: _notes,
-        } => error.bytes(),
-        CallResult::Returned { .. } => b"",
-        CallResult::Unknown => b"",
-    }
-}
-
-/// What is left of a halt: nothing but want of memory.
-pub(crate) fn but_memory(played: Result<(), Halt>) -> Result<(), AllocError> {
-    match played {
-        Err(Halt::NoMemory) => Err(AllocError),
-        Ok(()) | Err(Halt::Told(_)) => Ok(()),
-    }
-}
-
 impl Player {
-    /// Tells a call that failed: neither the world nor the processes change.
-    fn tell_failed(
-        &mut self,
-        process: u64,
-        call: &TracedCall<'_>,
-        asked: &SystemCall<'_>,
-        out: &mut Vec<u8>,
-    ) -> Result<(), AllocError>
-        ensures still { IsStill self.old self.new }
-    {
-        if !is_loud(asked) {
-            return Ok(());
-        }
-        let noted = self.ask_failed(process, asked, error_of(&call.result));
-        but_memory(noted)?;
-        self.tell_loud(out, call, CallOutcome::Failed)
-    }
-
-    /// Plays a call that did not fail.
-    fn play_done<A: Ahead>(
-        &mut self,
-        process: u64,
-        call: &TracedCall<'_>,
-        asked: &SystemCall<'_>,
-        ahead: &mut A,
-        out: &mut Vec<u8>,
-    ) -> Result<(), AllocError> {
-        match asked {
-            SystemCall::Clone(words) => self.play_clone(process, call, *words, out),
-            other if is_loud(other) => self.play_loud(process, call, other, ahead, out),
-            other => self.play_quiet(process, call, other, out),
-        }
-    }
-
-    /// Plays a call that is always told.
-    fn play_loud<A: Ahead>(
-        &mut self,
-        process: u64,
-        call: &TracedCall<'_>,
-        asked: &SystemCall<'_>,
-        ahead: &mut A,
-        out: &mut Vec<u8>,
-    ) -> Result<(), AllocError> {
-        let again = match asked {
-            SystemCall::PivotRoot { .. } => is_named_again(self.alloc, ahead, process)?,
-            _ => false,
-        };
-        let played = self.play_asked(process, asked, &call.result, again);
-        let outcome = self.outcome_of(played)?;
-        self.tell_loud(out, call, outcome)
-    }
-
-    /// Plays another call.
-    fn play_quiet(
-        &mut self,
-        process: u64,
-        call: &TracedCall<'_>,
-        asked: &SystemCall<'_>,
-        out: &mut Vec<u8>,
-    ) -> Result<(), AllocError> {
-        if let CallResult::Returned { .. } = &call.result {
-            let played = self.play_asked(process, asked, &call.result, false);
-            but_memory(played)?;
-            let said = call_written_if(self, call)?;
-            self.tell_quiet(out, &said)?;
-        }
-        Ok(())
-    }
-
-    /// Tells a call of which it is not known what it asks for, if its name is one that is told.
-    fn tell_unknown(
-        &mut self,
-        call: &TracedCall<'_>,
-        why: Unknown,
-        out: &mut Vec<u8>,
-    ) -> Result<(), AllocError>
-        ensures still { IsStill self.old self.new }
-    {
-        match call_named(call.name.bytes()) {
-            Some(name) if is_told(name) => {
-                let outcome = self.outcome_of(Err(Halt::Told(Told::Unknown(why))))?;
-                self.tell_loud(out, call, outcome)
-            }
-            _ => Ok(()),
-        }
-    }
-
-    /// Plays a call. One that failed changes neither the world nor the processes.
-    pub(crate) fn play_call<A: Ahead>(
-        &mut self,
-        number: u64,
-        call: &TracedCall<'_>,
-        ahead: &mut A,
-        out: &mut Vec<u8>,
-    ) -> Result<(), AllocError>
-        ensures failed { is_failed call.now.result ≡ true → IsStill self.old self.new }
-    {
-        let process = call.process.unwrap_or(0);
-        self.begin_account(number, process, true);
-        match asked_by_call(call) {
-            AskedCall::Silent => Ok(()),
-            AskedCall::Unknown(why) => self.tell_unknown(call, why, out),
-            AskedCall::Call(asked) => {
-                if is_failed(&call.result) {
-                    self.tell_failed(process, call, &asked, out)
-                } else {
-                    self.play_done(process, call, &asked, ahead, out)
-                }
-            }
-        }
-    }
-
     /// Plays the end of a process.
-    fn play_end(&mut self, number: u64, process: u64, out: &mut Vec<u8>) -> Result<(), AllocError> {
-        self.begin_account(number, process, false);
-        let ended = self.end_process(process);
+    fn play_end(&mut self, number: u64, process: u64, out: &mut Vec<u8>) -> Result<(), AllocError>
+        ensures counted { IsUncounted self.old.tally self.new.tally }
+        ensures text { OnOk result (IsAppended out.old.items out.new.items) }
+        ensures early { self.new.early.items ≡ self.old.early.items }
+        ensures waiting { self.new.beginnings ≡ self.old.beginnings }
+        ensures settings { IsSameSetting (player_view self.old) (player_view self.new) }
+    {
+        let origin = CallOrigin {
+            line: number,
+            process,
+        };
+        self.state.begin_account(self.form, origin, false);
+        let ended = self.state.end_process(process);
         but_memory(ended)?;
-        self.tell_quiet(out, b"exited")
+        self.tell_quiet(origin, b"exited", out)
     }
 
     /// Plays a line of which a beginning and an end were joined, if they were.
@@ -227,12 +76,19 @@ impl Player {
         joined: JoinedLine,
         ahead: &mut A,
         out: &mut Vec<u8>,
-    ) -> Result<Option<Trouble>, AllocError> {
+    ) -> Result<Option<Trouble>, AllocError>
+        ensures trouble { IfOk result (λ trouble. trouble ≡ line_trouble line.now joined) }
+        ensures counted { OnOk result (IsTallied (line_counting (line_ended line.now joined) self.old.early.items) self.old.tally self.new.tally) }
+        ensures text { OnOk result (IsLineTold (player_view self.old) number (line_ended line.now joined) out.old.items out.new.items) }
+        ensures early { OnOk result (self.new.early.items ≡ early_after_read (line_ended line.now joined) self.old.early.items) }
+        ensures waiting { self.new.beginnings ≡ self.old.beginnings }
+        ensures settings { IsSameSetting (player_view self.old) (player_view self.new) }
+    {
         match joined {
             JoinedLine::Whole => self.play_whole(number, line, ahead, out),
             JoinedLine::Ended(text) => {
-                let process = ender_of(line);
-                self.play_ended(number, process, &text, ahead, out)
+                let ended = read_call(ender_of(line), text.bytes());
+                self.play_whole(number, &ended, ahead, out)
             }
             JoinedLine::Begun(Some(lost)) => Ok(Some(Trouble::Lost(lost))),
             JoinedLine::Begun(None) => Ok(None),
@@ -244,14 +100,21 @@ impl Player {
         }
     }
 
-    /// Plays a line that says all itself.
+    /// Plays a line that says all itself, or that a beginning and an end make.
     fn play_whole<A: Ahead>(
         &mut self,
         number: u64,
         line: &StraceLine<'_>,
         ahead: &mut A,
         out: &mut Vec<u8>,
-    ) -> Result<Option<Trouble>, AllocError> {
+    ) -> Result<Option<Trouble>, AllocError>
+        ensures trouble { IfOk result (λ trouble. trouble ≡ read_trouble line.now) }
+        ensures counted { OnOk result (IsTallied (line_counting line.now self.old.early.items) self.old.tally self.new.tally) }
+        ensures text { OnOk result (IsLineTold (player_view self.old) number line.now out.old.items out.new.items) }
+        ensures early { OnOk result (self.new.early.items ≡ early_after_read line.now self.old.early.items) }
+        ensures waiting { self.new.beginnings ≡ self.old.beginnings }
+        ensures settings { IsSameSetting (player_view self.old) (player_view self.new) }
+    {
         match line {
             StraceLine::Call(call) => {
                 self.play_call(number, call, ahead, out)?;
@@ -268,32 +131,19 @@ impl Player {
         number: u64,
         line: &StraceLine<'_>,
         out: &mut Vec<u8>,
-    ) -> Result<(), AllocError> {
+    ) -> Result<(), AllocError>
+        ensures counted { IsUncounted self.old.tally self.new.tally }
+        ensures text { OnOk result (IsAppended out.old.items out.new.items) }
+        ensures early { self.new.early.items ≡ self.old.early.items }
+        ensures waiting { self.new.beginnings ≡ self.old.beginnings }
+        ensures settings { IsSameSetting (player_view self.old) (player_view self.new) }
+    {
         match line {
             StraceLine::Exited { process } => self.play_end(number, process.unwrap_or(0), out),
             StraceLine::Superseded { process, by } => {
-                self.processes.supersede(process.unwrap_or(0), *by)
+                self.state.processes.supersede(process.unwrap_or(0), *by)
             }
             _ => Ok(()),
-        }
-    }
-
-    /// Plays a call of which the end has come.
-    fn play_ended<A: Ahead>(
-        &mut self,
-        number: u64,
-        process: Option<u64>,
-        text: &CallText,
-        ahead: &mut A,
-        out: &mut Vec<u8>,
-    ) -> Result<Option<Trouble>, AllocError> {
-        match read_call(process, text.bytes()) {
-            StraceLine::Call(call) => {
-                self.play_call(number, &call, ahead, out)?;
-                Ok(None)
-            }
-            StraceLine::Bad(why) => Ok(Some(Trouble::Unread(why))),
-            _ => Ok(None),
         }
     }
 
@@ -305,26 +155,59 @@ impl Player {
         line: &[u8],
         ahead: &mut A,
         out: &mut Vec<u8>,
-    ) -> Result<Option<Trouble>, AllocError> {
+    ) -> Result<Option<Trouble>, AllocError>
+        ensures trouble { IfOk result (λ trouble. trouble ≡ line_trouble (strace_line_of line.now) (joined_line (strace_line_of line.now) (player_view self.old).waiting).0) }
+        ensures waiting { OnOk result ((player_view self.new).waiting ≡ (joined_line (strace_line_of line.now) (player_view self.old).waiting).1) }
+        ensures counted { OnOk result (IsLinePlayed number (strace_line_of line.now) (player_view self.old) (player_view self.new) out.old.items out.new.items) }
+    {
         let read = read_strace_line(line);
         let joined = self.beginnings.join(&read)?;
-        if let Some(process) = beginner_of(&read) {
-            self.adopt(number, process, ahead, out)?;
-        }
+        self.enter(number, &read, ahead, out)?;
         let trouble = self.play_joined(number, &read, joined, ahead, out)?;
-        if trouble.is_some() {
-            self.note_bad();
-        }
+        self.count_trouble(&trouble);
         Ok(trouble)
     }
 
+    /// Enters the process of a line that begins a call, or ends the process, if it was not met.
+    fn enter<A: Ahead>(
+        &mut self,
+        number: u64,
+        read: &StraceLine<'_>,
+        ahead: &mut A,
+        out: &mut Vec<u8>,
+    ) -> Result<(), AllocError>
+        ensures counted { OnOk result (IsBeginnerCounted (beginner_of read.now) self.old.early.items self.old.tally self.new.early.items self.new.tally) }
+        ensures text { OnOk result (IsAppended out.old.items out.new.items) }
+        ensures waiting { self.new.beginnings ≡ self.old.beginnings }
+        ensures settings { IsSameSetting (player_view self.old) (player_view self.new) }
+    {
+        match beginner_of(read) {
+            Some(process) => self.adopt(number, process, ahead, out),
+            None => Ok(()),
+        }
+    }
+
+    /// Counts a line with which something is wrong.
+    fn count_trouble(&mut self, trouble: &Option<Trouble>)
+        ensures { player_view self.new ≡ record (player_view self.old) { tally = bad_if trouble.now self.old.tally } }
+    {
+        if trouble.is_some() {
+            self.note_bad();
+        }
+    }
+
     /// Counts a line that is none.
-    pub fn note_bad(&mut self) {
+    pub fn note_bad(&mut self)
+        ensures { player_view self.new ≡ record (player_view self.old) { tally = bad_counted (player_view self.old).tally } }
+    {
         self.tally.bad = self.tally.bad.saturating_add(1);
     }
 
     /// Takes a call that has begun and has no end, with its process, once all lines were played.
-    pub fn take_unfinished(&mut self) -> Option<(u64, CallText)> {
+    pub fn take_unfinished(&mut self) -> Option<(u64, CallText)>
+        ensures some { IfSome result (λ first. ((player_view self.old).waiting ≡ first ∷ (player_view self.new).waiting) × ((player_view self.new).tally ≡ bad_counted (player_view self.old).tally)) }
+        ensures none { IfNone result (((player_view self.old).waiting ≡ []) × ((player_view self.new).tally ≡ (player_view self.old).tally)) }
+    {
         let found = self.beginnings.take_any();
         if found.is_some() {
             self.note_bad();

@@ -1,13 +1,15 @@
 //! The beginning of a trace: the tables, and what is known besides.
+ghost use Rattle.std.specs.Prelude.{IfOk};
 ghost use Rattle.mt_propagate.specs.World.{world_view};
 ghost use Rattle.mt_propagate.specs.WellFormed.{IsWellFormed};
+ghost use Rattle.mt_trace.specs.Players.{player_view, IsNewPlayer};
 
 use crate::account::{Account, TraceForm};
 use crate::covers::Covers;
 use crate::filesystems::Filesystems;
 use crate::joining::Beginnings;
 use crate::links::Links;
-use crate::player::{Player, nobody};
+use crate::player::Player;
 use crate::process_spaces::SpaceKind;
 use crate::processes::Processes;
 use crate::spaces::Spaces;
@@ -16,6 +18,7 @@ use crate::stage::Stage;
 use crate::standing::{Reached, Standing};
 use crate::tally::Tally;
 use crate::told::Halt;
+use crate::trace_state::{TraceState, nobody};
 use mt_info::table::table_of;
 use mt_mounts::mount::SpaceId;
 use mt_propagate::world::World;
@@ -76,6 +79,7 @@ impl Player {
         only_leaks: bool,
     ) -> Result<Player, Fault>
         requires { IsWellFormed (world_view opening.world.now) }
+        ensures { IfOk result (λ player. IsNewPlayer (world_view opening.entry.world.now) form only_leaks (player_view player)) }
     {
         let mut processes = Processes::new(alloc);
         let spaces = spaces_of(alloc, &mut processes, opening.spaces)?;
@@ -91,35 +95,40 @@ impl Player {
             alloc,
             form,
             only_leaks,
-            stage: Stage::new(alloc, opening.world)?,
-            processes,
-            spaces,
-            filesystems,
-            links: Links::new(alloc),
-            covers: Covers::new(alloc),
+            state: TraceState {
+                alloc,
+                stage: Stage::new(alloc, opening.world)?,
+                processes,
+                spaces,
+                filesystems,
+                links: Links::new(alloc),
+                covers: Covers::new(alloc),
+                account: Account::new(alloc, form, nobody()),
+                ended: 0,
+            },
             beginnings: Beginnings::new(alloc),
             early: Vec::new(alloc),
-            account: Account::new(alloc, form, nobody()),
             tally: Tally::new(),
-            ended: 0,
         })
     }
 
     /// Says what the system calls the namespace of a table.
     pub fn know_space(&mut self, told: u64, space: SpaceId) -> Result<(), Fault> {
-        self.spaces.tag(SpaceKind::Mount, told, space)?;
+        self.state.spaces.tag(SpaceKind::Mount, told, space)?;
         Ok(())
     }
 
     /// Says what a symbolic link of the first namespace leads to, by its path there. A path that leads nowhere is passed over. Refused as
     /// `NoMemory` alone.
     pub fn give_link(&mut self, path: &[u8], target: &[u8]) -> Result<(), Fault> {
-        match self.try_link(path, target) {
+        match self.state.try_link(path, target) {
             Ok(()) | Err(Halt::Told(_)) => Ok(()),
             Err(Halt::NoMemory) => Err(Fault::NoMemory),
         }
     }
+}
 
+impl TraceState {
     /// The same, or why the path is not known.
     fn try_link(&mut self, path: &[u8], target: &[u8]) -> Result<(), Halt> {
         self.meet(NO_PROCESS)?;

@@ -1,31 +1,17 @@
-//! The state of a trace that is played: the world, the processes, and what is known besides.
+//! A trace that is played on a world.
+ghost use Rattle.std.specs.Prelude.{◌≡◌};
 ghost use Rattle.mt_propagate.specs.World.{world_view};
 ghost use Rattle.mt_propagate.specs.WellFormed.{IsWellFormed};
+ghost use Rattle.mt_trace.specs.Players.{player_view};
 
-use crate::account::{Account, Caller, TraceForm};
-use crate::covers::Covers;
-use crate::filesystems::Filesystems;
+use crate::account::TraceForm;
 use crate::joining::Beginnings;
-use crate::links::Links;
-use crate::process_spaces::{ProcessSpaces, SpaceKind};
-use crate::processes::Processes;
 use crate::spaces::Spaces;
-use crate::spots::{names_inside, path_of_place, settled_standing, shown_filesystem, space_root};
-use crate::stage::Stage;
-use crate::standing::{Reached, Standing};
-use crate::string_argument::StringArgument;
+use crate::standing::Standing;
 use crate::tally::Tally;
-use crate::told::{Halt, Told};
-use crate::told_path::{ToldPath, told_path};
-use crate::walking::Lookup;
-use mt_book::command::{Command, Reply};
-use mt_mounts::mount::{Place, SpaceId};
+use crate::trace_state::TraceState;
+use mt_mounts::mount::SpaceId;
 use mt_propagate::world::World;
-use mt_skel::fault::Fault;
-use mt_skel::names::Names;
-use mt_strace::descriptor::{Descriptor, DescriptorNumber};
-use mt_strace::excerpt::Excerpt;
-use mt_strace::string::unescaped_bytes;
 use std::alloc::{AllocError, Global};
 
 /// A trace that is played on a world.
@@ -33,17 +19,10 @@ pub struct Player {
     pub(crate) alloc: Global,
     pub(crate) form: TraceForm,
     pub(crate) only_leaks: bool,
-    pub(crate) stage: Stage,
-    pub(crate) processes: Processes,
-    pub(crate) spaces: Spaces,
-    pub(crate) filesystems: Filesystems,
-    pub(crate) links: Links,
-    pub(crate) covers: Covers,
+    pub(crate) state: TraceState,
     pub(crate) beginnings: Beginnings,
     pub(crate) early: Vec<u64>,
-    pub(crate) account: Account,
     pub(crate) tally: Tally,
-    pub(crate) ended: u64,
 }
 
 impl Drop for Player {
@@ -52,305 +31,49 @@ impl Drop for Player {
             alloc: _alloc,
             form: _form,
             only_leaks: _only_leaks,
-            stage: _stage,
-            processes: _processes,
-            spaces: _spaces,
-            filesystems: _filesystems,
-            links: _links,
-            covers: _covers,
+            state: _state,
             beginnings: _beginnings,
             early: _early,
-            account: _account,
             tally: _tally,
-            ended: _ended,
         } = self;
-    }
-}
-
-/// Nobody: who is told of what no call does.
-pub(crate) fn nobody() -> Caller {
-    Caller {
-        line: 0,
-        process: 0,
-        space: 0,
-        next_space: 0,
-        marks: false,
     }
 }
 
 impl Player {
     /// The world after what was played.
     pub fn world(&self) -> &World
+        ensures world { world_view result.now ≡ (player_view self.now).state.stage }
         ensures well_formed { IsWellFormed (world_view result.now) }
     {
-        self.stage.world()
+        self.state.stage.world()
     }
 
     /// The number of the namespace of mounts of a process that was met.
     pub fn space_of(&self, process: u64) -> Option<SpaceId> {
-        let process = self.processes.process(process)?;
+        let process = self.state.processes.process(process)?;
         Some(process.spaces.mount)
     }
 
     /// Where a process that was met has its root, and the names below that directory which are not made.
     pub fn process_root(&self, process: u64) -> Option<&Standing> {
-        let directories = self.processes.directories(process)?;
+        let directories = self.state.processes.directories(process)?;
         Some(&directories.root)
     }
 
     /// The numbers of the processes that were met and have not ended, rising.
     pub fn processes_met(&self) -> Result<Vec<u64>, AllocError> {
-        self.processes.numbers()
+        self.state.processes.numbers()
     }
 
     /// What was counted.
-    pub fn tally(&self) -> Tally {
+    pub fn tally(&self) -> Tally
+        ensures { result ≡ (player_view self.now).tally }
+    {
         self.tally
     }
 
     /// What the namespaces of mounts are called.
     pub fn spaces(&self) -> &Spaces {
-        &self.spaces
-    }
-
-    /// Enters a process, unless it was met: it stands at the root of the first namespace.
-    pub(crate) fn meet(&mut self, process: u64) -> Result<(), Halt> {
-        if self.processes.has(process) {
-            return Ok(());
-        }
-        let Some(place) = space_root(self.stage.world(), 1) else {
-            return Err(Halt::Told(Told::SpaceUnknown));
-        };
-        self.processes
-            .meet(process, Standing::at(self.alloc, place))
-    }
-
-    /// What the paths of a process are looked up in.
-    pub(crate) fn lookup(&self, process: u64) -> Lookup<'_> {
-        Lookup {
-            alloc: self.alloc,
-            world: self.stage.world(),
-            processes: &self.processes,
-            links: &self.links,
-            covers: &self.covers,
-            number: process,
-        }
-    }
-
-    /// The namespaces of a process.
-    pub(crate) fn process_spaces(&self, process: u64) -> ProcessSpaces {
-        self.processes.spaces(process)
-    }
-
-    /// Does a command, and notes what it changes.
-    pub(crate) fn play(&mut self, command: &Command) -> Result<Reply, Halt> {
-        let reply = self.stage.run(command)?;
-        self.account.enter(command)?;
-        for change in &self.stage.changes()? {
-            self.account.enter_change(change, &self.spaces)?;
-        }
-        Ok(reply)
-    }
-
-    /// Does a command that answers a number.
-    pub(crate) fn play_numbered(&mut self, command: &Command) -> Result<u64, Halt> {
-        match self.play(command)? {
-            Reply::Number(number) => Ok(number),
-            Reply::Done => Ok(0),
-        }
-    }
-
-    /// Does a command that makes a filesystem or a directory.
-    pub(crate) fn grow(&mut self, command: &Command) -> Result<Reply, Halt> {
-        match self.stage.run(command) {
-            Ok(reply) => {
-                self.account.enter(command)?;
-                Ok(reply)
-            }
-            Err(Fault::NoMemory) => Err(Halt::NoMemory),
-            Err(_) => Err(Halt::Told(Told::NoRoom)),
-        }
-    }
-
-    /// The bytes of a string, or why they are not known.
-    pub(crate) fn text(&self, string: &StringArgument<'_>) -> Result<Vec<u8>, Halt> {
-        match string.read(self.alloc)? {
-            Ok(bytes) => Ok(bytes),
-            Err(why) => Err(Halt::Told(Told::PathUnknown(why))),
-        }
-    }
-
-    /// The bytes of a string; none where there is none.
-    pub(crate) fn text_or_none(&self, string: &StringArgument<'_>) -> Result<Vec<u8>, Halt> {
-        match string.read(self.alloc)? {
-            Ok(bytes) => Ok(bytes),
-            Err(_why) => Ok(Vec::new(self.alloc)),
-        }
-    }
-
-    /// The path that strace tells of a descriptor, if it is one.
-    pub(crate) fn path_of(&self, told: &Option<Excerpt<'_>>) -> Result<Option<Vec<u8>>, Halt> {
-        let Some(excerpt) = told else {
-            return Ok(None);
-        };
-        match told_path(excerpt.bytes()) {
-            ToldPath::Path(path) => Ok(unescaped_bytes(self.alloc, path.bytes())?),
-            ToldPath::Space(_, _) | ToldPath::Other => Ok(None),
-        }
-    }
-
-    /// Notes the current directory of a process, if it was not known and strace tells it. Fails for want of memory alone.
-    pub(crate) fn learn(&mut self, process: u64, at: &Descriptor<'_>) -> Result<(), Halt> {
-        match self.current_told(process, at) {
-            Ok(Some(current)) => {
-                self.processes.set_current(process, current);
-                Ok(())
-            }
-            Ok(None) | Err(Halt::Told(_)) => Ok(()),
-            Err(Halt::NoMemory) => Err(Halt::NoMemory),
-        }
-    }
-
-    /// Where strace tells the current directory of a process to be, if it is not known.
-    fn current_told(&self, process: u64, at: &Descriptor<'_>) -> Result<Option<Standing>, Halt> {
-        if at.number != DescriptorNumber::CurrentDirectory || self.knows_current(process) {
-            return Ok(None);
-        }
-        match self.path_of(&at.path)? {
-            Some(path) => Ok(Some(self.lookup(process).told(&path)?)),
-            None => Ok(None),
-        }
-    }
-
-    /// Whether the current directory of a process is known, or there is no such process.
-    fn knows_current(&self, process: u64) -> bool {
-        match self.processes.directories(process) {
-            Some(directories) => directories.is_known,
-            None => true,
-        }
-    }
-
-    /// The current directory of a process.
-    fn current(&self, process: u64, at: &Descriptor<'_>) -> Result<Reached, Halt> {
-        if let Some(current) = self.current_told(process, at)? {
-            return Ok(Reached::Standing(current));
-        }
-        match self.processes.directories(process) {
-            Some(directories) => Ok(Reached::Standing(directories.current.copy()?)),
-            None => Err(Halt::Told(Told::DescriptorUnknown)),
-        }
-    }
-
-    /// What a descriptor leads to.
-    pub(crate) fn descriptor(&self, process: u64, at: &Descriptor<'_>) -> Result<Reached, Halt> {
-        match at.number {
-            DescriptorNumber::CurrentDirectory => self.current(process, at),
-            DescriptorNumber::Open(n) => self.opened(process, n, at),
-            DescriptorNumber::Negative => Err(Halt::Told(Told::DescriptorUnknown)),
-        }
-    }
-
-    /// What an open descriptor leads to: by the call that has opened it, or else by the path that strace tells.
-    fn opened(&self, process: u64, n: u64, at: &Descriptor<'_>) -> Result<Reached, Halt> {
-        if let Some(opened) = self.processes.opened(process, n) {
-            return Ok(opened.reached.copy()?);
-        }
-        match self.path_of(&at.path)? {
-            Some(path) => Ok(Reached::Standing(self.lookup(process).told(&path)?)),
-            None => Err(Halt::Told(Told::DescriptorUnknown)),
-        }
-    }
-
-    /// What a path of a process leads to that begins at a descriptor.
-    pub(crate) fn reach(
-        &self,
-        process: u64,
-        at: &Descriptor<'_>,
-        path: &StringArgument<'_>,
-        follows: bool,
-    ) -> Result<Reached, Halt> {
-        let path = self.text(path)?;
-        let start = if path.starts_with(b"/") {
-            Reached::Space(SpaceKind::Mount, 0)
-        } else {
-            self.descriptor(process, at)?
-        };
-        self.lookup(process).reached(start, &path, follows)
-    }
-
-    /// The directory or file that a path of a process leads to. Told as [`Told::NoPlace`] if it leads to something else.
-    pub(crate) fn stand(
-        &self,
-        process: u64,
-        at: &Descriptor<'_>,
-        path: &StringArgument<'_>,
-        follows: bool,
-    ) -> Result<Standing, Halt> {
-        match self.reach(process, at, path, follows)? {
-            Reached::Standing(standing) => Ok(standing),
-            Reached::Space(_, _) | Reached::Context(_) => Err(Halt::Told(Told::NoPlace)),
-        }
-    }
-
-    /// The commands that make the directories of a standing which are not there: none if it is there.
-    pub(crate) fn directories_missing(&self, standing: &Standing) -> Result<Vec<Command>, Halt> {
-        let mut commands = Vec::new(self.alloc);
-        if standing.is_made() {
-            return Ok(commands);
-        }
-        let world = self.stage.world();
-        let Some(fs) = shown_filesystem(world, standing.place.mount) else {
-            return Err(Halt::Told(Told::Gone));
-        };
-        let Some(label) = self.filesystems.name(fs)? else {
-            return Err(Halt::Told(Told::NoRoom));
-        };
-        let start = Standing::at(self.alloc, standing.place);
-        let Some(mut path) = names_inside(world, &start)? else {
-            return Err(Halt::Told(Told::Gone));
-        };
-        for name in &standing.below.to_vec()? {
-            path = path.with(name)?;
-            commands.push(Command::MakeDir {
-                fs: label.copy()?,
-                path: path.copy()?,
-            })?;
-        }
-        Ok(commands)
-    }
-
-    /// The directory of a standing, which is made with those above it where it is not there.
-    pub(crate) fn made(&mut self, standing: &Standing) -> Result<Place, Halt> {
-        let settled = settled_standing(self.stage.world(), standing)?;
-        for command in &self.directories_missing(&settled)? {
-            let _reply = self.grow(command)?;
-        }
-        self.directory_made(&settled)
-    }
-
-    /// The directory of a standing, which is there.
-    fn directory_made(&self, standing: &Standing) -> Result<Place, Halt> {
-        let made = settled_standing(self.stage.world(), standing)?;
-        if made.is_made() {
-            Ok(made.place)
-        } else {
-            Err(Halt::Told(Told::NoRoom))
-        }
-    }
-
-    /// The directory of a standing, made where it is not there, and the top of what is mounted on it.
-    pub(crate) fn topmost(&mut self, standing: &Standing) -> Result<Place, Halt> {
-        let place = self.made(standing)?;
-        Ok(self.covers.top(self.stage.world(), place))
-    }
-
-    /// The path that leads to a place, with its namespace.
-    pub(crate) fn path(&self, place: Place) -> Result<(SpaceId, Names), Halt> {
-        path_of_place(self.stage.world(), place)
-    }
-
-    /// Notes something of the call that is played.
-    pub(crate) fn note(&mut self, words: &[u8]) -> Result<(), AllocError> {
-        self.account.note(words)
+        &self.state.spaces
     }
 }

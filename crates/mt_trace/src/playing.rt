@@ -1,10 +1,12 @@
 //! What a call asks for, played.
+ghost use Rattle.std.specs.Prelude.{◌≡◌};
+ghost use Rattle.mt_trace.specs.Counting.{is_loud};
 
-use crate::player::Player;
 use crate::playing_files::Returned;
 use crate::playing_mounts::MountStrings;
 use crate::system_call::SystemCall;
 use crate::told::{Halt, Told};
+use crate::trace_state::TraceState;
 use mt_strace::excerpt::Excerpt;
 use mt_strace::result::CallResult;
 
@@ -16,7 +18,7 @@ struct ReturnedPath<'c, 'a> {
     is_deleted: bool,
 }
 
-impl Player {
+impl TraceState {
     /// Plays what a call asks for that has returned: `child` is the number that strace has for the child that it made.
     pub(crate) fn play_asked(
         &mut self,
@@ -197,7 +199,9 @@ impl Player {
 }
 
 /// Whether a call is told, whether it is played or not: it may change a table, or the place of all that comes later.
-pub(crate) fn is_loud(asked: &SystemCall<'_>) -> bool {
+pub(crate) fn is_loud(asked: &SystemCall<'_>) -> bool
+    ensures { result ≡ is_loud asked.now }
+{
     match asked {
         SystemCall::Mount { .. }
         | SystemCall::Umount { .. }

@@ -2,13 +2,13 @@
 
 use crate::call_flags::OpenWords;
 use crate::open_files::Opened;
-use crate::player::Player;
 use crate::process_spaces::SpaceKind;
 use crate::spots::{is_of_kind, names_inside, shown_filesystem};
 use crate::standing::{Reached, Standing};
 use crate::string_argument::StringArgument;
 use crate::told::Halt;
 use crate::told_path::{ToldPath, told_path};
+use crate::trace_state::TraceState;
 use mt_strace::descriptor::{Descriptor, DescriptorNumber};
 use mt_strace::excerpt::Excerpt;
 use mt_strace::string::unescaped_bytes;
@@ -38,7 +38,7 @@ pub(crate) fn if_known<T: Drop>(found: Result<T, Halt>) -> Result<Option<T>, Hal
     }
 }
 
-impl Player {
+impl TraceState {
     /// open(2) and its kin: what the path leads to, unless strace tells another one.
     pub(crate) fn open_file(
         &mut self,

@@ -1,13 +1,13 @@
 //! The filesystems that calls mount.
 
-use crate::player::Player;
 use crate::process_spaces::ProcessSpaces;
 use crate::told::{Halt, Told};
+use crate::trace_state::TraceState;
 use mt_book::command::{Command, Reply};
 use mt_skel::name::Label;
 use mt_skel::skel::FsId;
 
-impl Player {
+impl TraceState {
     /// A label of these bytes: `none` where there are none. Told as [`Told::NoName`] above 255 bytes.
     fn label(&self, bytes: &[u8]) -> Result<Label, Halt> {
         let bytes: &[u8] = if bytes.is_empty() { b"none" } else { bytes };

@@ -2,12 +2,12 @@
 
 use crate::call_flags::UnmountWords;
 use crate::mount_flags::MountOperation;
-use crate::player::Player;
 use crate::process_calls::here;
 use crate::spots::{path_to_stack, shown_filesystem, space_of_mount};
 use crate::standing::{Reached, Standing};
 use crate::string_argument::StringArgument;
 use crate::told::{Halt, Told};
+use crate::trace_state::TraceState;
 use mt_book::command::Command;
 use mt_mounts::mount::{MountId, Place, SpaceId};
 use mt_propagate::named::is_root_place;
@@ -50,7 +50,7 @@ fn change_of(at: (SpaceId, Names), change: Change) -> Command {
     }
 }
 
-impl Player {
+impl TraceState {
     /// mount(2).
     pub(crate) fn mount(
         &mut self,

@@ -2,7 +2,6 @@
 
 use crate::call_flags::CloneWords;
 use crate::covers::mount_copied;
-use crate::player::Player;
 use crate::playing_files::if_known;
 use crate::process::Directories;
 use crate::process_calls::here;
@@ -12,6 +11,7 @@ use crate::standing::{Reached, Standing};
 use crate::string_argument::StringArgument;
 use crate::told::{Halt, Told};
 use crate::told_path::{ToldPath, told_path};
+use crate::trace_state::TraceState;
 use mt_book::command::{Command, Privilege};
 use mt_info::print::push_number;
 use mt_mounts::mount::{Mount, MountId, SpaceId};
@@ -29,7 +29,7 @@ fn copied(standing: &Standing, originals: &[Mount], next: MountId) -> Result<Sta
     Ok(copy)
 }
 
-impl Player {
+impl TraceState {
     /// The child of a process begins: clone(2), fork(2).
     pub(crate) fn spawn(
         &mut self,

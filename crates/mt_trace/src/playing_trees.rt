@@ -2,12 +2,12 @@
 
 use crate::call_flags::{MoveWords, TreeWords};
 use crate::open_files::Opened;
-use crate::player::Player;
 use crate::spots::{space_of_mount, space_root};
 use crate::standing::{Context, Reached, Standing};
 use crate::string_argument::StringArgument;
 use crate::system_call::ContextSetting;
 use crate::told::{Halt, Told};
+use crate::trace_state::TraceState;
 use mt_book::command::Command;
 use mt_info::print::push_number;
 use mt_mounts::mount::{Place, SpaceId};
@@ -33,7 +33,7 @@ fn change_to(set: SetWords) -> Change {
     }
 }
 
-impl Player {
+impl TraceState {
     /// Opens the descriptor that a call has returned, if it has.
     fn open_returned(
         &mut self,

@@ -1,5 +1,6 @@
 //! How many calls were played, told and refused.
 ghost use Rattle.std.specs.Prelude.{◌≡◌, ◌++◌, OnOk};
+ghost use Rattle.mt_trace.specs.Players.{no_counts};
 ghost use Rattle.mt_trace.specs.Texts.{with_count, differing_told, played_words, trouble_words, tally_words};
 
 use mt_info::print::push_number;
@@ -42,7 +43,9 @@ fn push_differing(text: &mut Vec<u8>, count: u64) -> Result<(), AllocError>
 
 impl Tally {
     /// Nothing is counted yet.
-    pub fn new() -> Tally {
+    pub fn new() -> Tally
+        ensures { result ≡ no_counts }
+    {
         Tally {
             played: 0,
             told: 0,

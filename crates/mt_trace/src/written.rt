@@ -1,10 +1,12 @@
 //! A call as it is told.
-ghost use Rattle.std.specs.Prelude.{◌≡◌, ◌∷◌, ◌++◌, IfOk, OnOk};
+ghost use Rattle.std.specs.Prelude.{◌≡◌, ◌∷◌, ◌++◌, map, IfOk, OnOk};
 ghost use Rattle.std.specs.List.{flat_map};
 ghost use Rattle.mt_strace.specs.Printed.{arguments_text};
+ghost use Rattle.mt_render.specs.Wording.{shown_line};
+ghost use Rattle.mt_trace.specs.Telling.{IsAppended, IsAccountTold, notes_text, call_origin_text, account_line, differing_sign};
 ghost use Rattle.mt_trace.specs.Texts.{value_told, result_told, call_told};
 
-use crate::account::{Account, TraceForm};
+use crate::account::{Account, CallOrigin, TraceForm};
 use mt_info::print::push_number;
 use mt_render::wording::push_shown;
 use mt_strace::arguments::Arguments;
@@ -116,8 +118,10 @@ fn json_string(alloc: Global, bytes: &[u8]) -> Result<Vec<u8>, AllocError> {
 }
 
 /// Appends notes, each behind a sharp.
-fn push_notes(line: &mut Vec<u8>, notes: &[Vec<u8>]) -> Result<(), AllocError> {
-    for note in notes {
+fn push_notes(line: &mut Vec<u8>, notes: &[Vec<u8>]) -> Result<(), AllocError>
+    ensures { OnOk result (line.new.items ≡ line.old.items ++ notes_text (map (λ note. note.items) notes.now)) }
+{
+    'notes: for note in notes {
         line.extend_from_slice(b"  # ")?;
         line.extend_from_slice(note)?;
     }
@@ -138,38 +142,73 @@ fn push_note_strings(line: &mut Vec<u8>, notes: &[Vec<u8>]) -> Result<(), AllocE
     Ok(())
 }
 
-/// The line of a call in words: its number, the process, the call, and what is noted of it.
-fn line_in_words(
-    alloc: Global,
-    account: &Account,
-    said: &[u8],
-    outcome: CallOutcome,
-) -> Result<Vec<u8>, AllocError> {
-    let mut line = Vec::new(alloc);
-    if outcome == CallOutcome::Differing {
-        line.extend_from_slice(b"? ")?;
+/// What stands in front of a call in words: a sign where the model alone refuses it.
+fn differing_sign(outcome: CallOutcome) -> &'static [u8]
+    ensures { result.now ≡ differing_sign outcome }
+{
+    match outcome {
+        CallOutcome::Differing => b"? ",
+        CallOutcome::Played | CallOutcome::Told | CallOutcome::Failed => b"",
     }
-    push_number(&mut line, account.caller().line)?;
+}
+
+/// Appends which line is played, and its process.
+fn push_origin(line: &mut Vec<u8>, origin: CallOrigin) -> Result<(), AllocError>
+    ensures { OnOk result (line.new.items ≡ line.old.items ++ call_origin_text origin) }
+{
+    push_number(line, origin.line)?;
     line.push(b' ')?;
-    push_number(&mut line, account.caller().process)?;
+    push_number(line, origin.process)?;
     line.push(b' ')?;
+    Ok(())
+}
+
+/// The line of a call, behind what stands in front of it: its number, the process, the call, and what is noted of it.
+fn account_line(
+    alloc: Global,
+    front: &[u8],
+    origin: CallOrigin,
+    said: &[u8],
+    notes: &[Vec<u8>],
+) -> Result<Vec<u8>, AllocError>
+    ensures { IfOk result (λ line. line.items ≡ account_line front.now origin said.now (map (λ note. note.items) notes.now)) }
+{
+    let mut line = Vec::from_slice(alloc, front)?;
+    push_origin(&mut line, origin)?;
     line.extend_from_slice(said)?;
-    push_notes(&mut line, account.notes())?;
+    push_notes(&mut line, notes)?;
     Ok(line)
+}
+
+/// Appends the line of a call, and what stands behind it.
+fn push_account_line(
+    text: &mut Vec<u8>,
+    front: &[u8],
+    origin: CallOrigin,
+    said: &[u8],
+    notes: &[Vec<u8>],
+    behind: &[u8],
+) -> Result<(), AllocError>
+    ensures { OnOk result (text.new.items ≡ text.old.items ++ (shown_line (account_line front.now origin said.now (map (λ note. note.items) notes.now)) ++ behind.now)) }
+{
+    let line = account_line(*text.allocator(), front, origin, said, notes)?;
+    push_shown(text, &line)?;
+    text.extend_from_slice(behind)
 }
 
 /// The object of a call.
 fn object_of(
     alloc: Global,
+    origin: CallOrigin,
     account: &Account,
     said: &[u8],
     outcome: CallOutcome,
 ) -> Result<Vec<u8>, AllocError> {
     let mut line = Vec::new(alloc);
     line.extend_from_slice(b"{\"line\":")?;
-    push_number(&mut line, account.caller().line)?;
+    push_number(&mut line, origin.line)?;
     line.extend_from_slice(b",\"process\":")?;
-    push_number(&mut line, account.caller().process)?;
+    push_number(&mut line, origin.process)?;
     line.extend_from_slice(b",\"call\":")?;
     line.extend_from_slice(&json_string(alloc, said)?)?;
     line.extend_from_slice(b",\"outcome\":\"")?;
@@ -180,40 +219,46 @@ fn object_of(
     Ok(line)
 }
 
-/// The comment of a call in a script.
-fn comment_of(alloc: Global, account: &Account, said: &[u8]) -> Result<Vec<u8>, AllocError> {
-    let mut line = Vec::new(alloc);
-    line.extend_from_slice(b"# ")?;
-    push_number(&mut line, account.caller().line)?;
-    line.push(b' ')?;
-    push_number(&mut line, account.caller().process)?;
-    line.push(b' ')?;
-    line.extend_from_slice(said)?;
-    push_notes(&mut line, account.notes())?;
-    Ok(line)
+/// Appends the object of a call, and those of what it changes.
+fn push_object(
+    text: &mut Vec<u8>,
+    origin: CallOrigin,
+    account: &Account,
+    said: &[u8],
+    outcome: CallOutcome,
+) -> Result<(), AllocError>
+    ensures { OnOk result (IsAppended text.old.items text.new.items) }
+{
+    let object = object_of(*text.allocator(), origin, account, said, outcome)?;
+    text.extend_from_slice(&object)?;
+    text.extend_from_slice(account.changes())
 }
 
 /// Appends what is told of a call: what it says, what came of it, what is noted, and what it changes or its commands.
 pub fn push_account(
     text: &mut Vec<u8>,
     form: TraceForm,
+    origin: CallOrigin,
     account: &Account,
     said: &[u8],
     outcome: CallOutcome,
-) -> Result<(), AllocError> {
-    let alloc = *text.allocator();
+) -> Result<(), AllocError>
+    ensures { OnOk result (IsAccountTold form origin said.now outcome text.old.items text.new.items) }
+{
+    let notes = account.notes();
     match form {
         TraceForm::Words => {
-            push_shown(text, &line_in_words(alloc, account, said, outcome)?)?;
-            text.extend_from_slice(account.changes())
+            let front = differing_sign(outcome);
+            push_account_line(text, front, origin, said, notes, account.changes())
         }
-        TraceForm::Json => {
-            text.extend_from_slice(&object_of(alloc, account, said, outcome)?)?;
-            text.extend_from_slice(account.changes())
-        }
-        TraceForm::Script => {
-            push_shown(text, &comment_of(alloc, account, said)?)?;
-            text.extend_from_slice(account.commands())
-        }
+        TraceForm::Json => push_object(text, origin, account, said, outcome),
+        TraceForm::Script => push_account_line(
+            text,
+            b"# ",
+            origin,
+            said,
+            notes,
+            account.commands(),
+        ),
     }
 }

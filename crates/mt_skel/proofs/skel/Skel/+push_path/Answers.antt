@@ -1,6 +1,6 @@
 use Rattle.std.proofs.Common.{ℕ, ◌++◌, ◌∷◌, [], ap, sym, ◌∙◌, arith, append-nil, append_assoc}
 use Rattle.mt_skel.specs.Escapes.{escaped}
-use Rattle.mt_skel.proofs.ListLaws.{last_none, written_more}
+use Rattle.mt_skel.proofs.ListLaws.{front_through, last_none, written_more}
 use Rattle.mt_skel.proofs.NodeLaws.{IsBelow, dir_within, root_read, below_read}
 use Rattle.mt_skel.proofs.skel.Skel.+push_path.Goals.{In-Some}
 use Rattle.mt_skel.proofs.skel.Skel.+push_path.Goals as goal
@@ -24,3 +24,19 @@ pub returns-clause-text : goal.returns-clause-text
 returns-clause-text t c =
     let written = c.in_ok-push_escaped.ensures.text ∙ ap (λ w. c.push.new.self.items ++ escaped w) c.bytes.ensures.bytes ∙ ap (λ w. w ++ escaped c.in-Some.link.name) c.in_ok-push.ensures.items ∙ append_assoc c.push_path.new.text.items (47 ∷ []) (escaped c.in-Some.link.name) in
     written_more (λ n. 47 ∷ escaped n) _ _ _ c.args.count _ _ _ (below t (goal.at.returns-clause-text t c).In-Some).path (omega (arith, c.if-count-eq0.false)) c.in_ok-push_path.ensures.text written
+
+pub returns-in_err-push_path-clause-kept : goal.returns-in_err-push_path-clause-kept
+returns-in_err-push_path-clause-kept t c = c.push_path.ensures.kept
+
+pub returns-in_err-push-clause-kept : goal.returns-in_err-push-clause-kept
+returns-in_err-push-clause-kept t c =
+    let kept = c.push_path.ensures.kept in
+    (kept.0, c.in_err-push.ensures.items ∙ kept.1)
+
+pub returns-in_err-push_escaped-clause-kept : goal.returns-in_err-push_escaped-clause-kept
+returns-in_err-push_escaped-clause-kept t c =
+    front_through _ _ _ (front_through _ _ _ c.push_path.ensures.kept (47 ∷ [], c.in_ok-push.ensures.items)) c.push_escaped.ensures.kept
+
+pub returns-clause-kept : goal.returns-clause-kept
+returns-clause-kept t c =
+    front_through _ _ _ (front_through _ _ _ c.push_path.ensures.kept (47 ∷ [], c.in_ok-push.ensures.items)) c.push_escaped.ensures.kept

@@ -7,7 +7,7 @@ use Rattle.mt_skel.specs.Nodes.{skeleton_with, IsKeptSkeleton}
 use Rattle.mt_skel.proofs.AddedLaws.{many_fs, fs_added}
 use Rattle.mt_skel.proofs.NodeLaws.{counted}
 use Rattle.mt_skel.proofs.IndexLaws.{fs_kept}
-use Rattle.mt_skel.proofs.skel.Skel.add_fs.Goals.{In_ok-push-2}
+use Rattle.mt_skel.proofs.skel.Skel.add_fs.Goals.{After-unwrap-2}
 use Rattle.mt_skel.proofs.skel.Skel.add_fs.Goals as goal
 use Rattle.mt_skel.proofs.skel.Skel.add_fs.Goals.{then-has_most_filesystems-via-then-has_most_filesystems, then-has_most_filesystems-via-else-has_most_filesystems+then-has_most_directories}
 
@@ -21,7 +21,7 @@ returns-then-has_most_filesystems-clause-refused c _ =
     ])
 
 -- one filesystem more
-grown : (c : In_ok-push-2) → IsKeptSkeleton c.push-2.new.self.items c.push.new.self.items c.push_root.new.self
+grown : (c : After-unwrap-2) → IsKeptSkeleton c.push-2.new.self.items c.push.new.self.items c.push_root.new.self
     × (skeleton_with c.push-2.new.self.items c.push.new.self.items c.self.inside.room ≡ with_fs c.args.self.now (record { name = c.args.name; kind = c.args.kind; source = c.args.source }))
 grown c =
     let free : fs_named c.args.self.now c.args.name ≡ None = grind (arith, c.is_some.ensures, c.if-is_some.false, c.fs.ensures.number) in
@@ -29,8 +29,10 @@ grown c =
     let node : Node = record { fs = c.len.result + 1; up = None } in
     let root : c.len-root.result ≡ length c.self.inside.nodes.items = omega (arith, c.len-root.ensures, c.in_ok-reserve.ensures.len, c.self.inside.nodes.ok) in
     let next : c.len.result + 1 ≡ length c.self.inside.filesystems.items + 1 = omega (arith, c.len.ensures, c.in_ok-reserve-2.ensures.len, c.self.inside.filesystems.ok) in
+    let with_node = rw c.unwrap.ensures at c.push.ensures.items in
+    let with_f = rw c.unwrap-2.ensures at c.push-2.ensures.items in
     fs_kept c.push_root.new.self c.args.self.now f (c.len.result + 1) c.self.invariant c.self.view_is free root next c.in_ok-push_root.ensures.length c.in_ok-push_root.ensures.child
-    (c.in_ok-push-2.ensures.items ∙ ap (λ l. l ++ f ∷ []) c.in_ok-reserve-2.ensures.items) (c.in_ok-push.ensures.items ∙ ap (λ l. l ++ node ∷ []) c.in_ok-reserve.ensures.items)
+    (with_f ∙ ap (λ l. l ++ f ∷ []) c.in_ok-reserve-2.ensures.items) (with_node ∙ ap (λ l. l ++ node ∷ []) c.in_ok-reserve.ensures.items)
 
 pub invariant_of-self-2 : goal.invariant_of-self-2
 invariant_of-self-2 c = (grown c).0
