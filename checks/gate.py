@@ -25,13 +25,10 @@ TOP = os.path.dirname(os.path.dirname(os.path.abspath(__file__)))
 PROGRAM = os.path.join(TOP, "crates", "mountd", "out", "mountd")
 CLIENT = os.path.join(TOP, "crates", "mountctl", "out", "mountctl")
 
-# How many checks rt ci runs at once, each with one job. Where it is not told, it gives a check the processors that are
-# idle, and each further job of a check reads the libraries again: a third more of processor time (docs/GATE.md). Four at
-# once take half as much again each, where two processors share a core. One was seen with 8 GB, others with 2 to 4; where
-# rt ci is told how many, it does not look at memory.
-PROCESSORS = len(os.sched_getaffinity(0))
-MEMORY = os.sysconf("SC_PAGE_SIZE") * os.sysconf("SC_PHYS_PAGES")
-LANES = 3 if PROCESSORS >= 4 and MEMORY >= 20_000_000_000 else min(2, PROCESSORS)
+# How many crates wrong.py tries at once. `rt ci` is told no number: then it proves as many crates as there are processors
+# and memory for, and a crate that no other can be proved beside gets those that are idle. Told a number, it gives each
+# crate one, and the last crates of the longest chain took so long on a slow machine that CI's 180 minutes were over.
+LANES = min(3, len(os.sched_getaffinity(0)))
 
 # What is run before anything is proved, and on the libraries and programs that are built then: what it is called, and
 # its words.
@@ -48,7 +45,7 @@ TEXT_CHECKS = (
     ("wrong bodies can be applied", "checks/wrong.py", "--look"),
 )
 PROGRAM_CHECKS = (
-    ("wrong bodies", "checks/wrong.py", "--built"),
+    ("wrong bodies", "checks/wrong.py", "--built", "--jobs", str(LANES)),
     ("README's commands", "checks/readme.py", "--built"),
     ("pages", "checks/pages.py", PROGRAM, CLIENT),
     ("checks of the program", "checks/program.py", PROGRAM),
@@ -69,8 +66,7 @@ def run(name, *words):
     """Runs a command at the top, and answers whether it passed, its last line and how long it took."""
     start, before, last = time.monotonic(), spent(), ""
     print(f"== {name}", flush=True)
-    told = dict(os.environ, RT_JOBS=str(LANES))
-    with subprocess.Popen(words, cwd=TOP, env=told, stdout=subprocess.PIPE, text=True, errors="replace") as command:
+    with subprocess.Popen(words, cwd=TOP, stdout=subprocess.PIPE, text=True, errors="replace") as command:
         for line in command.stdout:
             print(line, end="", flush=True)
             last = line.strip() or last

@@ -1,7 +1,7 @@
 #!/usr/bin/env -S python3 -B
 """Tries wrong bodies: those of checks/wrong/, of which the gate tries some.
 
-Usage: checks/wrong.py [--look | --built] [CRATE..]
+Usage: checks/wrong.py [--look | --built] [--jobs N] [CRATE..]
 
 They are written as the edits of crates/*/must-fail/, which `rt ci` tries. Here a line `only: FUNCTION` may stand in one
 too, with the path below the crate of the function whose contract refuses it.
@@ -9,7 +9,7 @@ too, with the path below the crate of the function whose contract refuses it.
 --built is a program of the gate: it tries the bodies with such a line, over the libraries that `rt ci` has just built, of
 the crates that are named, or else of GATED. The prover is asked for that function and what it calls alone, and not for the
 rest of the crate, which `rt ci` proved. The bodies of a crate are tried at once, where each is in a function of its own that
-calls none of the others.
+calls none of the others. N crates are tried at once, one if not said.
 
 --look is a program of the gate as well, and proves nothing: it asks whether each body can still be applied, so that each
 text that it replaces stands once in its file, as the code is now.
@@ -38,7 +38,7 @@ CRATES = os.path.join(TOP, "crates")
 # decisions and of imports. Another one costs the gate 15 to 60 seconds, most of them for reading its libraries.
 GATED = (
     "mt_lines", "mt_protocol", "mt_peers", "mt_propagate", "mt_bind", "mt_unmount", "mt_setattr", "mt_locks", "mt_guard",
-    "mt_events", "mt_queue", "mt_book", "mt_floor", "mt_desk", "mt_session", "mt_client", "mt_server", "mt_import",
+    "mt_events", "mt_queue", "mt_book", "mt_floor", "mt_desk", "mt_session", "mt_client", "mt_import",
 )
 
 # The folders of a crate that a check reads.
@@ -181,17 +181,17 @@ def try_crate(bodies):
         left_of([body])
 
 
-def try_built(crates):
+def try_built(crates, jobs):
     """Tries the wrong bodies that say which function refuses them."""
     asked = [[body for body in bodies_of([crate]) if body.only] for crate in crates]
-    with concurrent.futures.ThreadPoolExecutor(int(os.environ.get("RT_JOBS", "1"))) as pool:
+    with concurrent.futures.ThreadPoolExecutor(jobs) as pool:
         list(pool.map(try_crate, filter(None, asked)))
     if failures:
         raise SystemExit(f"wrong bodies that are not refused: {len(failures)}")
     print(f"{sum(map(len, asked))} wrong bodies are refused")
 
 
-def look_at(crates):
+def look_at(crates, _jobs):
     """Looks whether each wrong body of these crates can be applied, and changes something."""
     bodies = bodies_of(crates)
     for body in bodies:
@@ -231,7 +231,7 @@ def is_refused(crate):
         return subprocess.run(["rt", "must-fail", crate], cwd=TOP, check=False).returncode == 0
 
 
-def try_all(crates):
+def try_all(crates, _jobs):
     """Tries all wrong bodies of these crates by hand."""
     failed = [crate for crate in crates if not is_refused(crate)]
     if failed:
@@ -245,12 +245,13 @@ def main():
     how = parser.add_mutually_exclusive_group()
     how.add_argument("--look", action="store_const", dest="do", const=look_at, help="ask only whether each can be applied")
     how.add_argument("--built", action="store_const", dest="do", const=try_built, help="try those of the gate, over what rt ci built")
+    parser.add_argument("--jobs", metavar="N", type=int, default=1, help="how many crates are tried at once")
     parser.add_argument("crates", metavar="CRATE", nargs="*")
     words = parser.parse_args()
     asked = words.crates or (GATED if words.do is try_built else there)
     if not set(asked) <= set(there):
         parser.error(f"the crates with wrong bodies are {' '.join(there)}")
-    (words.do or try_all)(asked)
+    (words.do or try_all)(asked, words.jobs)
 
 
 if __name__ == "__main__":

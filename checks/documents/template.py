@@ -6,7 +6,7 @@ import re
 from harness.runs import check, read, shown, write
 
 TEMPLATE = "docs", "pages", "template.html"
-CONSTANT = "crates", "mt_page", "src", "template.rt"
+CONSTANT = "crates", "mt_render", "src", "page_template.rt"
 
 # Where the data of a session stand in it.
 PLACE = "@SESSION@"

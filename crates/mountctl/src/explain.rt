@@ -6,7 +6,7 @@ use crate::messages::NAME;
 use crate::task::WordFault;
 use mt_protocol::errno::Errno;
 use mt_protocol::refusal::{Case, InLinux, REFUSALS, refusal_named, refusal_row};
-use mt_reasons::nearest::nearest_explained;
+use mt_help::nearest::nearest_explained;
 use mt_skel::fault::Fault as Refusal;
 use mt_terminal::message::Shown;
 use std::io;

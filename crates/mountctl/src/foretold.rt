@@ -16,7 +16,7 @@ use mt_forms::split::{joined_words, split_line};
 use mt_lines::line::{Line, LineReader};
 use mt_lines::stream::{Reading, send};
 use mt_lines::words::Pieces;
-use mt_reasons::line::reason_of;
+use mt_help::finding::reason_of;
 use mt_skel::fault::Fault as Refusal;
 use mt_skel::skel::MOST_ROOM;
 use mt_terminal::message::Shown;

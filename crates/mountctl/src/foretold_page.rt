@@ -3,8 +3,8 @@
 use crate::fault::Fault;
 use crate::page::{PageData, step_with_reason};
 use crate::page_task::print_page;
-use mt_page::data::{Step, opening_data, steps_data};
-use mt_page::name::GivenName;
+use mt_render::page_data::{Step, opening_data, steps_data};
+use mt_render::page_name::GivenName;
 use mt_what_if::known_space::KnownSpace;
 use mt_what_if::steps::Paged;
 use std::alloc::Global;

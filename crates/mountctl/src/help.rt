@@ -10,7 +10,7 @@ use mt_help::lines::verb_page;
 use mt_help::page::{Usage, page_text};
 use mt_help::refusals::said_by;
 use mt_protocol::verb::{VERBS, Verb};
-use mt_reasons::nearest::nearest_word;
+use mt_help::nearest::nearest_word;
 use mt_skel::fault::Fault as Refusal;
 use mt_terminal::message::Shown;
 use std::alloc::{AllocError, Global};

@@ -8,7 +8,7 @@ use crate::refusals::{refusal_in, tell_reason_of};
 use mt_client::ask::ask_line;
 use mt_lines::line::LineReader;
 use mt_lines::stream::{Input, Output};
-use mt_reasons::line::reason_of;
+use mt_help::finding::reason_of;
 use mt_skel::fault::Fault as Refusal;
 use std::alloc::Global;
 use std::io::Eprint;

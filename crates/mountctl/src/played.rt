@@ -3,9 +3,9 @@
 use crate::fault::Fault;
 use mt_lines::line::{Line, LineReader};
 use mt_lines::stream::Input;
-use mt_page::data::Step;
-use mt_page::name::{GivenName, given_name};
-use mt_page::session::{Role, push_comment, role_of};
+use mt_render::page_data::Step;
+use mt_render::page_name::{GivenName, given_name};
+use mt_render::page_session::{Role, push_comment, role_of};
 use std::alloc::{AllocError, AllocFailed, Global};
 use std::mem;
 

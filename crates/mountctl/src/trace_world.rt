@@ -13,7 +13,7 @@ use crate::sources::TableFile;
 use crate::tables::{named_files, script_of_files};
 use crate::task::WordFault;
 use crate::what_if::numbers_in;
-use mt_attempt::attempt::try_step;
+use mt_book::attempt::try_step;
 use mt_book::command::Command;
 use mt_import::import::Import;
 use mt_lines::words::Pieces;

@@ -5,7 +5,7 @@ use crate::listening::{ListenFault, Listening, Paths};
 use crate::room::give_desk_room;
 use mt_desk::desk::Desk;
 use mt_desk::lines::{Host, Lines, Naming};
-use mt_server::server::{ServerFault, ServerSetup, run_server};
+use mt_session::server::{ServerFault, ServerSetup, run_server};
 use mt_session::bell::Bell;
 use mt_session::gate::OpenGate;
 use std::alloc::Global;

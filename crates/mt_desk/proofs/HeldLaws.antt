@@ -1,10 +1,10 @@
 -- A history, after one act more.
 use Rattle.std.proofs.Common.{◌≡◌, ℕ, true, List, [], ◌∷◌, ◌++◌, refl, sym, ap, ◌∙◌}
 use Rattle.mt_book.specs.declared.command.Command.{Command}
-use Rattle.mt_history.specs.declared.act.Act.{Act}
-use Rattle.mt_history.specs.declared.act.Act.TheVariants.{Apply, Stop}
-use Rattle.mt_history.specs.declared.act.LogEntry.{LogEntry}
-use Rattle.mt_history.specs.Entries.{entry, command_first, commands_of, is_stop, has_stop}
+use Rattle.mt_desk.specs.declared.act.Act.{Act}
+use Rattle.mt_desk.specs.declared.act.Act.TheVariants.{Apply, Stop}
+use Rattle.mt_desk.specs.declared.act.LogEntry.{LogEntry}
+use Rattle.mt_desk.specs.Entries.{entry, command_first, commands_of, is_stop, has_stop}
 use Rattle.mt_desk.specs.Desk.{DeskView}
 use Rattle.mt_desk.specs.Held.{IsLogged}
 

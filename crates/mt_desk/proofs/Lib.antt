@@ -7,3 +7,5 @@ pub mod SendingLaws
 pub mod SentLaws
 pub mod FollowLaws
 pub mod HeldLaws
+pub mod EntryLaws
+pub mod RuleLaws

@@ -2,8 +2,8 @@
 -- A word with no source is this project's rule.
 use Rattle.std.specs.Prelude.{◌≡◌, List}
 use Rattle.mt_queue.specs.Halves.{LineId}
-use Rattle.mt_history.specs.declared.act.LogEntry.{LogEntry}
-use Rattle.mt_history.specs.Entries.{HistoryView, commands_of, has_stop}
+use Rattle.mt_desk.specs.declared.act.LogEntry.{LogEntry}
+use Rattle.mt_desk.specs.Entries.{HistoryView, commands_of, has_stop}
 use Rattle.mt_desk.specs.Desk.{DeskView}
 
 -- a desk, and the acts of its sessions that led to it, each with the number of its session

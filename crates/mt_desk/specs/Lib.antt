@@ -7,3 +7,7 @@ pub mod Sending
 pub mod Sent
 pub mod Headline
 pub mod Held
+pub mod Entries
+pub mod HistoryViews
+pub mod HistoryRule
+pub mod KeptHistory

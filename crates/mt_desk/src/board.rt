@@ -9,6 +9,7 @@ ghost use Rattle.mt_desk.specs.Calls.{IsApplied, IsMet, IsClosed};
 ghost use Rattle.mt_desk.specs.Headline.{Meet, Close, IsScheduledBy};
 
 use crate::due::due_of;
+use crate::history::History;
 use crate::lines::{Lines, Naming};
 use crate::places::{Slot, close_at, end_all, is_heard, meet_at, open_at, parked_place, send_all};
 use crate::watcher::Watcher;
@@ -18,7 +19,6 @@ use mt_events::opening::Scope;
 use mt_events::shared::SharedPosts;
 use mt_floor::finding::{found, opening_refusal};
 use mt_floor::watch::{Meeting, WatchKey};
-use mt_history::history::History;
 use mt_skel::fault::Fault;
 use std::alloc::Global;
 use std::marker::{Model, PhantomData};

@@ -3,14 +3,15 @@ ghost use Rattle.std.specs.Prelude.{◌≡◌, ◌≢◌, ◌++◌, ◌∷◌, [
 ghost use Rattle.mt_floor.specs.Schedule.{empty_floor, floor_step};
 ghost use Rattle.mt_floor.specs.declared.event.Event.TheVariants.{Apply, Open, Stop};
 ghost use Rattle.mt_floor.specs.declared.event.Answer.TheVariants.{Opened, Halted};
-ghost use Rattle.mt_history.specs.declared.act.Act.TheVariants as act;
-ghost use Rattle.mt_history.specs.Entries.{entry, acts_by, IsSeen};
+ghost use Rattle.mt_desk.specs.declared.act.Act.TheVariants as act;
+ghost use Rattle.mt_desk.specs.Entries.{entry, acts_by, IsSeen};
 ghost use Rattle.mt_desk.specs.Desk.{IsDesk, floor_of_desk, with_watcher, halted_desk};
 ghost use Rattle.mt_desk.specs.Calls.{IsApplied, IsMet, IsClosed};
 ghost use Rattle.mt_desk.specs.Headline.{Meet, Close, IsScheduledBy};
 ghost use Rattle.mt_desk.specs.Held.{IsLogged};
 
 use crate::board::Board;
+use crate::history::History;
 use crate::lines::{Host, Lines, Naming};
 use crate::watcher::Watcher;
 use mt_book::book::Book;
@@ -18,7 +19,6 @@ use mt_book::command::{Command, Reply};
 use mt_events::opening::Scope;
 use mt_events::shared::SharedPosts;
 use mt_floor::watch::Meeting;
-use mt_history::history::History;
 use mt_skel::fault::Fault;
 use std::marker::{Model, PhantomData};
 use std::sync::Wait;
@@ -43,13 +43,13 @@ impl<J: Naming> Model for Desk<J> {
 /// What a session knows of the history of the desk of a name. It has no bytes, and it is the only one of its number.
 #[derive(Drop)]
 pub struct DeskWitness<J: Naming> {
-    own: mt_history::history::Witness,
+    own: crate::history::Witness,
     of: PhantomData<J>,
 }
 
 impl<J: Naming> Model for DeskWitness<J> {
     ghost use Rattle.std.specs.Prelude.{◌≡◌};
-    ghost use Rattle.mt_history.specs.Entries.{WitnessView};
+    ghost use Rattle.mt_desk.specs.Entries.{WitnessView};
 
     ghost Value = { WitnessView };
 

@@ -8,11 +8,16 @@
 //! the half that a session owns. Inside, [`board`] has a desk without the history of who did what, [`places`] what
 //! stands at each line, [`row`] what is kept of one watcher, and [`due`] which posts go to which rows. [`laws`] has what is
 //! true of every list of calls.
+//!
+//! The [`history`] is one log of each [`act`] of each session, under the rule of [`history_rule`]; it has no bytes.
 #![tactic(auto)]
 
+pub mod act;
 mod board;
 pub mod desk;
 mod due;
+pub mod history;
+mod history_rule;
 pub mod laws;
 pub mod lines;
 mod places;

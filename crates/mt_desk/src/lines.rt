@@ -1,9 +1,9 @@
 //! The lines of a desk, made before the name that tells them.
 ghost use Rattle.std.specs.Prelude.{◌≡◌, ◌<◌, ◌≤◌, IfOk, IsOkUnless};
 
+use crate::history::History;
 use crate::places::Slot;
 use mt_floor::finding::MOST_WATCHERS;
-use mt_history::history::History;
 use mt_queue::line::make_line;
 use mt_skel::fault::Fault;
 use std::alloc::Global;

@@ -1,8 +1,8 @@
 -- What two sessions leave in the one history of their desk.
 -- A word with no source is this project's rule.
 use Rattle.std.specs.Prelude.{◌≡◌, ◌≢◌, ℕ, List, [], Option, Some}
-use Rattle.mt_history.specs.declared.act.LogEntry.{LogEntry}
-use Rattle.mt_history.specs.Entries.{WitnessView, acts_by, IsSeen}
+use Rattle.mt_desk.specs.declared.act.LogEntry.{LogEntry}
+use Rattle.mt_desk.specs.Entries.{WitnessView, acts_by, IsSeen}
 use Rattle.mt_session.specs.declared.serving.End.{End}
 use Rattle.mt_session.specs.SharedSession.{ServedShared}
 

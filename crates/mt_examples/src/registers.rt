@@ -1,9 +1,9 @@
 //! Who has a session, and rounds at a door that lets nobody through.
 ghost use Rattle.std.specs.Prelude.{◌<◌};
-ghost use Rattle.mt_server.specs.Accepting.{most_failures};
+ghost use Rattle.mt_session.specs.Accepting.{most_failures};
 
-use mt_server::accepting::{Door, Lookout, Round, accept_one};
-use mt_server::register::Register;
+use mt_session::accepting::{Door, Lookout, Round, accept_one};
+use mt_session::register::Register;
 use mt_skel::fault::Fault;
 use std::io;
 use std::io::ErrorKind;

@@ -9,7 +9,7 @@ use mt_lines::line::LineReader;
 use mt_lines::memory::Sink;
 use mt_lines::stream::{Input, Reading, Writing};
 use mt_lines::words::{Pieces, words};
-use mt_server::server::{Door, ServerFault, ServerSetup, run_server};
+use mt_session::server::{Door, ServerFault, ServerSetup, run_server};
 use mt_session::bell::Bell;
 use mt_session::gate::Gate;
 use mt_skel::fault::Fault;

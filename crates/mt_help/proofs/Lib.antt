@@ -1,1 +1,3 @@
 pub mod ReadLaws
+pub mod OptionLaws
+pub mod ReasonLaws

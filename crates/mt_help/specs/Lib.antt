@@ -1,3 +1,4 @@
 pub mod Pages
 pub mod Lines
 pub mod Laws
+pub mod Reasons

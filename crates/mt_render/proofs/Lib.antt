@@ -14,3 +14,4 @@ mod GroupLaws
 mod LineLaws
 mod PaletteLaws
 mod PartLaws
+pub mod InertLaws

@@ -21,3 +21,5 @@ pub mod Laws
 pub mod Wording
 pub mod Events
 pub mod Stamps
+pub mod PageData
+pub mod PageSession

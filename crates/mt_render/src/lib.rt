@@ -12,6 +12,10 @@
 //! writes a refusal as JSON.
 //!
 //! [`propagation`] is the word of pictures and posts for how a mount propagates, and [`named`] has the names of namespaces.
+//!
+//! A page plays a session: it is a template ([`page_template`]) in which the data of the session stand ([`page_data`]), the
+//! tables that were there before, and what each line did. [`page_session`] reads what a session has beside the lines that
+//! are sent: comments, of which some tell names of namespaces ([`page_name`]), and lines that a page has no use for.
 #![tactic(auto)]
 
 mod children;
@@ -30,6 +34,11 @@ mod legend;
 mod members;
 pub mod named;
 pub mod objects;
+pub mod page_data;
+pub mod page_name;
+pub mod page_session;
+pub mod page_template;
+mod page_text;
 mod palette;
 pub mod part;
 mod propagation;

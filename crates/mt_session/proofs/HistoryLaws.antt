@@ -7,11 +7,11 @@ use Rattle.mt_skel.specs.declared.fault.Fault.{Fault}
 use Rattle.mt_skel.specs.declared.fault.Fault.TheVariants.{Stopped, NoMemory}
 use Rattle.mt_lines.specs.Lines.{Item}
 use Rattle.mt_book.specs.declared.command.Command.{Command}
-use Rattle.mt_history.specs.declared.act.Act.{Act}
-use Rattle.mt_history.specs.declared.act.Act.TheVariants as act
-use Rattle.mt_history.specs.declared.act.LogEntry.{LogEntry}
-use Rattle.mt_history.specs.Entries.{WitnessView, entry, entries, acts_by, is_stop, has_stop}
-use Rattle.mt_history.proofs.EntryLaws.{acts_by-append, prefix_self, prefix_more}
+use Rattle.mt_desk.specs.declared.act.Act.{Act}
+use Rattle.mt_desk.specs.declared.act.Act.TheVariants as act
+use Rattle.mt_desk.specs.declared.act.LogEntry.{LogEntry}
+use Rattle.mt_desk.specs.Entries.{WitnessView, entry, entries, acts_by, is_stop, has_stop}
+use Rattle.mt_desk.proofs.EntryLaws.{acts_by-append, prefix_self, prefix_more}
 use Rattle.mt_floor.specs.Schedule.{FloorView}
 use Rattle.mt_desk.specs.Desk.{DeskView, floor_of_desk}
 use Rattle.mt_desk.specs.Calls.{WatcherView}

@@ -2,7 +2,7 @@
 use Rattle.std.proofs.Common.{◌≡◌, List, ◌∷◌, [], ◌++◌, Option, Some, None, subst, ap, ◌∙◌, append_assoc}
 use mathlib.Core.List.{IsPrefix}
 use Rattle.mt_events.specs.Posts.{PostView}
-use Rattle.mt_history.specs.declared.act.LogEntry.{LogEntry}
+use Rattle.mt_desk.specs.declared.act.LogEntry.{LogEntry}
 use Rattle.mt_floor.specs.Headline.{posted_since}
 use Rattle.mt_floor.proofs.FollowLaws.{told_in_order, told_tables}
 use Rattle.mt_desk.specs.Desk.{DeskView}

@@ -13,3 +13,6 @@ pub mod SharedLineLaws
 pub mod GivingLaws
 pub mod FollowLaws
 pub mod AnswerLaws
+pub mod AcceptLaws
+pub mod PatienceLaws
+pub mod RegisterLaws

@@ -22,7 +22,7 @@ use Rattle.mt_floor.specs.declared.watch.Phase.TheVariants.{Open as IsOpen, Lagg
 use Rattle.mt_session.specs.Requests.{by_phase}
 use Rattle.mt_events.specs.declared.texts.PrintedPosts.{PrintedPosts}
 use Rattle.mt_session.specs.declared.shared_answer.Portion.TheVariants.{Posts, Empty}
-use Rattle.mt_history.specs.Entries.{WitnessView}
+use Rattle.mt_desk.specs.Entries.{WitnessView}
 use Rattle.mt_session.specs.SharedTurns.{SharedView, SeesOn, HasTaken}
 use Rattle.mt_session.proofs.SightLaws.{sees_same, sees_then}
 use Rattle.mt_session.proofs.WatcherLaws.{HasMoved, moved_none, moved_by, takes_more}

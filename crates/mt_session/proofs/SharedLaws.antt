@@ -28,10 +28,10 @@ use Rattle.mt_session.specs.Requests.{replied_text, opened_text, closed_text, an
 use Rattle.mt_session.specs.declared.serving.End.{End}
 use Rattle.mt_session.specs.declared.serving.End.TheVariants.{Memory}
 use Rattle.mt_session.specs.declared.shared_answer.Then.{Then}
-use Rattle.mt_history.specs.declared.act.Act.{Act}
-use Rattle.mt_history.specs.declared.act.Act.TheVariants as act
-use Rattle.mt_history.specs.declared.act.LogEntry.{LogEntry}
-use Rattle.mt_history.specs.Entries.{WitnessView, entries}
+use Rattle.mt_desk.specs.declared.act.Act.{Act}
+use Rattle.mt_desk.specs.declared.act.Act.TheVariants as act
+use Rattle.mt_desk.specs.declared.act.LogEntry.{LogEntry}
+use Rattle.mt_desk.specs.Entries.{WitnessView, entries}
 use Rattle.mt_desk.specs.Held.{HeldView, IsLogged}
 use Rattle.mt_session.specs.SharedTurns.{SharedView, IsAtDesk, is_under_lock, SeesOn, accepted_act, acts_at, floor_seen, found_state, with_taken_posts, IsBegun, IsDoneBy, IsUndoneBy, HasTaken, HasEnded}
 use Rattle.mt_session.specs.Session.{ends_by}

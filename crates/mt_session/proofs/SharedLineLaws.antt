@@ -30,8 +30,8 @@ use Rattle.mt_session.specs.SharedServing.{IsKeptOrLeft, Follows, IsSoFar, Answe
 use Rattle.mt_session.proofs.EndLaws.{is_uncut}
 use Rattle.mt_lines.proofs.PassLaws.{pass_none, pass_more, pass_text, pass_long}
 use Rattle.mt_session.proofs.PassLaws.{pass_broken, pass_end, pass_endless, input_more, kept_nothing}
-use Rattle.mt_history.specs.declared.act.LogEntry.{LogEntry}
-use Rattle.mt_history.specs.Entries.{WitnessView}
+use Rattle.mt_desk.specs.declared.act.LogEntry.{LogEntry}
+use Rattle.mt_desk.specs.Entries.{WitnessView}
 use Rattle.mt_session.specs.SharedTurns.{SharedView, is_under_lock, SeesOn}
 use Rattle.mt_session.proofs.WatcherLaws.{turn_keeps, kept_same, was_left}
 

@@ -1,9 +1,9 @@
 -- What a session has seen of the history, one moment after another.
 use Rattle.std.proofs.Common.{◌≡◌, ℕ, List, ◌++◌, refl, sym, ap, ◌∙◌, subst, append_assoc}
 use mathlib.Core.List.{IsPrefix}
-use Rattle.mt_history.specs.declared.act.LogEntry.{LogEntry}
-use Rattle.mt_history.specs.Entries.{WitnessView, acts_by}
-use Rattle.mt_history.proofs.EntryLaws.{seen_all}
+use Rattle.mt_desk.specs.declared.act.LogEntry.{LogEntry}
+use Rattle.mt_desk.specs.Entries.{WitnessView, acts_by}
+use Rattle.mt_desk.proofs.EntryLaws.{seen_all}
 use Rattle.mt_desk.specs.Desk.{DeskView}
 use Rattle.mt_session.specs.SharedTurns.{IsAtDesk, SeesOn}
 

@@ -11,10 +11,10 @@ use Rattle.mt_desk.specs.Headline.{Meet as Meets, IsScheduledBy}
 use Rattle.mt_events.specs.declared.texts.PrintedPosts.{PrintedPosts}
 use Rattle.mt_session.specs.declared.shared_answer.Portion.TheVariants.{Posts, Empty}
 use Rattle.mt_session.specs.SharedTurns.{SharedView, acts_at, HasTaken, HasPopped, with_taken_posts, GoesOn, IsDoneBy, IsUndoneBy}
-use Rattle.mt_history.specs.declared.act.LogEntry.{LogEntry}
-use Rattle.mt_history.specs.declared.act.Act.{Act}
-use Rattle.mt_history.specs.Entries.{WitnessView, entries}
-use Rattle.mt_history.proofs.EntryLaws.{prefix_self}
+use Rattle.mt_desk.specs.declared.act.LogEntry.{LogEntry}
+use Rattle.mt_desk.specs.declared.act.Act.{Act}
+use Rattle.mt_desk.specs.Entries.{WitnessView, entries}
+use Rattle.mt_desk.proofs.EntryLaws.{prefix_self}
 use mathlib.Core.List.{IsPrefix}
 use Rattle.mt_desk.specs.Held.{HeldView, IsLogged}
 use Rattle.mt_session.specs.SharedServing.{HasMet, HasPortion, IsPortion, IsKeptOrLeft}

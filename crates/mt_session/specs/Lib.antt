@@ -12,3 +12,7 @@ pub mod SharedSession
 pub mod SharedTurns
 pub mod Taking
 pub mod Text
+pub mod Accepting
+pub mod Patience
+pub mod Register
+pub mod Seen

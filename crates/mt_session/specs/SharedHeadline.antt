@@ -14,8 +14,8 @@ use Rattle.mt_desk.specs.Desk.{DeskView, HasHistory}
 use Rattle.mt_desk.specs.Calls.{WatcherView}
 use Rattle.mt_session.specs.declared.serving.End.{End}
 use mathlib.Core.List.{IsPrefix}
-use Rattle.mt_history.specs.declared.act.LogEntry.{LogEntry}
-use Rattle.mt_history.specs.Entries.{WitnessView}
+use Rattle.mt_desk.specs.declared.act.LogEntry.{LogEntry}
+use Rattle.mt_desk.specs.Entries.{WitnessView}
 use Rattle.mt_desk.specs.Held.{IsLogged}
 use Rattle.mt_session.specs.SharedTurns.{SharedView}
 use Rattle.mt_session.specs.SharedSession.{SharedTurn, AreTurns, ServedShared, new_session}

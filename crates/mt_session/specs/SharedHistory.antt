@@ -10,9 +10,9 @@ use Rattle.mt_skel.specs.declared.fault.Fault.TheVariants.{Stopped, NoMemory}
 use Rattle.mt_lines.specs.Lines.{Item}
 use Rattle.mt_book.specs.declared.command.Command.{Command}
 use Rattle.mt_book.specs.declared.command.Reply.{Reply}
-use Rattle.mt_history.specs.declared.act.Act.{Act}
-use Rattle.mt_history.specs.declared.act.Act.TheVariants as act
-use Rattle.mt_history.specs.Entries.{WitnessView, acts_by, has_stop}
+use Rattle.mt_desk.specs.declared.act.Act.{Act}
+use Rattle.mt_desk.specs.declared.act.Act.TheVariants as act
+use Rattle.mt_desk.specs.Entries.{WitnessView, acts_by, has_stop}
 use Rattle.mt_requests.specs.declared.request.Request.{Request}
 use Rattle.mt_requests.specs.declared.request.Request.TheVariants.{Run, Stop as AsksStop}
 use Rattle.mt_session.specs.declared.serving.End.{End}

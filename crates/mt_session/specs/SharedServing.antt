@@ -25,8 +25,8 @@ use Rattle.mt_session.specs.declared.wants.Wants.TheVariants.{Desk, Waiting, Com
 use Rattle.mt_requests.specs.Requests.{request_of}
 use Rattle.mt_session.specs.Answering.{Answering, ServesNext}
 use Rattle.mt_session.specs.Session.{ends_by}
-use Rattle.mt_history.specs.declared.act.LogEntry.{LogEntry}
-use Rattle.mt_history.specs.Entries.{WitnessView}
+use Rattle.mt_desk.specs.declared.act.LogEntry.{LogEntry}
+use Rattle.mt_desk.specs.Entries.{WitnessView}
 use Rattle.mt_desk.specs.Held.{IsLogged}
 use Rattle.mt_session.specs.SharedTurns.{SharedView, IsAtDesk, is_under_lock, SeesOn, HasTaken, GoesOn, HasEnded}
 use Rattle.mt_session.specs.SharedSession.{IsSpent, IsTurn, IsLost, EndsOfAnswer, HasLeft, ServedSharedLine}

@@ -27,8 +27,8 @@ use Rattle.mt_session.specs.Session.{Asking, item_of, has_end, request_of_line, 
 use Rattle.std.specs.Io.KnownBytes.{Appends}
 use Rattle.mt_lines.specs.Reading.{PassLines}
 use mathlib.Core.List.{IsPrefix}
-use Rattle.mt_history.specs.declared.act.LogEntry.{LogEntry}
-use Rattle.mt_history.specs.Entries.{WitnessView, entries}
+use Rattle.mt_desk.specs.declared.act.LogEntry.{LogEntry}
+use Rattle.mt_desk.specs.Entries.{WitnessView, entries}
 use Rattle.mt_desk.specs.Held.{IsLogged}
 use Rattle.mt_session.specs.SharedTurns.{SharedView, IsAtDesk, SeesOn, acts_at, found_state, IsDoneBy, IsUndoneBy, HasTaken, GoesOn}
 

@@ -14,10 +14,10 @@ use Rattle.mt_floor.specs.declared.event.Event.TheVariants.{Apply, Open, Take as
 use Rattle.mt_floor.specs.declared.event.Answer.{Answer}
 use Rattle.mt_floor.specs.Watcher.{opening_of}
 use Rattle.mt_floor.specs.Schedule.{FloorView, floor_step, run}
-use Rattle.mt_history.specs.declared.act.Act.{Act}
-use Rattle.mt_history.specs.declared.act.Act.TheVariants as act
-use Rattle.mt_history.specs.declared.act.LogEntry.{LogEntry}
-use Rattle.mt_history.specs.Entries.{WitnessView, IsSeen}
+use Rattle.mt_desk.specs.declared.act.Act.{Act}
+use Rattle.mt_desk.specs.declared.act.Act.TheVariants as act
+use Rattle.mt_desk.specs.declared.act.LogEntry.{LogEntry}
+use Rattle.mt_desk.specs.Entries.{WitnessView, IsSeen}
 use Rattle.mt_desk.specs.Desk.{DeskRow, DeskView, IsDesk, row_key, floor_of_desk, with_watcher, halted_desk}
 use Rattle.mt_desk.specs.Held.{IsLogged}
 use Rattle.mt_desk.specs.Calls.{WatcherView, unseen, IsApplied, IsClosed}

@@ -4,7 +4,7 @@ ghost use Rattle.std.specs.Option.{ForSome};
 ghost use Rattle.std.specs.Arc.{arc_value};
 ghost use Rattle.mt_events.specs.Posts.{PostView};
 ghost use Rattle.mt_events.specs.Following.{IsRun};
-ghost use Rattle.mt_history.specs.Entries.{entries, IsSeen};
+ghost use Rattle.mt_desk.specs.Entries.{entries, IsSeen};
 ghost use Rattle.mt_desk.specs.Calls.{WatcherView, IsMet, IsClosed};
 ghost use Rattle.mt_desk.specs.Desk.{IsDesk, floor_of_desk};
 ghost use Rattle.mt_desk.specs.Headline.{Meet, Close, IsScheduledBy};

@@ -7,7 +7,7 @@ use Rattle.mt_book.specs.Step.{step, world_or, makes_directories}
 use Rattle.mt_book.specs.declared.command.Command.{Command}
 use Rattle.mt_book.specs.declared.command.Reply.{Reply}
 use Rattle.mt_book.proofs.EffectLaws.{skel_kept}
-use Rattle.mt_attempt.specs.Attempts.{has_numbers, tried}
+use Rattle.mt_book.specs.Attempts.{has_numbers, tried}
 
 -- a command that is done where numbers are left is done
 by_numbers : (b : Bool) (x : Result (WorldView × Reply) Fault) (v : WorldView) (r : Reply) → (if b then x else Err TooMany) ≡ Ok (v, r) → x ≡ Ok (v, r)

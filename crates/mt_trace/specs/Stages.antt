@@ -8,7 +8,7 @@ use Rattle.mt_propagate.specs.WellFormed.{IsWellFormed}
 use Rattle.mt_propagate.specs.Touched.{SinceView, since_of, since_view}
 use Rattle.mt_book.specs.declared.command.Command.{Command}
 use Rattle.mt_book.specs.declared.command.Reply.{Reply}
-use Rattle.mt_attempt.specs.Attempts.{tried}
+use Rattle.mt_book.specs.Attempts.{tried}
 use Rattle.mt_trace.specs.declared.stage.Attempt.{Attempt}
 use Rattle.mt_trace.specs.declared.stage.Attempt.TheVariants.{Changed, Refused}
 use Rattle.mt_trace.specs.declared.stage.Spare.{Spare}

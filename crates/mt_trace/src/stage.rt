@@ -5,12 +5,12 @@ ghost use Rattle.mt_propagate.specs.WellFormed.{IsWellFormed};
 ghost use Rattle.mt_propagate.specs.Touched.{since_of, since_view};
 ghost use Rattle.mt_book.specs.Step.{makes_directories};
 ghost use Rattle.mt_book.specs.declared.command.Reply.{Reply as ReplyOf};
-ghost use Rattle.mt_attempt.specs.Attempts.{tried};
+ghost use Rattle.mt_book.specs.Attempts.{tried};
 ghost use Rattle.mt_trace.specs.Stages.{IsAttempt, IsSpareWorld, IsStage, world_after_trial, all_tried, why_refused};
 ghost use Rattle.mt_trace.specs.declared.stage.Spare.TheVariants as spare_with;
 
 use crate::stage_changes::{SpaceChange, changes_between};
-use mt_attempt::attempt::try_step;
+use mt_book::attempt::try_step;
 use mt_book::command::{Command, Reply};
 use mt_propagate::world::World;
 use mt_skel::fault::Fault;

@@ -4,7 +4,7 @@ use Rattle.std.proofs.lemmas.List.{drop_all}
 use Rattle.mt_skel.specs.declared.fault.Fault.{Fault}
 use Rattle.mt_propagate.specs.World.{WorldView}
 use Rattle.mt_book.specs.declared.command.Command.{Command}
-use Rattle.mt_page.specs.Data.{StepTexts}
+use Rattle.mt_render.specs.PageData.{StepTexts}
 use Rattle.mt_what_if.specs.Steps.{step_told, IsPageStep, AreSteps}
 use Rattle.mt_what_if.specs.Trials.{TrialView, world_after, for_next}
 use Rattle.mt_what_if.specs.Tried.{IsLineTried}

@@ -7,7 +7,7 @@ use Rattle.mt_propagate.specs.WellFormed.{IsWellFormed}
 use Rattle.mt_book.specs.Step.{step, next_world, world_or, after_from}
 use Rattle.mt_book.specs.declared.command.Command.{Command}
 use Rattle.mt_book.specs.declared.command.Reply.{Reply}
-use Rattle.mt_attempt.specs.Attempts.{has_numbers, tried}
+use Rattle.mt_book.specs.Attempts.{has_numbers, tried}
 use Rattle.mt_what_if.specs.Trials.{TrialView, Ended, IsTrial, world_after, names_made, attempt, attempt_as, all_done, stopped, then_tried}
 
 pub after_one_more : (w : WorldView) (cs : List Command) (c : Command) → after_from w (cs ++ c ∷ []) ≡ next_world (after_from w cs) c

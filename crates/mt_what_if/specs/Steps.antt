@@ -8,7 +8,7 @@ use Rattle.mt_skel.specs.declared.fault.Fault.{Fault}
 use Rattle.mt_propagate.specs.World.{WorldView}
 use Rattle.mt_events.specs.Mirrors.{MirrorView}
 use Rattle.mt_book.specs.declared.command.Command.{Command}
-use Rattle.mt_page.specs.Data.{StepTexts}
+use Rattle.mt_render.specs.PageData.{StepTexts}
 use Rattle.mt_what_if.specs.Difference.{rows_if_there}
 use Rattle.mt_what_if.specs.KnownSpaces.{TitledSpace}
 use Rattle.mt_what_if.specs.LinesTold.{asked_words}

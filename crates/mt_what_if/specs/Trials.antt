@@ -5,7 +5,7 @@ use Rattle.mt_skel.specs.declared.fault.Fault.{Fault}
 use Rattle.mt_propagate.specs.World.{WorldView}
 use Rattle.mt_propagate.specs.WellFormed.{IsWellFormed}
 use Rattle.mt_book.specs.Step.{after_from}
-use Rattle.mt_attempt.specs.Attempts.{tried}
+use Rattle.mt_book.specs.Attempts.{tried}
 use Rattle.mt_book.specs.declared.command.Command.{Command}
 use Rattle.mt_book.specs.declared.command.Command.TheVariants.{MakeFs}
 use Rattle.mt_book.specs.declared.command.Reply.{Reply}

@@ -2,7 +2,7 @@
 ghost use Rattle.std.specs.Prelude.{◌≡◌, ◌∷◌, ◌++◌, [], map, OnOk, IfOk, IsOkUnless};
 ghost use Rattle.mt_propagate.specs.World.{world_view};
 ghost use Rattle.mt_propagate.specs.WellFormed.{IsWellFormed};
-ghost use Rattle.mt_page.specs.Data.{StepTexts};
+ghost use Rattle.mt_render.specs.PageData.{StepTexts};
 ghost use Rattle.mt_what_if.specs.Foretelling.{leaks};
 ghost use Rattle.mt_what_if.specs.LinesTold.{asked_words};
 ghost use Rattle.mt_what_if.specs.Naming.{spaces_told};
@@ -22,7 +22,7 @@ use crate::trial::Trial;
 use crate::trying::{Outcome, try_line};
 use mt_events::mirror::Mirror;
 use mt_lines::words::Pieces;
-use mt_page::data::Step;
+use mt_render::page_data::Step;
 use mt_propagate::world::World;
 use mt_skel::fault::Fault;
 use std::alloc::{AllocError, Global};

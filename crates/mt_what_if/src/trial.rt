@@ -5,7 +5,7 @@ ghost use Rattle.mt_propagate.specs.WellFormed.{IsWellFormed};
 ghost use Rattle.mt_book.specs.declared.command.Command.{Command as CommandOf};
 ghost use Rattle.mt_what_if.specs.Trials.{last_space, world_after, names_made, for_next, attempt, give, give_all, all_done, stopped};
 
-use mt_attempt::attempt::try_step;
+use mt_book::attempt::try_step;
 use mt_book::command::Command;
 use mt_mounts::mount::SpaceId;
 use mt_propagate::world::World;

@@ -1,6 +1,6 @@
 use Rattle.std.proofs.Common.{◌∙◌, ◌++◌, List, ap, sym}
-use Rattle.mt_history.specs.declared.act.Act.{Act}
-use Rattle.mt_history.specs.Entries.{entries}
+use Rattle.mt_desk.specs.declared.act.Act.{Act}
+use Rattle.mt_desk.specs.Entries.{entries}
 use Rattle.mt_session.proofs.SharedLaws.{command_told, command_refused, applied_acts, refused_log}
 use Rattle.mt_session.proofs.shared_session.run.Goals as goal
 

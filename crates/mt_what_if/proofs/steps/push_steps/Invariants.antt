@@ -1,5 +1,5 @@
 use Rattle.std.proofs.Common.{◌≡◌, List, ◌++◌, drop}
-use Rattle.mt_page.specs.Data.{StepTexts}
+use Rattle.mt_render.specs.PageData.{StepTexts}
 use Rattle.mt_what_if.specs.Steps.{AreSteps}
 use Rattle.mt_what_if.specs.Trials.{TrialView}
 use Rattle.mt_what_if.specs.declared.trying.Outcome.{Outcome}

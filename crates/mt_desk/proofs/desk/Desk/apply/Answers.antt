@@ -1,6 +1,6 @@
 use Rattle.std.proofs.Common.{◌∙◌, ap, sym, subst, List}
-use Rattle.mt_history.specs.declared.act.LogEntry.{LogEntry}
-use Rattle.mt_history.specs.Entries.{HistoryView}
+use Rattle.mt_desk.specs.declared.act.LogEntry.{LogEntry}
+use Rattle.mt_desk.specs.Entries.{HistoryView}
 use Rattle.mt_desk.specs.Held.{IsLogged}
 use Rattle.mt_desk.proofs.HeldLaws.{told_command}
 use Rattle.mt_desk.proofs.desk.Desk.apply.Goals as goal

@@ -1,5 +1,5 @@
 use Rattle.std.proofs.Common.{ap}
-use Rattle.mt_history.specs.Entries.{WitnessView}
+use Rattle.mt_desk.specs.Entries.{WitnessView}
 use Rattle.mt_session.proofs.SightLaws.{sees_at}
 use Rattle.mt_session.proofs.WatcherLaws.{has_met}
 use Rattle.mt_session.proofs.shared_answer.Shared.meet.Goals as goal

@@ -1,2 +1,0 @@
-pub mod OptionLaws
-pub mod ReadLaws

@@ -1,3 +1,0 @@
-pub mod AcceptLaws
-pub mod PatienceLaws
-pub mod RegisterLaws

@@ -1,4 +1,0 @@
-pub mod Accepting
-pub mod Patience
-pub mod Register
-pub mod Seen
