@@ -25,7 +25,7 @@ import re
 import sys
 
 from harness.runs import TOP, end_self_test, read, shown
-from sources.calls import WORD, Calls
+from sources.calls import Calls, verb_words
 from sources.functions import functions_in
 from sources.texts import EXAMPLES, crate_of, read_all
 
@@ -69,7 +69,7 @@ class Repository:
         self.functions = [it for path, text in sorted(self.code.items()) for it in functions_in(path, text)]
         self.edits = list(edits_in(edits))
         self.calls = Calls(self.code, self.functions, uses)
-        self.verb_words = dict(WORD.findall("\n".join(text for path, text in self.code.items() if path.startswith("mt_protocol/"))))
+        self.verb_words = verb_words("\n".join(text for path, text in self.code.items() if path.startswith("mt_protocol/")))
 
     def named(self, name):
         """The functions whose path ends so, as the code has it or as the prover takes it."""
@@ -225,7 +225,8 @@ def repository():
 SELF = {
     "low/src/rows.rt": "ghost use Rattle.mt_low.specs.Rows.{count as many};\n\n/// How many.\npub fn count(rows: &[u64]) -> u64\n    ensures many { result ≡ many rows.now }\n{\n    rows.len()\n}\n\nimpl Drop for Rows {\n    fn drop(self) {\n        count(b'{')\n    }\n}\n",
     "mt_low/specs/Rows.antt": "-- Rows.\nabbrev pub count : ℕ → ℕ\ncount n = n\n",
-    "mt_protocol/src/verb.rt": "fn word() {\n    Verb::Show => b\"show\",\n    Verb::Stop => b\"stop\",\n}\n",
+    "mt_protocol/src/verb.rt": "fn entry() {\n    Verb::Show => &line_table::SHOW,\n    Verb::Stop => &line_table::STOP,\n}\n",
+    "mt_protocol/src/line_table.rt": "static SHOW: Entry = Entry {\n    word: b\"show\",\n};\n\nstatic STOP: Entry = Entry {\n    word: b\"stop\",\n};\n",
     "mt_requests/src/request.rt": "fn read_by() {\n    Verb::Show => read_show(),\n    Verb::Stop => read_one_word(Request::Stop),\n}\n\nfn read_show() {\n    Request::Show\n}\n",
     "high/src/turn.rt": "use low::rows::{count};\n\nfn turn() {\n    match request {\n        Request::Show => shown(),\n        Request::Stop => {\n            stopped()\n        }\n    }\n}\n\nfn shown() {\n    count(rows)\n}\n\nfn stopped() {}\n",
     "mt_examples/src/lib.rt": "use low::rows::count;\n\nfn counted() {\n    count(1)\n}\n\n#[test]\nfn counts() {\n    counted()\n}\n",

@@ -15,7 +15,15 @@ IMPORTED = re.compile(r"\buse ((?:\w+::)+)(?:\{([^}]*)\}|(\w+))", re.S)
 ARM = re.compile(r"^( *)((?:\(|\| )?(?:Command|Request)::[^=;]*?) =>", re.M)
 VARIANT = re.compile(r"\b(?:Command|Request)::(\w+)")
 READ_BY = re.compile(r"Verb::(\w+) => ([^\n]*)")
-WORD = re.compile(r"Verb::(\w+) => b\"(\w+)\"")
+# The row of each verb in the table of lines, and the word that a row has.
+ROW = re.compile(r"Verb::(\w+) => &line_table::(\w+)")
+WORD = re.compile(r"static (\w+): Entry = Entry \{\s*word: b\"(\w+)\"")
+
+
+def verb_words(text):
+    """The word of each verb, by the texts of the table of lines."""
+    words = dict(WORD.findall(text))
+    return {verb: words[row] for verb, row in ROW.findall(text)}
 
 
 def imports(text):
