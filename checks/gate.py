@@ -2,9 +2,9 @@
 """Proves everything once, from nothing, and checks the program that was built from outside.
 
 First the checks that prove nothing (TEXT_CHECKS), then `rt ci`, then those of the built programs (PROGRAM_CHECKS), each
-with all that it prints. Then how long each took, and why one was skipped; then the last line of `rt ci`,
-`N passed, M failed`, once more, in which each other command that failed counts as one failed. The status is 0 where all
-of them passed.
+with all that it prints. Then what each crate cost the prover, how long each check took, and why one was skipped; then the
+last line of `rt ci`, `N passed, M failed`, once more, in which each other command that failed counts as one failed. The
+status is 0 where all of them passed.
 
 `rt ci` keeps no library that `rt run` would take, so that README's `rt run` would prove everything a
 second time. It does leave the libraries and programs that it has proved, built and run, and --built takes those.
@@ -20,6 +20,8 @@ import shutil
 import subprocess
 import sys
 import time
+
+from harness.provers import Provers
 
 TOP = os.path.dirname(os.path.dirname(os.path.abspath(__file__)))
 PROGRAM = os.path.join(TOP, "crates", "mountd", "out", "mountd")
@@ -94,7 +96,8 @@ def main():
     for library in glob.glob(os.path.join(TOP, "crates", "*", "out", "rlib")):
         shutil.rmtree(library)
     others = [run(*words) for words in TEXT_CHECKS]
-    is_proved, verdict, proving_took = run("rt ci", "rt", "ci")
+    with Provers(TOP) as provers:
+        is_proved, verdict, proving_took = run("rt ci", "rt", "ci")
     all_took = [*(took for _, _, took in others), proving_took]
     if os.path.isfile(PROGRAM) and os.path.isfile(CLIENT):
         behind = [run(*words) for words in PROGRAM_CHECKS]
@@ -103,7 +106,7 @@ def main():
         print("rt ci did not build both programs, so nothing was checked from outside")
         others.append((False, "", ""))
     last = last_line(verdict, is_proved, sum(not passed for passed, _, _ in others))
-    print("==", *all_took, last, sep="\n", flush=True)
+    print("==", *provers.lines(), "==", *all_took, last, sep="\n", flush=True)
     sys.exit(0 if last.endswith(", 0 failed") else 1)
 
 
