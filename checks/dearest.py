@@ -1,12 +1,13 @@
 #!/usr/bin/env -S python3 -B
 """Says which functions of a crate took longest to prove, by the times of the files that `rt check` has kept. Called by hand.
 
-Usage: checks/dearest.py CRATE [N]
+Usage: checks/dearest.py CRATE [N] [--kept FOLDER]
 
-`rt check` from nothing (without crates/CRATE/out/incremental) writes a file for each part of a proof once that is done,
-so that the time between two files is what the second one took, where the check had one job (`--jobs 1`). For each of the N
-functions, definitions or lemma files that took longest, 20 if not said, it prints the seconds in all and those of the part
-that took most: Lts is what the function may do step by step, Proof its proof, Answers what was written of that by hand.
+`rt check` from nothing (without crates/CRATE/out/incremental), or `checks/prove.py --jobs 1 CRATE FOLDER` (without
+FOLDER/kept/CRATE), writes a file for each part of a proof once that is done, so that the time between two files is what the
+second one took, where the check had one job. For each of the N functions, definitions or lemma files that took longest, 20
+if not said, it prints the seconds in all and those of the three parts that took most: Lts is what the function may do step
+by step, Proof what tactics find, Answers what was written by hand.
 """
 import argparse
 import collections
@@ -33,17 +34,20 @@ def main():
     parser = argparse.ArgumentParser(description=__doc__, formatter_class=argparse.RawDescriptionHelpFormatter)
     parser.add_argument("crate", metavar="CRATE")
     parser.add_argument("most", metavar="N", nargs="?", type=int, default=20)
+    parser.add_argument("--kept", metavar="FOLDER", help="what checks/prove.py has kept there, in the place of what rt check keeps")
     words = parser.parse_args()
     folder = os.path.join(TOP, "crates", words.crate, "out", "incremental")
+    if words.kept:
+        folder = os.path.join(words.kept, "kept", words.crate)
     if not os.path.isdir(folder):
-        sys.exit(f"there is no {os.path.relpath(folder, TOP)}: rt check of {words.crate} writes it")
+        sys.exit(f"there is no {folder}: a check of {words.crate} writes it")
     parts = collections.defaultdict(collections.Counter)
     for (name, part), seconds in times(folder):
         parts[name][part] += seconds
     whole = {name: sum(of.values()) for name, of in parts.items()}
     for name in sorted(whole, key=whole.get, reverse=True)[: words.most]:
-        (part, seconds), = parts[name].most_common(1)
-        print(f"{whole[name]:7.1f} s {name}: {part or 'itself'} {seconds:.1f} s")
+        dear = ", ".join(f"{part or 'itself'} {seconds:.1f} s" for part, seconds in parts[name].most_common(3))
+        print(f"{whole[name]:7.1f} s {name}: {dear}")
 
 
 if __name__ == "__main__":
