@@ -27,10 +27,13 @@ TOP = os.path.dirname(os.path.dirname(os.path.abspath(__file__)))
 PROGRAM = os.path.join(TOP, "crates", "mountd", "out", "mountd")
 CLIENT = os.path.join(TOP, "crates", "mountctl", "out", "mountctl")
 
-# How many crates wrong.py tries at once. `rt ci` is told no number: then it proves as many crates as there are processors
-# and memory for, and a crate that no other can be proved beside gets those that are idle. Told a number, it gives each
-# crate one, and the last crates of the longest chain took so long on a slow machine that CI's 180 minutes were over.
-LANES = min(3, len(os.sched_getaffinity(0)))
+# How many crates `rt ci` proves at once, and wrong.py tries, each with one job. Untold, `rt ci` gives a crate the processors
+# that are idle, and each further job of a crate reads the libraries again: a third more processor time. And it lets a crate
+# wait for as much memory as it expects that one to take, which for the large ones is most of 24 GB, so that they come one
+# after another; they were seen to take 2 to 3 GB.
+PROCESSORS = len(os.sched_getaffinity(0))
+MEMORY = os.sysconf("SC_PAGE_SIZE") * os.sysconf("SC_PHYS_PAGES")
+LANES = 4 if PROCESSORS >= 4 and MEMORY >= 20_000_000_000 else min(2, PROCESSORS)
 
 # What is run before anything is proved, and on the libraries and programs that are built then: what it is called, and
 # its words.
@@ -68,7 +71,8 @@ def run(name, *words):
     """Runs a command at the top, and answers whether it passed, its last line and how long it took."""
     start, before, last = time.monotonic(), spent(), ""
     print(f"== {name}", flush=True)
-    with subprocess.Popen(words, cwd=TOP, stdout=subprocess.PIPE, text=True, errors="replace") as command:
+    told = dict(os.environ, RT_JOBS=str(LANES))
+    with subprocess.Popen(words, cwd=TOP, env=told, stdout=subprocess.PIPE, text=True, errors="replace") as command:
         for line in command.stdout:
             print(line, end="", flush=True)
             last = line.strip() or last
