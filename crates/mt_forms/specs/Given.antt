@@ -11,7 +11,6 @@ use Rattle.mt_forms.specs.declared.attribute.Attribute.TheVariants.{Nosuid, Node
 use Rattle.mt_forms.specs.declared.attribute.Said.{Said}
 use Rattle.mt_forms.specs.declared.command.Tool.{Tool}
 use Rattle.mt_forms.specs.declared.command.Tool.TheVariants.{Mount, Umount, Unshare, Nsenter, PivotRoot}
-use Rattle.mt_forms.specs.declared.operation.PropagationKind.{PropagationKind}
 use Rattle.mt_forms.specs.declared.operation.PropagationKind.TheVariants.{Shared, Private, Slave}
 use Rattle.mt_forms.specs.declared.operation.Propagation.{Propagation}
 use Rattle.mt_forms.specs.declared.operation.Reach.TheVariants as reach
@@ -114,18 +113,13 @@ unfoldable pub with_list : List ℕ → Given → Given
 with_list list g = fold with_listed (record g { has_list = true }) (pieces 44 list)
 
 -- what the mounts of a new namespace are made (unshare(1), --propagation)
-abbrev pub spread_kind : List ℕ → Option PropagationKind
-spread_kind word =
-    if bytes_eq word (codes "shared") then Some Shared
-    else (if bytes_eq word (codes "private") then Some Private
-    else (if bytes_eq word (codes "slave") then Some Slave else None))
-
-abbrev pub spread_over : Option PropagationKind → List ℕ → Given → Given
-spread_over (Some kind) word g = record g { propagation = Some (all_made kind) }
-spread_over None word g = if bytes_eq word (codes "unchanged") then record g { is_unchanged = true } else slipped (slip.NoKind word) g
-
 abbrev pub with_spread : List ℕ → Given → Given
-with_spread word g = spread_over (spread_kind word) word g
+with_spread word g =
+    if bytes_eq word (codes "shared") then record g { propagation = Some (all_made Shared) }
+    else (if bytes_eq word (codes "private") then record g { propagation = Some (all_made Private) }
+    else (if bytes_eq word (codes "slave") then record g { propagation = Some (all_made Slave) }
+    else (if bytes_eq word (codes "unchanged") then record g { is_unchanged = true }
+    else slipped (slip.NoKind word) g)))
 
 -- an option that has no value
 abbrev pub with_option : Tool → Means → Given → Given

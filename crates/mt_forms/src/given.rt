@@ -1,7 +1,6 @@
 //! What the words after a program give.
 ghost use Rattle.std.specs.Prelude.{◌≡◌};
-ghost use Rattle.mt_forms.specs.Attributes.{turned_all};
-ghost use Rattle.mt_forms.specs.Given.{nothing_given, is_same_change, one_more_place, slipped, users, owners, spread_kind, with_said, with_one_change, with_propagation, with_foreign, with_listed, with_list, with_spread, with_option, with_value, runs_command, with_plain};
+ghost use Rattle.mt_forms.specs.Given.{nothing_given, is_same_change, one_more_place, slipped, with_said, with_one_change, with_propagation, with_foreign, with_listed, with_list, with_spread, with_option, with_value, runs_command, with_plain};
 
 use crate::attribute::{Attribute, Said};
 use crate::command::Tool;
@@ -130,36 +129,6 @@ pub(crate) fn nothing_given<'a>() -> Given<'a>
     }
 }
 
-/// What is said after this where a user may mount it.
-fn of_users(said: Said) -> Said
-    ensures { result ≡ turned_all users said }
-{
-    said.turned_all(&[Attribute::Nosuid, Attribute::Nodev, Attribute::Noexec])
-}
-
-/// What is said after this where the owner of the device may mount it.
-fn of_owners(said: Said) -> Said
-    ensures { result ≡ turned_all owners said }
-{
-    said.turned_all(&[Attribute::Nosuid, Attribute::Nodev])
-}
-
-/// What a word of `--propagation` makes mounts, if it is a kind of propagation there.
-fn spread_kind(word: &[u8]) -> Option<PropagationKind>
-    ensures { result ≡ spread_kind word.now }
-{
-    if word == b"shared".as_slice() {
-        return Some(PropagationKind::Shared);
-    }
-    if word == b"private".as_slice() {
-        return Some(PropagationKind::Private);
-    }
-    if word == b"slave".as_slice() {
-        return Some(PropagationKind::Slave);
-    }
-    None
-}
-
 /// Whether two changes are the same.
 fn is_same_change(one: Change, other: Change) -> bool
     ensures { result ≡ is_same_change one other }
@@ -260,11 +229,13 @@ impl<'a> Given<'a> {
                 self.with_said(said)
             }
             Listed::Users => {
-                let said = of_users(self.said);
+                let said = self
+                    .said
+                    .turned_all(&[Attribute::Nosuid, Attribute::Nodev, Attribute::Noexec]);
                 self.with_said(said)
             }
             Listed::Owners => {
-                let said = of_owners(self.said);
+                let said = self.said.turned_all(&[Attribute::Nosuid, Attribute::Nodev]);
                 self.with_said(said)
             }
             Listed::Changes(change) => self.with_one_change(change),
@@ -295,20 +266,25 @@ impl<'a> Given<'a> {
     fn with_spread(mut self, word: &'a [u8]) -> Given<'a>
         ensures { result ≡ with_spread word.entry.now self.entry }
     {
-        if let Some(kind) = spread_kind(word) {
-            self.propagation = Some(Propagation {
-                kind,
-                recursive: true,
-            });
-            return self;
-        }
-        if word == b"unchanged".as_slice() {
+        let kind = if word == b"shared".as_slice() {
+            PropagationKind::Shared
+        } else if word == b"private".as_slice() {
+            PropagationKind::Private
+        } else if word == b"slave".as_slice() {
+            PropagationKind::Slave
+        } else if word == b"unchanged".as_slice() {
             self.is_unchanged = true;
             return self;
-        }
-        self.slipped(Slip::NoKind {
-            word: Word::new(word),
-        })
+        } else {
+            return self.slipped(Slip::NoKind {
+                word: Word::new(word),
+            });
+        };
+        self.propagation = Some(Propagation {
+            kind,
+            recursive: true,
+        });
+        self
     }
 
     /// The same, with an option that has no value.
