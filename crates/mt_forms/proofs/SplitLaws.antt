@@ -31,7 +31,8 @@ byte_told line i before after text more within stepped pushed =
 
 -- a text that is read to its end
 pub text_split : (line : List ℕ) (i : ℕ) (before : Before) (text : List ℕ) → length line ≤ i
-    → fold next_byte before (drop i line) ≡ fold next_byte start line → text ++ emitted_from before (drop i line) ≡ emitted_from start line → cond {A = Option (List ℕ)} (is_closed before) (Some text) None ≡ split_text line
+    → fold next_byte before (drop i line) ≡ fold next_byte start line → text ++ emitted_from before (drop i line) ≡ emitted_from start line
+    → cond {A = Option (List ℕ)} (is_closed before) (Some text) None ≡ split_text line
 text_split line i before text ended state told =
     let last : before ≡ fold next_byte start line = sym (at_drop_all (fold next_byte before) line i ended) ∙ state in
     let all : text ≡ emitted_from start line = sym (append-nil text) ∙ sym (at_drop_all (λ rest. text ++ emitted_from before rest) line i ended) ∙ told in
