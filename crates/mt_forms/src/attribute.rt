@@ -3,7 +3,7 @@ ghost use Rattle.std.specs.Prelude.{◌≡◌, ◌&&◌, ◌||◌, not};
 ghost use Rattle.mt_forms.specs.Attributes.{no_attributes, has_attribute, with_attribute, nothing_said, turned, turned_all, is_timed, laid_over};
 
 /// An attribute of a mount, with its flag of mount(2).
-#[derive(Clone, Copy, PartialEq, Eq, Debug)]
+#[derive(Clone, Copy)]
 pub enum Attribute {
     /// MS_RDONLY: nothing can be written.
     Ro,
@@ -26,7 +26,7 @@ pub enum Attribute {
 }
 
 /// Which attributes there are.
-#[derive(Clone, Copy, PartialEq, Eq, Debug)]
+#[derive(Clone, Copy)]
 pub struct Attributes {
     pub ro: bool,
     pub nosuid: bool,
@@ -122,7 +122,7 @@ fn stays(was: bool, clear: bool, set: bool) -> bool
 }
 
 /// What is said of attributes, the last of each: which are to be, and which not.
-#[derive(Clone, Copy, PartialEq, Eq, Debug)]
+#[derive(Clone, Copy)]
 pub struct Said {
     /// Those that are to be.
     pub set: Attributes,

@@ -5,7 +5,7 @@ ghost use Rattle.mt_forms.specs.Lookup.{looked_up};
 ghost use Rattle.mt_forms.specs.Beginnings.{beginning_of};
 
 /// A program whose options are read.
-#[derive(Clone, Copy, PartialEq, Eq, Debug)]
+#[derive(Clone, Copy)]
 pub enum Tool {
     /// mount(8).
     Mount,
@@ -33,7 +33,7 @@ impl Tool {
 }
 
 /// What a line with a first word is.
-#[derive(Clone, Copy, PartialEq, Eq, Debug)]
+#[derive(Clone, Copy)]
 pub enum Beginning {
     /// One of a program.
     Runs(Tool),

@@ -33,6 +33,21 @@ impl<'a> Places<'a> {
             Places::Many => Places::Many,
         }
     }
+
+    /// The same words.
+    pub(crate) fn again(&self) -> Places<'a>
+        ensures { result ≡ self.entry.now }
+    {
+        match self {
+            Places::None => Places::None,
+            Places::One(first) => Places::One(Word::new(first.bytes())),
+            Places::Two(first, second) => Places::Two(
+                Word::new(first.bytes()),
+                Word::new(second.bytes()),
+            ),
+            Places::Many => Places::Many,
+        }
+    }
 }
 
 /// What the words after a program give, as far as they are read.

@@ -1,6 +1,6 @@
 //! Lines, and what they ask for.
-ghost use Rattle.std.specs.Prelude.{◌≡◌};
-ghost use Rattle.mt_forms.specs.Lines.{may_name, are_space_and_path, are_attributes, are_mount_words, is_own_line, asked_without, asked_by, by_beginning, over_space, asked_in, without_command, entered_from, by_first, behind_sudo, asked_of};
+ghost use Rattle.std.specs.Prelude.{◌≡◌, Ok};
+ghost use Rattle.mt_forms.specs.Lines.{may_name, are_space_and_path, are_attributes, are_mount_words, is_own_line, asked_without, asked_with, asked_by, by_beginning, over_space, asked_in, without_command, entered_from, by_first, behind_sudo, asked_of};
 
 use crate::command::{Beginning, Tool, beginning_of};
 use crate::given::{Given, nothing_given};
@@ -77,31 +77,40 @@ fn asked_without<'a>(operation: Operation<'a>) -> Asked<'a>
     }
 }
 
+/// What is wrong with what is given, the first thing. Where nothing is, it is that no line comes.
+fn slip_of<'a>(given: Given<'a>) -> Slip<'a>
+    ensures { result ≡ without_command given.entry }
+{
+    let mut given = given;
+    given.slip.take().unwrap_or(Slip::NoLine)
+}
+
+/// A form that is asked for, with what else is given.
+fn asked_with<'a>(given: Given<'a>, operation: Operation<'a>) -> Asked<'a>
+    ensures { Ok result ≡ asked_with given.entry (Ok operation.entry) }
+{
+    Asked {
+        space: given.space,
+        operation,
+        foreign: given.foreign,
+        has_more_foreign: given.has_more_foreign,
+        is_forced: given.is_forced,
+        has_command: given.has_command,
+    }
+}
+
 /// What a line of a program asks for, by what its words give.
 fn asked_by<'a>(tool: Tool, given: Given<'a>) -> Result<Asked<'a>, Slip<'a>>
     ensures { result ≡ asked_by tool given.entry }
 {
-    let mut given = given;
-    if let Some(slip) = given.slip.take() {
-        return Err(slip);
+    if given.slip.is_some() {
+        return Err(slip_of(given));
     }
     if given.waiting.is_some() {
         return Err(Slip::NoValue { tool });
     }
-    let space = given.space.take();
-    let foreign = given.foreign.take();
-    let has_more_foreign = given.has_more_foreign;
-    let is_forced = given.is_forced;
-    let has_command = given.has_command;
-    match operation_by(tool, given) {
-        Ok(operation) => Ok(Asked {
-            space,
-            operation,
-            foreign,
-            has_more_foreign,
-            is_forced,
-            has_command,
-        }),
+    match operation_by(tool, &given) {
+        Ok(operation) => Ok(asked_with(given, operation)),
         Err(slip) => Err(slip),
     }
 }
@@ -164,28 +173,19 @@ fn asked_in_space<'a>(
 ) -> Result<Asked<'a>, Slip<'a>>
     ensures { result ≡ asked_in given.entry command.entry.now words.entry }
 {
-    let mut given = given;
-    if let Some(slip) = given.slip.take() {
-        return Err(slip);
+    if given.slip.is_some() {
+        return Err(slip_of(given));
     }
     if !given.has_mounts {
         return Err(Slip::NoMounts {
             tool: Tool::Nsenter,
         });
     }
-    let Some(space) = given.space.take() else {
+    let Some(space) = given.space else {
         return Err(Slip::NoProcess);
     };
     let beginning = beginning_of(base_name(command));
     over_space(space, asked_by_beginning(beginning, command, words))
-}
-
-/// What is wrong with a line of nsenter(1) without a command.
-fn slip_without_command<'a>(given: Given<'a>) -> Slip<'a>
-    ensures { result ≡ without_command given.entry }
-{
-    let mut given = given;
-    given.slip.take().unwrap_or(Slip::NoLine)
 }
 
 /// What the words after nsenter(1) ask for, those after what was read.
@@ -200,7 +200,7 @@ fn asked_entered<'a>(given: Given<'a>, words: Words<'a>) -> Result<Asked<'a>, Sl
         }
         given = given.with_word(Tool::Nsenter, word);
     }
-    Err(slip_without_command(given))
+    Err(slip_of(given))
 }
 
 /// What a line asks for that has a first word and others.

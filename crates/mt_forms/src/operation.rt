@@ -5,7 +5,7 @@ use crate::word::Word;
 use mt_lines::words::Words;
 
 /// What mounts are made.
-#[derive(Clone, Copy, PartialEq, Eq, Debug)]
+#[derive(Clone, Copy)]
 pub enum PropagationKind {
     Shared,
     Private,
@@ -14,7 +14,7 @@ pub enum PropagationKind {
 }
 
 /// A change of propagation.
-#[derive(Clone, Copy, PartialEq, Eq, Debug)]
+#[derive(Clone, Copy)]
 pub struct Propagation {
     /// What the mount is made.
     pub kind: PropagationKind,
@@ -23,7 +23,7 @@ pub struct Propagation {
 }
 
 /// Which mounts an unmount takes away.
-#[derive(Clone, Copy, PartialEq, Eq, Debug)]
+#[derive(Clone, Copy)]
 pub enum Reach {
     /// The one that is named.
     One,

@@ -1,6 +1,6 @@
 //! What a line asks for, by its program and what its words give.
 ghost use Rattle.std.specs.Prelude.{◌≡◌};
-ghost use Rattle.mt_forms.specs.Operations.{path_slip, two_slip, unless_slip, in_front, then_place, moved_operation, change_operation, remount_operation, alone_operation, new_operation, mount_operation, umount_at, umount_operation, spread, unshare_operation, pivot_operation, operation_by};
+ghost use Rattle.mt_forms.specs.Operations.{path_slip, two_slip, unless_slip, in_front, then_place, moved_operation, change_operation, remount_operation, alone_operation, new_operation, all_places, mount_operation, umount_at, umount_operation, spread, unshare_operation, pivot_operation, operation_by};
 
 use crate::attribute::Said;
 use crate::command::Tool;
@@ -48,6 +48,16 @@ fn unless_slip<'a>(
     match slip {
         Some(slip) => Err(slip),
         None => Ok(operation),
+    }
+}
+
+/// The same word, if there is one.
+fn again<'a>(word: &Option<Word<'a>>) -> Option<Word<'a>>
+    ensures { result ≡ word.entry.now }
+{
+    match word {
+        Some(word) => Some(Word::new(word.bytes())),
+        None => None,
     }
 }
 
@@ -211,29 +221,33 @@ fn new_operation<'a>(
     }
 }
 
-/// What a line of mount(8) asks for.
-fn mount_operation<'a>(given: Given<'a>) -> Result<Operation<'a>, Slip<'a>>
-    ensures { result ≡ mount_operation given.entry }
+/// All words of a line of mount(8) that are no options, and those that stand for one.
+fn all_places<'a>(given: &Given<'a>) -> Places<'a>
+    ensures { result ≡ all_places given.entry.now }
 {
-    let Given {
-        change,
-        remounts,
-        propagation,
-        said,
-        has_list,
-        kind,
-        source,
-        target,
-        places,
-        ..
-    } = given;
-    let places = then_place(in_front(source, places), target);
-    if remounts {
-        return remount_operation(change, said, propagation, places);
+    let places = in_front(again(&given.source), given.places.again());
+    then_place(places, again(&given.target))
+}
+
+/// What a line of mount(8) asks for.
+fn mount_operation<'a>(given: &Given<'a>) -> Result<Operation<'a>, Slip<'a>>
+    ensures { result ≡ mount_operation given.entry.now }
+{
+    let said = given.said;
+    let propagation = given.propagation;
+    let places = all_places(given);
+    if given.remounts {
+        return remount_operation(given.change, said, propagation, places);
     }
-    match change {
+    match given.change {
         Some(change) => change_operation(change, said, propagation, places),
-        None => new_operation(kind, has_list, said, propagation, places),
+        None => new_operation(
+            again(&given.kind),
+            given.has_list,
+            said,
+            propagation,
+            places,
+        ),
     }
 }
 
@@ -259,10 +273,10 @@ fn umount_at<'a>(lazy: bool, reach: Reach, places: Places<'a>) -> Result<Operati
 }
 
 /// What a line of umount(8) asks for.
-fn umount_operation<'a>(given: Given<'a>) -> Result<Operation<'a>, Slip<'a>>
-    ensures { result ≡ umount_operation given.entry }
+fn umount_operation<'a>(given: &Given<'a>) -> Result<Operation<'a>, Slip<'a>>
+    ensures { result ≡ umount_operation given.entry.now }
 {
-    umount_at(given.is_lazy, given.reach, given.places)
+    umount_at(given.is_lazy, given.reach, given.places.again())
 }
 
 /// What the mounts of a new namespace are made.
@@ -282,8 +296,8 @@ fn spread(is_unchanged: bool, propagation: Option<Propagation>) -> Option<Propag
 }
 
 /// What a line of unshare(1) asks for. A command after the options has no effect on mounts here.
-fn unshare_operation<'a>(given: Given<'a>) -> Result<Operation<'a>, Slip<'a>>
-    ensures { result ≡ unshare_operation given.entry }
+fn unshare_operation<'a>(given: &Given<'a>) -> Result<Operation<'a>, Slip<'a>>
+    ensures { result ≡ unshare_operation given.entry.now }
 {
     if !given.has_mounts {
         return Err(Slip::NoMounts {
@@ -297,11 +311,10 @@ fn unshare_operation<'a>(given: Given<'a>) -> Result<Operation<'a>, Slip<'a>>
 }
 
 /// What a line of pivot_root(8) asks for.
-fn pivot_operation<'a>(given: Given<'a>) -> Result<Operation<'a>, Slip<'a>>
-    ensures { result ≡ pivot_operation given.entry }
+fn pivot_operation<'a>(given: &Given<'a>) -> Result<Operation<'a>, Slip<'a>>
+    ensures { result ≡ pivot_operation given.entry.now }
 {
-    let Given { places, .. } = given;
-    match places {
+    match given.places.again() {
         Places::None => Err(Slip::NoTarget {
             tool: Tool::PivotRoot,
         }),
@@ -319,8 +332,8 @@ fn pivot_operation<'a>(given: Given<'a>) -> Result<Operation<'a>, Slip<'a>>
 }
 
 /// What a line of a program asks for. One of nsenter(1) is of another program, which comes after it.
-pub(crate) fn operation_by<'a>(tool: Tool, given: Given<'a>) -> Result<Operation<'a>, Slip<'a>>
-    ensures { result ≡ operation_by tool given.entry }
+pub(crate) fn operation_by<'a>(tool: Tool, given: &Given<'a>) -> Result<Operation<'a>, Slip<'a>>
+    ensures { result ≡ operation_by tool given.entry.now }
 {
     match tool {
         Tool::Mount => mount_operation(given),

@@ -7,7 +7,7 @@ use crate::attribute::{Attribute, Attributes, Said};
 use std::alloc::{AllocError, Global};
 
 /// What a `setattr` line changes.
-#[derive(Clone, Copy, PartialEq, Eq, Debug)]
+#[derive(Clone, Copy)]
 pub struct Setting {
     /// What `set=` has.
     pub set: Attributes,
