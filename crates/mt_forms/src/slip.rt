@@ -57,101 +57,84 @@ fn shown<'a>(word: &Word<'a>) -> Shown<'a> {
 }
 
 impl<'a> Slip<'a> {
-    /// The name of the program that is told first, or no text.
-    fn program(&self) -> &'static str {
+    /// Writes what is wrong with an option, or with a path.
+    fn write_word<W: fmt::Write>(&self, f: &mut Formatter<W>) -> fmt::Result {
         match self {
-            Slip::NoOption { tool, .. } => tool.name(),
-            Slip::NoValue { tool } => tool.name(),
-            Slip::NoTarget { tool } => tool.name(),
-            Slip::Many { tool } => tool.name(),
-            Slip::OnePath { tool } => tool.name(),
-            Slip::Fstab { tool } => tool.name(),
-            Slip::NoMounts { tool } => tool.name(),
-            _ => "",
+            Slip::NoOption { tool, word } => {
+                write!(f, "{} has no {} here", tool.name(), shown(word))
+            }
+            Slip::NoneTaken { tool, word } => {
+                write!(f, "{}: {} takes no value", shown(word), tool.name())
+            }
+            Slip::NotRooted { word } => write!(
+                f,
+                "{} is no path from the root: a path begins with /",
+                shown(word)
+            ),
+            Slip::Dots { word } => { write!(f, "{} has . or ..: write the path out", shown(word)) }
+            Slip::Alone { word } => write!(
+                f,
+                "mount {} alone: no fstab is read; name the source too",
+                shown(word)
+            ),
+            Slip::NoKind { word } => write!(
+                f,
+                "{}: --propagation takes private, shared, slave or unchanged",
+                shown(word)
+            ),
+            _ => self.write_program(f),
         }
     }
 
-    /// What is told before the word, or no text.
-    fn before_word(&self) -> &'static str {
+    /// Writes what is wrong with a line of a program.
+    fn write_program<W: fmt::Write>(&self, f: &mut Formatter<W>) -> fmt::Result {
         match self {
-            Slip::Unknown { .. } => "no line begins with ",
-            Slip::NoOption { .. } => " has no ",
-            Slip::Alone { .. } => "mount ",
-            _ => "",
-        }
-    }
-
-    /// The bytes of the word that is told, or none.
-    fn word(&self) -> &'a [u8] {
-        match self {
-            Slip::Unknown { word } => word.bytes(),
-            Slip::NoChange { word } => word.bytes(),
-            Slip::NoOption { word, .. } => word.bytes(),
-            Slip::NotRooted { word } => word.bytes(),
-            Slip::Dots { word } => word.bytes(),
-            Slip::Alone { word } => word.bytes(),
-            Slip::NoKind { word } => word.bytes(),
-            _ => &[],
-        }
-    }
-
-    /// What is told behind the word, or all that is told where there is none.
-    fn behind_word(&self) -> &'static str {
-        match self {
-            Slip::NoChange { .. } => " changes nothing",
-            Slip::NoOption { .. } => " here",
-            Slip::NotRooted { .. } => " is no path from the root: a path begins with /",
-            Slip::Dots { .. } => " has . or ..: write the path out",
-            Slip::Alone { .. } => " alone: no fstab is read; name the source too",
-            Slip::NoKind { .. } => ": --propagation takes private, shared, slave or unchanged",
-            _ => self.behind_program(),
-        }
-    }
-
-    /// What is told behind the program, or all that is told where there is none.
-    fn behind_program(&self) -> &'static str {
-        match self {
-            Slip::NoValue { .. } => ": a value is missing after the last option",
-            Slip::NoTarget { .. } => " without a target changes nothing",
-            Slip::Many { .. } => " has too many words: name one target a line",
-            Slip::OnePath { .. } => " takes two paths here",
-            Slip::Fstab { .. } => ": no fstab is read; name source and target of one mount",
-            Slip::NoMounts { .. } => " is of a mount namespace with -m alone",
-            _ => self.sentence(),
-        }
-    }
-
-    /// What is told where neither a program nor a word is named, or no text.
-    fn sentence(&self) -> &'static str {
-        match self {
-            Slip::Empty => "the line has no words",
+            Slip::NoValue { tool } => write!(
+                f,
+                "{}: a value is missing after the last option",
+                tool.name()
+            ),
+            Slip::NoTarget { tool } => {
+                write!(f, "{} without a target changes nothing", tool.name())
+            }
+            Slip::Many { tool } => write!(
+                f,
+                "{} has too many words: name one target a line",
+                tool.name()
+            ),
+            Slip::OnePath { tool } => write!(f, "{} takes two paths here", tool.name()),
+            Slip::Fstab { tool } => write!(
+                f,
+                "{}: no fstab is read; name source and target of one mount",
+                tool.name()
+            ),
+            Slip::NoMounts { tool } => write!(
+                f,
+                "{} is of a mount namespace with -m alone",
+                tool.name()
+            ),
             Slip::WholeRemount => {
-                "mount -o remount without bind changes the filesystem itself, for all its mounts; -o remount,bind,.. changes this mount"
+                f.write_str(
+                    "mount -o remount without bind changes the filesystem itself, for all its mounts; -o remount,bind,.. changes this mount",
+                )
             }
-            Slip::TwoChanges => "bind, rbind and move are three lines",
+            Slip::TwoChanges => f.write_str("bind, rbind and move are three lines"),
             Slip::TwoPropagations => {
-                "a line makes a mount one thing; the next one is a line of its own"
+                f.write_str("a line makes a mount one thing; the next one is a line of its own")
             }
-            Slip::NoProcess => "nsenter takes -t and a process",
-            Slip::NoLine => "nsenter takes a command after its options",
-            _ => "",
+            Slip::NoProcess => f.write_str("nsenter takes -t and a process"),
+            _ => f.write_str("nsenter takes a command after its options"),
         }
     }
-}
-
-/// Writes that a program takes no value of an option.
-fn write_untaken<W: fmt::Write>(f: &mut Formatter<W>, tool: Tool, word: &Word<'_>) -> fmt::Result {
-    write!(f, "{}: {} takes no value", shown(word), tool.name())
 }
 
 impl<'a> Display for Slip<'a> {
     fn fmt<W: fmt::Write>(&self, f: &mut Formatter<W>) -> fmt::Result {
-        if let Slip::NoneTaken { tool, word } = self {
-            return write_untaken(f, *tool, word);
+        match self {
+            Slip::Empty => f.write_str("the line has no words"),
+            Slip::Unknown { word } => write!(f, "no line begins with {}", shown(word)),
+            Slip::NoChange { word } => write!(f, "{} changes nothing", shown(word)),
+            _ => self.write_word(f),
         }
-        f.write_str(self.program())?;
-        f.write_str(self.before_word())?;
-        Shown(self.word()).fmt(f)?;
-        f.write_str(self.behind_word())
     }
 }
