@@ -1,5 +1,5 @@
 -- Several appends in a row: what stood in the text stays in front, and words stand after their separators.
-use Rattle.std.proofs.Common.{◌≡◌, ℕ, zero, suc, ◌+◌, ◌<◌, ◌≤◌, Bool, true, List, [], ◌∷◌, ◌++◌, length, get_or, drop, sym, ◌∙◌, ap, arith, append_assoc, append-nil}
+use Rattle.std.proofs.Common.{◌≡◌, ℕ, zero, suc, ◌+◌, ◌<◌, ◌≤◌, Bool, true, List, [], ◌∷◌, ◌++◌, length, map, get_or, drop, sym, ◌∙◌, ap, arith, append_assoc, append-nil}
 use Rattle.std.specs.List.{flat_map, list_all}
 use Rattle.std.proofs.lemmas.Grind.{flat_map-append}
 use Rattle.std.proofs.lemmas.List.{drop_all, drop_more}
@@ -40,6 +40,13 @@ pub passed_one : {X A : Type 0} (f : X → List A) (xs : List X) (i : ℕ) (d : 
 passed_one f xs i d text more whole l e before =
     let rest = flat_map f (drop (i + 1) xs) in
     ap (λ t. t ++ rest) e ∙ append_assoc text (f (get_or xs i d)) rest ∙ ap (λ t. text ++ flat_map f t) (sym (drop_more xs i d l)) ∙ before
+
+pub mapped_one : {X A : Type 0} (f g : X → A) (xs : List X) (i : ℕ) (d : X) (y : A) (rows more whole : List A) → g ≡ f → i < length xs → more ≡ rows ++ y ∷ [] → y ≡ g (get_or xs i d) → rows ++ map f (drop i xs) ≡ whole
+    → more ++ map f (drop (i + 1) xs) ≡ whole
+mapped_one f g xs i d y rows more whole same l e at before =
+    let rest = map f (drop (i + 1) xs) in
+    ap (λ t. t ++ rest) (e ∙ ap (λ x. rows ++ x ∷ []) (at ∙ ap (λ h. h (get_or xs i d)) same)) ∙ append_assoc rows (f (get_or xs i d) ∷ []) rest
+    ∙ ap (λ t. rows ++ map f t) (sym (drop_more xs i d l)) ∙ before
 
 pub passed_all : {X A : Type 0} (f : List X → List A) (xs : List X) (i : ℕ) (text whole : List A) → f [] ≡ [] → length xs ≤ i → text ++ f (drop i xs) ≡ whole → text ≡ whole
 passed_all f xs i text whole none l e = sym (append-nil text) ∙ ap (λ t. text ++ t) (sym (ap f (drop_all i xs l) ∙ none)) ∙ e

@@ -72,7 +72,7 @@ pub push_point-requires-clause-well_formed : goal.push_point-requires-clause-wel
 push_point-requires-clause-well_formed c = subst (λ (w : World). IsWellFormed (world_view w)) (sym c.in_ok-via.ensures.kept) c.requires.well_formed
 
 pub push_point-requires-clause-there : goal.push_point-requires-clause-there
-push_point-requires-clause-there c = 
+push_point-requires-clause-there c =
     let m = c.args.mount.now in
     subst (λ (w : World). mount_at w.forest.mounts m.id ≡ Some m) (sym c.in_ok-via.ensures.kept) c.requires.there
 
@@ -86,6 +86,6 @@ pub returns-in_err-push-clause-kept : goal.returns-in_err-push-clause-kept
 returns-in_err-push-clause-kept c = front_of_three _ _ _ _ c.push_numbers.ensures.kept c.push_dir.ensures.kept (front_same _ _ c.in_err-push.ensures.items)
 
 pub returns-in_err-push-2-clause-kept : goal.returns-in_err-push-2-clause-kept
-returns-in_err-push-2-clause-kept c = 
+returns-in_err-push-2-clause-kept c =
     front_through _ _ _ (front_of_four _ _ _ _ _ c.push_numbers.ensures.kept c.push_dir.ensures.kept (_, c.in_ok-push.ensures.items) c.push_point.ensures.kept)
     (front_same _ _ c.in_err-push-2.ensures.items)

@@ -4,7 +4,7 @@ use Rattle.mt_info.proofs.FrontLaws.{front_same, front_through, front_of_three, 
 use Rattle.mt_info.proofs.print.push_end.Goals as goal
 
 pub returns-clause-text : goal.returns-clause-text
-returns-clause-text c = 
+returns-clause-text c =
     five_appended _ _ _ _ _ _ (codes " - ") (escaped c.args.kind.now) (codes " ") (escaped c.args.source.now) (codes " rw")
     c.in_ok-extend_from_slice.ensures.items c.in_ok-push_label.ensures.text c.in_ok-push.ensures.items c.in_ok-push_label-2.ensures.text c.in_ok-extend_from_slice-2.ensures.items
 

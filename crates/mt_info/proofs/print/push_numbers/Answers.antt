@@ -3,7 +3,7 @@ use Rattle.mt_info.proofs.FrontLaws.{front_same, front_through, front_of_three, 
 use Rattle.mt_info.proofs.print.push_numbers.Goals as goal
 
 pub returns-clause-text : goal.returns-clause-text
-returns-clause-text c = 
+returns-clause-text c =
     six_appended _ _ _ _ _ _ _ (decimal c.args.id) (codes " ") (decimal c.args.parent) (codes " 0:") (decimal c.args.minor) (codes " ")
     c.in_ok-push_number.ensures.text c.in_ok-push.ensures.items c.in_ok-push_number-2.ensures.text c.in_ok-extend_from_slice.ensures.items c.in_ok-push_number-3.ensures.text c.in_ok-push-2.ensures.items
 

@@ -31,7 +31,7 @@ pub returns-in_ok-extend_from_slice-clause-kept : goal.returns-in_ok-extend_from
 returns-in_ok-extend_from_slice-clause-kept c = (_, returns-in_ok-extend_from_slice-clause-text c)
 
 pub returns-else-unbindable-clause-text : goal.returns-else-unbindable-clause-text
-returns-else-unbindable-clause-text c = 
+returns-else-unbindable-clause-text c =
     rw c.if-unbindable.false (three_fields c.args.separator c.args.text.now.items c.push_tag.new.text.items c.push_tag-2.new.text.items c.push_tag-3.new.text.items
     (tag (codes "shared:") c.args.shared) (tag (codes "master:") c.args.master) (tag (codes "propagate_from:") c.args.via) c.in_ok-push_tag.ensures.text c.in_ok-push_tag-2.ensures.text c.in_ok-push_tag-3.ensures.text)
 
