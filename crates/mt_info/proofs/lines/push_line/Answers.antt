@@ -1,15 +1,17 @@
-use Rattle.std.proofs.Common.{◌++◌, ◌∙◌, ap, sym}
+use Rattle.std.proofs.Common.{◌≡◌, Some, ◌++◌, ◌∙◌, refl, ap, sym, subst}
 use Rattle.mt_skel.specs.Front.{IsFront}
 use Rattle.mt_skel.specs.Skeleton.{filesystem}
+use Rattle.mt_mounts.specs.Forest.{mount_at}
 use Rattle.mt_peers.specs.declared.state.State.{State}
 use Rattle.mt_propagate.specs.declared.world.World.{World}
 use Rattle.mt_propagate.specs.World.{world_view}
+use Rattle.mt_propagate.specs.WellFormed.{IsWellFormed}
 use Rattle.mt_propagate.specs.FromGroup.{from_group}
 use Rattle.mt_info.specs.declared.row.Row.{Row}
 use Rattle.mt_info.specs.RowLine.{line, tag_words, path_text}
 use Rattle.mt_info.specs.Building.{behind, numbers_text, end_text}
 use Rattle.mt_info.specs.Table.{row_of, mount_point}
-use Rattle.mt_info.proofs.FrontLaws.{front_through, front_of_four}
+use Rattle.mt_info.proofs.FrontLaws.{front_same, front_through, front_of_three, front_of_four}
 use Rattle.mt_info.proofs.PrintLaws.{line_appended}
 use Rattle.mt_info.proofs.lines.push_line.Goals.{After-push_options}
 use Rattle.mt_info.proofs.lines.push_line.Goals as goal
@@ -65,3 +67,25 @@ returns-in_err-push_tags-clause-kept c = front_through _ _ _ (begun (goal.at.ret
 pub returns-in_err-push_end-clause-kept : goal.returns-in_err-push_end-clause-kept
 returns-in_err-push_end-clause-kept c =
     front_through _ _ _ (begun (goal.at.returns-in_err-push_end-clause-kept c).After-push_options) (front_through _ _ _ c.push_tags.ensures.kept c.push_end.ensures.kept)
+
+pub push_point-requires-clause-well_formed : goal.push_point-requires-clause-well_formed
+push_point-requires-clause-well_formed c = subst (λ (w : World). IsWellFormed (world_view w)) (sym c.in_ok-via.ensures.kept) c.requires.well_formed
+
+pub push_point-requires-clause-there : goal.push_point-requires-clause-there
+push_point-requires-clause-there c =
+    let m = c.args.mount.now in
+    subst (λ (w : World). mount_at w.forest.mounts m.id ≡ Some m) (sym c.in_ok-via.ensures.kept) c.requires.there
+
+pub returns-in_err-via-clause-kept : goal.returns-in_err-via-clause-kept
+returns-in_err-via-clause-kept c = front_same _ _ refl
+
+pub returns-in_err-push_numbers-clause-kept : goal.returns-in_err-push_numbers-clause-kept
+returns-in_err-push_numbers-clause-kept c = c.push_numbers.ensures.kept
+
+pub returns-in_err-push-clause-kept : goal.returns-in_err-push-clause-kept
+returns-in_err-push-clause-kept c = front_of_three _ _ _ _ c.push_numbers.ensures.kept c.push_dir.ensures.kept (front_same _ _ c.in_err-push.ensures.items)
+
+pub returns-in_err-push-2-clause-kept : goal.returns-in_err-push-2-clause-kept
+returns-in_err-push-2-clause-kept c =
+    front_through _ _ _ (front_of_four _ _ _ _ _ c.push_numbers.ensures.kept c.push_dir.ensures.kept (_, c.in_ok-push.ensures.items) c.push_point.ensures.kept)
+    (front_same _ _ c.in_err-push-2.ensures.items)
