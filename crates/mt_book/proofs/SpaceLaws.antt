@@ -3,7 +3,6 @@
 use Rattle.std.proofs.Common.{◌≡◌, ◌⊎◌, inl, inr, ℕ, ◌<◌, ◌≤◌, Bool, true, false, cond, ◌==◌, eqb-true, eq-eqb, List, [], ◌∷◌, ◌++◌, map, length, Some, None, Ok, refl, sym, ap, ◌∙◌, subst, arith, true≢false}
 use Rattle.std.specs.List.{filter}
 use Rattle.std.proofs.lemmas.Bool.{cases_eq, false_from_ne_true}
-use Rattle.std.proofs.lemmas.Bool.Decides.{nat_tests}
 use Rattle.mt_skel.specs.Keyed.{without}
 use Rattle.mt_skel.specs.Skeleton.{IsSkeleton}
 use Rattle.mt_skel.proofs.ElementLaws.{In, row_in, in_filtered, in_map, in_mapped, in_flat}
@@ -125,7 +124,7 @@ step_from n w c v r g e = effect w c v r (λ x. ComesFrom n w x.forest) e (λ u 
 pub has_row : (w : WorldView) (n : ℕ) → IsWellFormed w → is_space w n ≡ true → 1 ≤ length (table_of w n)
 has_row w n h is =
     let x = space_has n w h is in
-    let on : (x.mount.space == n) ≡ true = (let s : x.mount.space ≡ n = x.space in grind (arith, nat_tests)) in
+    let on : (x.mount.space == n) ≡ true = eq-eqb x.mount.space n x.space in
     some_in (table_of w n) (row_of w x.mount) (in_mapped (row_of w) x.mount (filter (λ (m : Mount). m.space == n) w.forest) (in_filtered (λ (m : Mount). m.space == n) x.mount w.forest (row_in id_of x.id w.forest x.mount x.there) on))
   where
     some_in : (t : List Row) (r : Row) → In r t → 1 ≤ length t
@@ -158,7 +157,7 @@ acted_makes w (OpenTree n path recursive) v r g e m =
     let root = opened_root w n path recursive v q.0 g q.1 in
     record { id = root.0; mount = root.1; there = root.2; space = root.3 }
 acted_makes w (NewTree fs) v r g e m = let q = number_ok _ v r e in subst (Has w.next_space) (tree_made_accepted w fs v q.0 q.1).world (tree_has w _ g)
-acted_makes w c v r g e m = absurd (cc)
+acted_makes w c v r g e m = absurd (true≢false (sym m))
 
 step_makes : (w : WorldView) (c : Command) (v : WorldView) (r : Reply) → IsWellFormed w → step w c ≡ Ok (v, r) → makes_space c ≡ true → Has w.next_space v
 step_makes w c v r g e m = by_act w c v r (Has w.next_space) e (λ u a. acted_makes w c u r g a m) (λ u l x. record { id = x.id; mount = x.mount; there = x.there; space = x.space })
@@ -177,7 +176,7 @@ unfolding act without_space
 dropped_ends w u r n g e i m there none space =
     let at : mount_at (without_space w n).forest i ≡ Some m = ap (λ (y : WorldView). mount_at y.forest i) (drop_space_accepted w n u (done_ok _ u r e)).world ∙ there in
     let off = (kept-row id_of (λ (x : Mount). x.space == n) w.forest g.forest.rising i m at).1 in
-    absurd (grind (arith, nat_tests))
+    true≢false (sym (eq-eqb m.space n space) ∙ off)
 
 -- and one that is attached
 attached_ends : (w : WorldView) (u : WorldView) (r : Reply) (tree k : ℕ) (path : List (List ℕ)) → IsWellFormed w → act w (MoveTree tree k path) ≡ Ok (u, r) → HasNoRoot tree u.forest
@@ -203,7 +202,7 @@ attached_ends w u r tree k path g e i m there none space =
 acted_ends : (w : WorldView) (c : Command) (u : WorldView) (r : Reply) (n : ℕ) → IsWellFormed w → act w c ≡ Ok (u, r) → ends_space n c ≡ true → HasNoRoot n u.forest
 acted_ends w (DropSpace k) u r n g e d = subst (λ j. HasNoRoot j u.forest) (eqb-true k n d) (dropped_ends w u r k g e)
 acted_ends w (MoveTree tree k path) u r n g e d = subst (λ j. HasNoRoot j u.forest) (eqb-true tree n d) (attached_ends w u r tree k path g e)
-acted_ends w c u r n g e d = absurd (cc)
+acted_ends w c u r n g e d = absurd (true≢false (sym d))
 
 -- so each one that a command ends is gone
 pub step_ends : (w : WorldView) (c : Command) (v : WorldView) (r : Reply) (n : ℕ) → IsWellFormed w → IsSkeleton w.skel → step w c ≡ Ok (v, r) → ends_space n c ≡ true → is_space v n ≡ false
@@ -216,7 +215,7 @@ acted_there : (w : WorldView) (c : Command) (u : WorldView) (r : Reply) (n : ℕ
 unfolding act
 acted_there w (DropSpace k) u r n e d = subst (λ j. is_space w j ≡ true) (eqb-true k n d) (drop_space_accepted w k u (done_ok _ u r e)).there
 acted_there w (MoveTree tree k path) u r n e d = subst (λ j. is_space w j ≡ true) (eqb-true tree n d) (attached_accepted w tree k path u (done_ok _ u r e)).there
-acted_there w c u r n e d = absurd (cc)
+acted_there w c u r n e d = absurd (true≢false (sym d))
 
 pub ended_there : (w : WorldView) (c : Command) (v : WorldView) (r : Reply) (n : ℕ) → step w c ≡ Ok (v, r) → ends_space n c ≡ true → is_space w n ≡ true
 ended_there w c v r n e d = let a = step_accepted w c v r e in acted_there w c a.done r n a.acted d

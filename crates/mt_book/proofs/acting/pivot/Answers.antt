@@ -1,0 +1,23 @@
+use Rattle.std.proofs.Common.{ap, sym, ◌∙◌}
+use Rattle.std.proofs.lemmas.Result.{err_from_is_err_and}
+use Rattle.mt_propagate.specs.World.{world_view}
+use Rattle.mt_bind.specs.Pivoting.{pivoted}
+use Rattle.mt_book.specs.Step.{act, with_done}
+use Rattle.mt_book.proofs.acting.pivot.Goals as goal
+
+pub returns-in_err-pivot_root-clause-refused : goal.returns-in_err-pivot_root-clause-refused
+unfolding act
+returns-in_err-pivot_root-clause-refused c =
+    let p = err_from_is_err_and c.from_residual-in_err-pivot_root.result c.from_residual-in_err-pivot_root.ensures.1 in
+    let w = world_view c.args.world.now in
+    let first = sym (c.as_slice.ensures.value ∙ c.in_ok-new.ensures.names) in
+    let second = sym (c.as_slice-2.ensures.value ∙ c.in_ok-old.ensures.names) in
+    rw (p.1, p.2) (λ ne. (λ i. with_done (pivoted w c.args.space (first i) (second i))) ∙ ap with_done (c.in_err-pivot_root.ensures.refused ne))
+
+pub returns-clause-done : goal.returns-clause-done
+unfolding act
+returns-clause-done c =
+    let w = world_view c.args.world.now in
+    let first = sym (c.as_slice.ensures.value ∙ c.in_ok-new.ensures.names) in
+    let second = sym (c.as_slice-2.ensures.value ∙ c.in_ok-old.ensures.names) in
+    (λ i. with_done (pivoted w c.args.space (first i) (second i))) ∙ ap with_done c.in_ok-pivot_root.ensures.done
