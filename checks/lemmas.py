@@ -84,12 +84,13 @@ def without_functions(text):
             continue
         behind = max(behind, at + 1)
         kept, at = kept + text[at:behind], behind
-    return without_empty(re.sub(r"#\[derive\(([^)]*)\)\]", derived, on_one_line(kept)))
+    kept = re.sub(r"(?m)^ *#\[error\(.*\)\]\n", "", on_one_line(kept))
+    return without_empty(re.sub(r"#\[derive\(([^)]*)\)\]", derived, kept))
 
 
 def derived(found):
-    """A `derive` without `Drop`, which asks it of each field's type."""
-    names = [name for name in found.group(1).split(", ") if name != "Drop"]
+    """A `derive` without `Drop`, which asks it of each field's type, and without `Error`, which asks for that."""
+    names = [name for name in found.group(1).split(", ") if name not in ("Drop", "Error")]
     return f"#[derive({', '.join(names)})]" if names else ""
 
 
@@ -99,8 +100,8 @@ def on_one_line(text):
 
 
 def without_empty(text):
-    """A text without its empty `impl`s, and without those whose ghost items speak of `next` or `from`."""
-    wanted = re.compile(r"(?m)^impl\b[^{;]*\b(?:Iterator|From<.*>) for[^{;]*\{")
+    """A text without its empty `impl`s, and without those that lack a function of their trait or speak of one."""
+    wanted = re.compile(r"(?m)^impl\b[^{;]*\b(?:Iterator|From<.*>|Input|Output) for[^{;]*\{")
     found = wanted.search(text)
     while found:
         text = text[: found.start()] + text[closed(text, found.end() - 1) :]

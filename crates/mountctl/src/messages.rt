@@ -1,7 +1,7 @@
 //! What is told of a refused line on standard error.
 
-use mt_lines::words::{Pieces, number};
 use mt_help::reason::Reason;
+use mt_lines::words::{Pieces, number};
 use mt_terminal::message::Shown;
 use std::io::Eprint;
 

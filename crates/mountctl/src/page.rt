@@ -16,8 +16,8 @@ use mt_events::opening::Scope;
 use mt_lines::line::LineReader;
 use mt_lines::stream::{Input, Output};
 use mt_lines::words::Pieces;
-use mt_render::page_data::{Step, opening_data, steps_data};
 use mt_protocol::refusal::{refusal_named, refusal_row};
+use mt_render::page_data::{Step, opening_data, steps_data};
 use mt_render::telling::Telling;
 use std::alloc::{AllocError, AllocFailed, Global};
 

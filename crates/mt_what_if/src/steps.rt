@@ -22,8 +22,8 @@ use crate::trial::Trial;
 use crate::trying::{Outcome, try_line};
 use mt_events::mirror::Mirror;
 use mt_lines::words::Pieces;
-use mt_render::page_data::Step;
 use mt_propagate::world::World;
+use mt_render::page_data::Step;
 use mt_skel::fault::Fault;
 use std::alloc::{AllocError, Global};
 
