@@ -11,6 +11,7 @@ pub mod AnswerLaws
 pub mod KeptLaws
 pub mod StepLaws
 pub mod FollowLaws
+pub mod NoteLaws
 pub mod Walks
 pub mod Ids
 pub mod CycleLaws

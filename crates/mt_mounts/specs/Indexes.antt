@@ -1,6 +1,6 @@
 -- What the indexes of a `Forest` answer of its mounts. No public clause cites this module.
 -- A word with no source is this project's rule.
-use Rattle.std.specs.Prelude.{◌≡◌, ℕ, ◌≤◌, cond, List, Option, Some, None, IsTrue, is_none, min}
+use Rattle.std.specs.Prelude.{◌≡◌, ℕ, ◌+◌, ◌≤◌, cond, List, [], Option, Some, None, IsTrue, is_none, min}
 use Rattle.std.specs.Option.{option_map}
 use Rattle.indexmap.specs.IndexMap.{get, spare}
 use Rattle.mt_skel.specs.Keyed.{rises}
@@ -31,9 +31,13 @@ pub record IsIndexed (ms : List Mount) (x : Indexes) : Type 0 where
 abbrev pub room_of : Indexes → ℕ
 room_of x = min (spare x.places) (min x.roots.room (stack_room x.stacks))
 
--- A count of mounts for which a table with this room and the indexes have room.
-abbrev pub IsCounted : ℕ → ℕ → Indexes → Type 0
-IsCounted count room x = count ≤ min room (room_of x)
+-- How many mounts a table with this room and the indexes have room for.
+abbrev pub both_rooms : ℕ → Indexes → ℕ
+both_rooms room x = min room (room_of x)
+
+-- A count of changes for which they have room, and for taking back these changes and so many that are noted.
+abbrev pub IsCounted : ℕ → ℕ → ℕ → Indexes → Type 0
+IsCounted count noted room x = count + count + noted ≤ both_rooms room x
 
 -- The mounts of a forest rise by their IDs, no two stand at one place and no two are roots of one namespace, the
 -- indexes answer of them, and each mount that is not as it was is noted.
@@ -42,3 +46,7 @@ pub record IsKeptForest (ms : List Mount) (x : Indexes) (since : List Mount) (no
   pub single : IsSingle ms
   pub indexed : IsIndexed ms x
   pub known : AreAlikeBut noted (mount_at since) (mount_at ms)
+
+-- The same where nothing is noted.
+abbrev pub IsFreshForest : List Mount → Indexes → Type 0
+IsFreshForest ms x = IsKeptForest ms x ms []

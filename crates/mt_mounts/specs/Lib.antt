@@ -7,5 +7,6 @@ pub mod TableView
 pub mod Slots
 pub mod Seats
 pub mod Stacks
+pub mod Notes
 pub mod Indexes
 pub mod Follow

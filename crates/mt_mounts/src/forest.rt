@@ -11,15 +11,16 @@ ghost use Rattle.mt_mounts.specs.ForestView.{with_attrs, with_place, without_id}
 
 use crate::indexes::Indexes;
 use crate::mount::{Attrs, Mount, MountId, Place, SpaceId, root_place};
+use crate::notes::{Note, Notes, places_for};
 use crate::stacks::Reach;
 use crate::table::Table;
 use mt_lists::earlier::Earlier;
-use mt_lists::log::Log;
 use mt_skel::fault::Fault;
 use std::alloc::Global;
 use std::marker::Model;
 
 mod follow;
+mod undo;
 
 /// The mounts of all namespaces, each under its ID.
 ///
@@ -36,14 +37,16 @@ mod follow;
 /// of their list, past those with higher IDs. No change takes memory except `reserve`, which `follow` calls.
 ///
 /// It notes the ID of each mount that comes, goes or is changed, so that [`touched`](Forest::touched) names all those
-/// that are not as they were at the last [`begin`](Forest::begin).
+/// that are not as they were at the last [`begin`](Forest::begin), and what each was, so that [`undo`](Forest::undo) can
+/// take all changes back.
 pub struct Forest {
     table: Table,
     indexes: Indexes,
-    log: Log,
+    notes: Notes,
     /// The mounts at the last `begin`, only for contracts: it has no bytes.
     since: Earlier<Table>,
-    /// For how many mounts the table and the indexes are known to have room.
+    /// For how many changes the table and the indexes are known to have room: each may need a place, and another one when
+    /// it is taken back, as when a mount moves.
     room: usize,
 }
 
@@ -58,11 +61,13 @@ impl Model for Forest {
 
     ghost coded = { forest_code mount.the_row.coded };
 
+    ghost use Rattle.std.specs.Prelude.{length};
     ghost use Rattle.mt_mounts.specs.Indexes.{IsKeptForest, IsCounted};
+    ghost use Rattle.mt_mounts.specs.Notes.{LeadBack};
 
-    ghost view = { λ f. record { mounts = f.table.mounts; since = earlier f.since.seen.items (λ t. t.mounts); room = min f.room f.log.room } };
+    ghost view = { λ f. record { mounts = f.table.mounts; since = earlier f.since.seen.items (λ t. t.mounts); room = min f.room f.notes.room } };
 
-    ghost invariant = { λ f. IsKeptForest f.table.mounts f.indexes (earlier f.since.seen.items (λ t. t.mounts)) f.log.ids × IsCounted f.room f.table.room f.indexes };
+    ghost invariant = { λ f. IsKeptForest f.table.mounts f.indexes (earlier f.since.seen.items (λ t. t.mounts)) f.notes.ids × IsCounted f.room (length f.notes.notes) f.table.room f.indexes × LeadBack f.notes.notes f.table.mounts (earlier f.since.seen.items (λ t. t.mounts)) };
 }
 
 impl Drop for Forest {
@@ -70,7 +75,7 @@ impl Drop for Forest {
         let Forest {
             table: _table,
             indexes: _indexes,
-            log: _log,
+            notes: _notes,
             since: _since,
             room: _room,
         } = self;
@@ -88,7 +93,7 @@ impl Forest {
             since: Earlier::of(&table),
             table,
             indexes: Indexes::new(alloc),
-            log: Log::new(alloc),
+            notes: Notes::new(alloc),
             room: 0,
         }
     }
@@ -105,7 +110,7 @@ impl Forest {
             since: Earlier::of(&table),
             table,
             indexes,
-            log: Log::new(self.allocator()),
+            notes: Notes::new(self.allocator()),
             room: 0,
         })
     }
@@ -116,7 +121,7 @@ impl Forest {
         ensures since { self.new.since ≡ self.old.mounts }
         ensures room { self.old.room ≤ self.new.room }
     {
-        self.log.clear();
+        self.notes.clear();
         self.since = Earlier::of(&self.table);
     }
 
@@ -125,10 +130,11 @@ impl Forest {
     pub fn touched(&self) -> &[MountId]
         ensures { AreAlikeBut result.now (mount_at self.now.since) (mount_at self.now.mounts) }
     {
-        self.log.ids()
+        self.notes.ids()
     }
 
-    /// Makes room for this many changes, each of one mount that comes, goes or is changed, and changes none.
+    /// Makes room for this many changes, each of one mount that comes, goes or is changed, and for taking them back, and
+    /// changes none.
     pub fn reserve(&mut self, additional: usize) -> Result<(), Fault>
         ensures room { OnOk result (additional ≤ self.new.room) }
         ensures memory { IsOkUnless result Fault.NoMemory }
@@ -137,11 +143,14 @@ impl Forest {
         ensures since { self.new.since ≡ self.old.since }
     {
         if self.room < additional {
-            self.table.reserve(additional)?;
-            self.indexes.reserve(additional)?;
-            self.room = self.table.room().min(self.indexes.room());
+            let noted = self.notes.len();
+            let places = places_for(additional, noted)?;
+            self.table.reserve(places)?;
+            self.indexes.reserve(places)?;
+            let room = self.table.room().min(self.indexes.room());
+            self.room = additional.max((room - noted) / 2);
         }
-        self.log.reserve(additional)?;
+        self.notes.reserve(additional)?;
         Ok(())
     }
 
@@ -186,7 +195,10 @@ impl Forest {
         let on_root = self.table.is_root(mount.place);
         self.indexes.insert(mount, on_root);
         self.table.insert(mount);
-        self.log.add(mount.id);
+        self.notes.add(Note {
+            id: mount.id,
+            before: None,
+        });
         self.room -= 1;
     }
 
@@ -200,7 +212,11 @@ impl Forest {
     {
         if let Some(mount) = self.table.remove(id) {
             self.indexes.remove(mount);
-            self.log.add(mount.id);
+            self.notes.add(Note {
+                id: mount.id,
+                before: Some(mount),
+            });
+            self.room -= 1;
         }
     }
 
@@ -213,8 +229,9 @@ impl Forest {
         ensures room { self.old.room ≤ self.new.room + 1 }
         ensures rising { IsTrue (rises id_of self.old.mounts) }
     {
-        self.table.set_attrs(id, attrs);
-        self.log.add(id);
+        let before = self.table.set_attrs(id, attrs);
+        self.notes.add(Note { id, before });
+        self.room -= 1;
     }
 
     /// Moves the mount with this ID, if it is there, to a place that is free. What is mounted on it
@@ -231,7 +248,10 @@ impl Forest {
             let on_root = self.table.is_root(Some(place));
             self.indexes.set_place(mount, place, on_root);
             self.table.set_place(id, place);
-            self.log.add(mount.id);
+            self.notes.add(Note {
+                id: mount.id,
+                before: Some(mount),
+            });
             self.room -= 1;
         }
     }

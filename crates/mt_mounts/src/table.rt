@@ -290,15 +290,22 @@ impl Table {
         false
     }
 
-    /// Gives the mount with this ID, if it is there, these attributes.
-    pub(crate) fn set_attrs(&mut self, id: MountId, attrs: Attrs)
+    /// Gives the mount with this ID, if it is there, these attributes, and answers what it was.
+    pub(crate) fn set_attrs(&mut self, id: MountId, attrs: Attrs) -> Option<Mount>
+        ensures before { result ≡ mount_at self.old.mounts id }
         ensures mounts { self.new.mounts ≡ with_attrs id attrs self.old.mounts }
         ensures room { self.old.room ≤ self.new.room }
     {
         if let Some(key) = self.keys.get(&id).copied() {
             if let Some(mount) = self.slots.get_mut(key) {
+                let before = *mount;
                 mount.attrs = attrs;
+                Some(before)
+            } else {
+                None
             }
+        } else {
+            None
         }
     }
 

@@ -75,7 +75,7 @@ impl Forest {
         ensures room { self.old.room ≤ self.new.room }
     {
         let renewed = self.table.renew(mount);
-        self.log.clear();
+        self.notes.clear();
         self.since = Earlier::of(&self.table);
         renewed
     }
@@ -88,7 +88,7 @@ impl Forest {
     {
         if let Some(mount) = self.table.remove(id) {
             self.indexes.remove(mount);
-            self.log.clear();
+            self.notes.clear();
             self.since = Earlier::of(&self.table);
         }
     }
@@ -136,7 +136,7 @@ impl Forest {
         let on_root = self.table.is_root(mount.place);
         self.indexes.insert(mount, on_root);
         self.table.insert(mount);
-        self.log.clear();
+        self.notes.clear();
         self.since = Earlier::of(&self.table);
         self.room -= 1;
     }

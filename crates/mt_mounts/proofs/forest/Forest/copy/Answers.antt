@@ -1,7 +1,8 @@
-use Rattle.std.proofs.Common.{ap, ◌∙◌, arith}
+use Rattle.std.proofs.Common.{[], refl, ap, ◌∙◌, arith}
 use Rattle.mt_lists.specs.Log.{earlier}
 use Rattle.mt_mounts.specs.Forest.{mount_at}
 use Rattle.mt_mounts.proofs.KeptLaws.{forest_same}
+use Rattle.mt_mounts.proofs.NoteLaws.{leads_none}
 use Rattle.mt_mounts.proofs.forest.Forest.copy.Goals as goal
 
 pub invariant_of-result : goal.invariant_of-result
@@ -9,4 +10,5 @@ invariant_of-result c = (
   forest_same _ _ _ _ _ c.self.invariant.0 _ _ _ c.in_ok-table.ensures.copy (c.in_ok-indexes.ensures.copy c.self.inside.table.mounts c.self.invariant.0.indexed)
       (λ q n. ap (λ l. mount_at l q) (ap (λ l. earlier l (λ t. t.mounts)) c.of.ensures ∙ c.in_ok-table.ensures.copy)),
   omega arith,
+  leads_none [] c.in_ok-table.field-0.mounts _ refl (ap (λ l. earlier l (λ t. t.mounts)) c.of.ensures),
 )

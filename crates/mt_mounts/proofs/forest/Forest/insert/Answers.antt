@@ -1,6 +1,8 @@
-use Rattle.std.proofs.Common.{None, refl, ap, inl, arith}
+use Rattle.std.proofs.Common.{Some, None, refl, ap, inl, arith}
 use Rattle.mt_mounts.proofs.IndexLaws.{rooted}
 use Rattle.mt_mounts.proofs.KeptLaws.{forest_put}
+use Rattle.mt_mounts.proofs.WrittenLaws.{put_written}
+use Rattle.mt_mounts.proofs.NoteLaws.{leads_noted}
 use Rattle.mt_mounts.proofs.forest.Forest.insert.Goals as goal
 
 pub invariant_of-self : goal.invariant_of-self
@@ -10,7 +12,8 @@ invariant_of-self c =
     let ms = c.self.inside.table.mounts in (
       forest_put ms _ _ _ _ f _ _ _ c.args.mount (rw e c.requires.free) (rw e c.requires.rootless) c.insert-2.ensures.mounts (inl (refl, c.add.ensures.ids))
           (c.insert.ensures.indexed ms f.rising f.single (rw e c.requires.absent) (rw e c.requires.free) f.indexed),
-      omega (arith, c.self.invariant.1, c.insert.ensures.room, c.insert-2.ensures.room),
+      omega (arith, c.self.invariant.1, c.insert.ensures.room, c.insert-2.ensures.room, c.add.ensures.len, ap (λ f. f.room) c.self.view_is, c.requires.room),
+      leads_noted _ ms _ c.self.invariant.2 f.rising f.single _ (Some c.args.mount) _ _ _ (rw e c.requires.absent) (put_written ms f.rising c.args.mount) c.insert-2.ensures.mounts c.add.ensures.notes,
     )
 
 pub insert-requires-clause-absent : goal.insert-requires-clause-absent

@@ -1,7 +1,8 @@
-use Rattle.std.proofs.Common.{None, ap, inr, arith}
+use Rattle.std.proofs.Common.{None, length, ap, inr, arith}
 use Rattle.mt_lists.specs.Log.{earlier}
 use Rattle.mt_mounts.proofs.IndexLaws.{rooted}
 use Rattle.mt_mounts.proofs.KeptLaws.{forest_put}
+use Rattle.mt_mounts.proofs.NoteLaws.{leads_none}
 use Rattle.mt_mounts.proofs.forest.Forest.put_in.Goals as goal
 
 pub invariant_of-self : goal.invariant_of-self
@@ -11,7 +12,8 @@ invariant_of-self c =
     let ms = c.self.inside.table.mounts in (
       forest_put ms _ _ _ _ f _ _ _ c.args.mount (rw e c.requires.free) (rw e c.requires.rootless) c.insert-2.ensures.mounts (inr (ap (λ l. earlier l (λ t. t.mounts)) c.of-self-inside.ensures))
           (c.insert.ensures.indexed ms f.rising f.single (rw e c.requires.absent) (rw e c.requires.free) f.indexed),
-      omega (arith, c.self.invariant.1, c.insert.ensures.room, c.insert-2.ensures.room),
+      omega (arith, c.self.invariant.1, c.insert.ensures.room, c.insert-2.ensures.room, ap length c.clear.ensures.notes, ap (λ f. f.room) c.self.view_is, c.requires.room),
+      leads_none _ _ _ c.clear.ensures.notes (ap (λ l. earlier l (λ t. t.mounts)) c.of-self-inside.ensures),
     )
 
 pub insert-requires-clause-absent : goal.insert-requires-clause-absent

@@ -1,4 +1,5 @@
 use Rattle.std.proofs.Common.{ap, ◌∙◌, sym}
+use Rattle.mt_mounts.specs.Forest.{mount_at}
 use Rattle.mt_mounts.specs.ForestView.{with_attrs}
 use Rattle.mt_mounts.proofs.SlotLaws.{rises_table}
 use Rattle.mt_mounts.proofs.WrittenLaws.{attrs_absent}
@@ -31,3 +32,18 @@ returns-in_default-clause-mounts c =
     ∙ attrs_absent _ (rises_table c.self.inside.slots) c.args.id
     (mount_keyed c.self.inside.slots c.self.inside.keys c.self.invariant.keyed c.args.id _ (sym c.get.ensures.value ∙ sym c.in_default.ensures)) c.args.attrs
     ∙ ap (with_attrs c.args.id c.args.attrs) e
+
+pub returns-in-Some-get_mut-clause-before : goal.returns-in-Some-get_mut-clause-before
+returns-in-Some-get_mut-clause-before c =
+    sym (mount_keyed c.self.inside.slots c.self.inside.keys c.self.invariant.keyed c.args.id _ (sym c.get.ensures.value ∙ sym c.in-Some.ensures) ∙ sym c.in-Some-get_mut.ensures.value)
+    ∙ ap (λ t. mount_at t.mounts c.args.id) c.self.view_is
+
+pub returns-in_default-get_mut-clause-before : goal.returns-in_default-get_mut-clause-before
+returns-in_default-get_mut-clause-before c =
+    sym (mount_keyed c.self.inside.slots c.self.inside.keys c.self.invariant.keyed c.args.id _ (sym c.get.ensures.value ∙ sym c.in-Some.ensures) ∙ sym c.in_default-get_mut.ensures.value)
+    ∙ ap (λ t. mount_at t.mounts c.args.id) c.self.view_is
+
+pub returns-in_default-clause-before : goal.returns-in_default-clause-before
+returns-in_default-clause-before c =
+    sym (mount_keyed c.self.inside.slots c.self.inside.keys c.self.invariant.keyed c.args.id _ (sym c.get.ensures.value ∙ sym c.in_default.ensures))
+    ∙ ap (λ t. mount_at t.mounts c.args.id) c.self.view_is
