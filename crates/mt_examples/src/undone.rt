@@ -8,15 +8,6 @@ use mt_skel::fault::Fault;
 use std::alloc::Global;
 use std::test::Fail;
 
-/// A world after these commands, of which nothing is noted.
-fn begun(alloc: Global, lines: &[u8]) -> Result<World, Fault> {
-    let commands = commands_of(alloc, lines)?;
-    let mut world = World::new(alloc);
-    do_all(&mut world, &commands)?;
-    world.begin();
-    Ok(world)
-}
-
 /// Whether two forests have the same mounts, and find them in the same ways.
 fn are_alike(left: &Forest, right: &Forest) -> Result<bool, Fault> {
     if left.mounts()?.as_slice() != right.mounts()?.as_slice() {
@@ -32,10 +23,13 @@ fn are_alike(left: &Forest, right: &Forest) -> Result<bool, Fault> {
 
 /// Whether other commands after the first ones change a forest, and it is as it was once they are taken back.
 fn are_undone(alloc: Global, first: &[u8], others: &[u8]) -> Result<bool, Fault> {
-    let commands = commands_of(alloc, others)?;
-    let before = begun(alloc, first)?;
-    let mut world = begun(alloc, first)?;
+    let commands = commands_of(alloc, first)?;
+    let others = commands_of(alloc, others)?;
+    let mut world = World::new(alloc);
     do_all(&mut world, &commands)?;
+    let before = world.copy()?;
+    world.begin();
+    do_all(&mut world, &others)?;
     if are_alike(&before.forest, &world.forest)? {
         return Ok(false);
     }
@@ -45,7 +39,8 @@ fn are_undone(alloc: Global, first: &[u8], others: &[u8]) -> Result<bool, Fault>
 
 #[test]
 fn changes_are_taken_back(rt: HostRuntime) -> Result<(), Fail> {
-    let first = b"mkfs a tmpfs none\nmkdir a /m\nmkdir a /n\nnewns a\nsetattr 1 / prop=shared\ncopyns 1\nmount 1 a /m\nmount 1 a /m\nmount 1 a /n";
+    let first =
+        b"mkfs a tmpfs none\nmkdir a /m\nmkdir a /n\nnewns a\nsetattr 1 / prop=shared\ncopyns 1\nmount 1 a /m\nmount 1 a /m\nmount 1 a /n";
     let cases: [&[u8]; 7] = [
         b"mount 1 a /m\nmount 1 a /m/n",
         b"umount 1 /m\numount 1 /m",
