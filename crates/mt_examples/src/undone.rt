@@ -40,15 +40,15 @@ fn are_undone(alloc: Global, first: &[u8], others: &[u8]) -> Result<bool, Fault>
 #[test]
 fn changes_are_taken_back(rt: HostRuntime) -> Result<(), Fail> {
     let first =
-        b"mkfs a tmpfs none\nmkdir a /m\nmkdir a /n\nnewns a\nsetattr 1 / prop=shared\ncopyns 1\nmount 1 a /m\nmount 1 a /m\nmount 1 a /n";
+        b"mkfs a tmpfs none\nmkdir a /m\nmkdir a /n\nnewns a\nsetattr 1 / prop=shared\ncopyns 1\nmount 1 a /m\nmount 1 a /m\nmount 1 a /n\nnewns a\nmount 3 a /m\nmount 3 a /n";
     let cases: [&[u8]; 7] = [
         b"mount 1 a /m\nmount 1 a /m/n",
         b"umount 1 /m\numount 1 /m",
-        b"setattr 1 / rec set=ro\nsetattr 1 /m clear=ro",
-        b"move 1 /n /m\nmove 1 /m /n",
+        b"setattr 1 / rec set=ro\nsetattr 1 /m clr=ro",
+        b"move 3 /n /m\nmove 3 /m /n",
         b"umount 2 /n\nmount 2 a /n\nsetattr 2 /n set=ro\numount 2 /n",
-        b"copyns 1\nbind 3 /m /n\numount 1 /m",
-        b"newns a\nmount 1 a /n\nsetattr 1 /n set=nodev\nmove 1 /n /m\numount 1 /m",
+        b"copyns 1\nbind 4 /m /n\numount 1 /m",
+        b"newns a\nmount 4 a /n\nsetattr 4 /n set=nodev\nmove 4 /n /m\numount 4 /m\nsetattr 3 / set=ro",
     ];
     for others in cases {
         let undone = are_undone(rt.alloc(), first, others)?;
