@@ -300,13 +300,11 @@ impl Table {
             if let Some(mount) = self.slots.get_mut(key) {
                 let before = *mount;
                 mount.attrs = attrs;
-                Some(before)
-            } else {
-                None
+                return Some(before);
             }
-        } else {
-            None
+            return None;
         }
+        None
     }
 
     /// Gives the mount with this ID, if it is there, this place. There is room as for one more mount.

@@ -18,15 +18,15 @@ returns-in-Some-get_mut-clause-mounts c =
     (sym c.get.ensures.value ∙ sym c.in-Some.ensures) (sym c.in-Some-get_mut.ensures.value) c.args.attrs
     ∙ ap (λ t. with_attrs c.args.id c.args.attrs t.mounts) c.self.view_is
 
-pub returns-in_default-get_mut-clause-mounts : goal.returns-in_default-get_mut-clause-mounts
-returns-in_default-get_mut-clause-mounts c =
+pub returns-in-Some-clause-mounts : goal.returns-in-Some-clause-mounts
+returns-in-Some-clause-mounts c =
     let e = ap (λ t. t.mounts) c.self.view_is in
     attrs_absent _ (rises_table c.self.inside.slots) c.args.id
     (mount_keyed c.self.inside.slots c.self.inside.keys c.self.invariant.keyed c.args.id _ (sym c.get.ensures.value ∙ sym c.in-Some.ensures) ∙ sym c.in_default-get_mut.ensures.value) c.args.attrs
     ∙ ap (with_attrs c.args.id c.args.attrs) e
 
-pub returns-in_default-clause-mounts : goal.returns-in_default-clause-mounts
-returns-in_default-clause-mounts c =
+pub returns-clause-mounts : goal.returns-clause-mounts
+returns-clause-mounts c =
     let e = ap (λ t. t.mounts) c.self.view_is in
     sym e
     ∙ attrs_absent _ (rises_table c.self.inside.slots) c.args.id
@@ -38,12 +38,12 @@ returns-in-Some-get_mut-clause-before c =
     sym (mount_keyed c.self.inside.slots c.self.inside.keys c.self.invariant.keyed c.args.id _ (sym c.get.ensures.value ∙ sym c.in-Some.ensures) ∙ sym c.in-Some-get_mut.ensures.value)
     ∙ ap (λ t. mount_at t.mounts c.args.id) c.self.view_is
 
-pub returns-in_default-get_mut-clause-before : goal.returns-in_default-get_mut-clause-before
-returns-in_default-get_mut-clause-before c =
+pub returns-in-Some-clause-before : goal.returns-in-Some-clause-before
+returns-in-Some-clause-before c =
     sym (mount_keyed c.self.inside.slots c.self.inside.keys c.self.invariant.keyed c.args.id _ (sym c.get.ensures.value ∙ sym c.in-Some.ensures) ∙ sym c.in_default-get_mut.ensures.value)
     ∙ ap (λ t. mount_at t.mounts c.args.id) c.self.view_is
 
-pub returns-in_default-clause-before : goal.returns-in_default-clause-before
-returns-in_default-clause-before c =
+pub returns-clause-before : goal.returns-clause-before
+returns-clause-before c =
     sym (mount_keyed c.self.inside.slots c.self.inside.keys c.self.invariant.keyed c.args.id _ (sym c.get.ensures.value ∙ sym c.in_default.ensures))
     ∙ ap (λ t. mount_at t.mounts c.args.id) c.self.view_is
