@@ -45,7 +45,7 @@ fn changes_are_taken_back(rt: HostRuntime) -> Result<(), Fail> {
         b"mount 1 a /m\nmount 1 a /m/n",
         b"umount 1 /m\numount 1 /m",
         b"setattr 1 / rec set=ro\nsetattr 1 /m clr=ro",
-        b"move 3 /n /m\nmove 3 /m /n",
+        b"move 3 /n /m\nsetattr 3 /m set=ro\nmove 3 /m /n",
         b"umount 2 /n\nmount 2 a /n\nsetattr 2 /n set=ro\numount 2 /n",
         b"copyns 1\nbind 4 /m /n\numount 1 /m",
         b"newns a\nmount 4 a /n\nsetattr 4 /n set=nodev\nmove 4 /n /m\numount 4 /m\nsetattr 3 / set=ro",
