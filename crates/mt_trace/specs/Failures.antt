@@ -13,5 +13,5 @@ is_failed outcome.Unknown = false
 
 -- the world and the processes are as they were
 pub record IsStill (before after : TraceState) : Type 0 where
-  pub world : after.stage ≡ before.stage
+  pub world : after.scene.world ≡ before.scene.world
   pub processes : after.processes ≡ before.processes

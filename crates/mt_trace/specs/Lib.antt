@@ -11,11 +11,14 @@ pub mod Joining
 pub mod Laws
 pub mod OpenFiles
 pub mod Stages
+pub mod Scripts
+pub mod Scenes
 pub mod Standings
 pub mod Walks
 pub mod Failures
 pub mod Texts
 pub mod Players
+pub mod PlayedScripts
 pub mod Counting
 pub mod Telling
 pub mod PlayedLines

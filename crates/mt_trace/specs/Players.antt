@@ -29,7 +29,7 @@ no_counts = record { played = 0; told = 0; differing = 0; failed = 0; elsewhere 
 pub record IsNewPlayer (w : WorldView) (telling : TraceForm) (leaks_alone : Bool) (p : PlayerView) : Type 0 where
   pub form : p.form ≡ telling
   pub only_leaks : p.only_leaks ≡ leaks_alone
-  pub world : p.state.stage ≡ w
+  pub world : p.state.scene.world ≡ w
   pub waiting : p.waiting ≡ []
   pub early : p.early ≡ []
   pub tally : p.tally ≡ no_counts

@@ -2,12 +2,10 @@
 
 use crate::spaces::Spaces;
 use crate::stage_changes::SpaceChange;
-use mt_book::command::Command;
 use mt_info::print::push_number;
 use mt_lines::words::Pieces;
 use mt_mounts::mount::SpaceId;
 use mt_render::telling::{Telling, told_as};
-use mt_requests::print::push_command;
 use std::alloc::{AllocError, Global};
 
 /// How calls are told.
@@ -43,7 +41,7 @@ pub struct Caller {
     pub marks: bool,
 }
 
-/// What is told of a call while it is played: what it changes, what is noted of it, and its commands.
+/// What is told of a call while it is played: what it changes, and what is noted of it.
 #[derive(Drop)]
 pub struct Account {
     alloc: Global,
@@ -51,7 +49,6 @@ pub struct Account {
     caller: Caller,
     changes: Vec<u8>,
     notes: Vec<Vec<u8>>,
-    commands: Vec<u8>,
     elsewhere: u64,
 }
 
@@ -64,7 +61,6 @@ impl Account {
             caller,
             changes: Vec::new(alloc),
             notes: Vec::new(alloc),
-            commands: Vec::new(alloc),
             elsewhere: 0,
         }
     }
@@ -77,11 +73,6 @@ impl Account {
     /// What is noted of it.
     pub fn notes(&self) -> &[Vec<u8>] {
         self.notes.as_slice()
-    }
-
-    /// The lines of its commands.
-    pub fn commands(&self) -> &[u8] {
-        self.commands.as_slice()
     }
 
     /// How many mounts of other namespaces it changes.
@@ -103,15 +94,6 @@ impl Account {
         Ok(())
     }
 
-    /// Enters a command that is done.
-    pub fn enter(&mut self, command: &Command) -> Result<(), AllocError> {
-        if self.form == TraceForm::Script {
-            push_command(&mut self.commands, command)?;
-            self.commands.push(b'\n')?;
-        }
-        Ok(())
-    }
-
     /// Whether a change in a namespace is one elsewhere.
     fn is_elsewhere(&self, space: SpaceId, spaces: &Spaces) -> bool {
         self.caller.marks && space != self.caller.space && !spaces.trees().contains(&space)
@@ -119,7 +101,7 @@ impl Account {
 
     /// Enters what a command changes in a namespace. One that the call itself has made is left out, and one that stands for a peer group of
     /// which no table has a member.
-    pub fn enter_change(
+    fn enter_change(
         &mut self,
         change: &SpaceChange,
         spaces: &Spaces,
@@ -139,6 +121,18 @@ impl Account {
             TraceForm::Json => self.push_objects(change, name, is_elsewhere),
             TraceForm::Script => Ok(()),
         }
+    }
+
+    /// Enters what a command changes in each namespace.
+    pub fn enter_changes(
+        &mut self,
+        changes: &[SpaceChange],
+        spaces: &Spaces,
+    ) -> Result<(), AllocError> {
+        for change in changes {
+            self.enter_change(change, spaces)?;
+        }
+        Ok(())
     }
 
     /// Appends the lines of a change in words, each behind a sign where it is elsewhere.

@@ -1,4 +1,5 @@
 //! Calls that failed: what the model would say to them.
+ghost use Rattle.std.specs.Prelude.{◌≡◌};
 ghost use Rattle.mt_trace.specs.Failures.{IsStill};
 
 use crate::mount_flags::MountOperation;
@@ -65,7 +66,7 @@ fn both(first: Vec<Command>, second: Vec<Command>) -> Result<Vec<Command>, Halt>
 impl TraceState {
     /// What a path of a call leads to that failed; its directories are there if the call shows it.
     fn path_asked(&self, standing: &Standing, are_there: bool) -> Result<PathAsked, Halt> {
-        let standing = settled_standing(self.stage.world(), standing)?;
+        let standing = settled_standing(self.scene.world(), standing)?;
         let directories = if are_there {
             self.directories_missing(&standing)?
         } else {
@@ -167,10 +168,10 @@ impl TraceState {
         detaches: bool,
         are_there: bool,
     ) -> Result<Asked, Halt> {
-        let standing = settled_standing(self.stage.world(), standing)?;
+        let standing = settled_standing(self.scene.world(), standing)?;
         let topped = self.lookup(0).topped(standing);
         if detaches && topped.is_made() {
-            let (space, path) = path_to_stack(self.stage.world(), topped.place)?;
+            let (space, path) = path_to_stack(self.scene.world(), topped.place)?;
             return Ok(Asked {
                 directories: Vec::new(self.alloc),
                 command: Command::Detach { space, path },
@@ -257,8 +258,9 @@ impl TraceState {
     /// Notes what the model answers of a call that failed with an error.
     fn note_answer(&mut self, asked: &Asked, error: &[u8]) -> Result<(), Halt>
         ensures still { IsStill self.old self.new }
+        ensures start { self.new.scene.start ≡ self.old.scene.start }
     {
-        match self.stage.ask(&asked.directories, &asked.command)? {
+        match self.scene.ask(&asked.directories, &asked.command)? {
             None => {
                 let words = b"the model would do it: it does not know the reason of ";
                 self.account.note_of(words, error)?;
@@ -282,6 +284,7 @@ impl TraceState {
         error: &[u8],
     ) -> Result<(), Halt>
         ensures still { IsStill self.old self.new }
+        ensures start { self.new.scene.start ≡ self.old.scene.start }
     {
         if error == b"ENOTDIR".as_slice() {
             self.account

@@ -1,6 +1,7 @@
 //! Processes that calls make, which begin before the line that has the end of the call, or at it.
 ghost use Rattle.std.specs.Prelude.{◌≡◌, ◌==◌, not, filter, OnOk};
 ghost use Rattle.mt_trace.specs.Counting.{IsTallied, Once, counting_if, clone_counting, IsChildCounted, early_without};
+ghost use Rattle.mt_trace.specs.PlayedScripts.{IsScripted, IsScriptedCall};
 ghost use Rattle.mt_trace.specs.Players.{player_view, IsSameSetting};
 ghost use Rattle.mt_trace.specs.Telling.{IsAppended, IsCallTold, is_told_of};
 ghost use Rattle.mt_trace.specs.ToldPaths.{child_of};
@@ -28,7 +29,9 @@ impl TraceState {
         process: u64,
         of: &CallResult<'_>,
         child: u64,
-    ) -> Result<(), AllocError> {
+    ) -> Result<(), AllocError>
+        ensures scene { self.new.scene ≡ self.old.scene }
+    {
         let space = self.process_spaces(process).process;
         match of {
             CallResult::Returned {
@@ -62,6 +65,7 @@ impl Player {
         ensures counted { OnOk result (IsTallied (counting_if words.mount Once) self.old.tally self.new.tally) }
         ensures early { self.new.early.items ≡ self.old.early.items }
         ensures waiting { self.new.beginnings ≡ self.old.beginnings }
+        ensures script { OnOk result (IsScriptedCall (player_view self.old) (player_view self.new) out.old.items out.new.items) }
     {
         let played = self.state.spawn(origin.process, child, words);
         if !words.mount {
@@ -84,6 +88,7 @@ impl Player {
         ensures counted { OnOk result (IsTallied (clone_counting words.mount (child_of call.now.result) self.old.early.items) self.old.tally self.new.tally) }
         ensures early { OnOk result (self.new.early.items ≡ early_without (child_of call.now.result) self.old.early.items) }
         ensures waiting { self.new.beginnings ≡ self.old.beginnings }
+        ensures script { OnOk result (IsScriptedCall (player_view self.old) (player_view self.new) out.old.items out.new.items) }
     {
         let Some(child) = child_of(&call.result) else {
             if words.mount {
@@ -112,6 +117,7 @@ impl Player {
         ensures text { OnOk result (IsAppended out.old.items out.new.items) }
         ensures settings { IsSameSetting (player_view self.old) (player_view self.new) }
         ensures waiting { self.new.beginnings ≡ self.old.beginnings }
+        ensures script { OnOk result (IsScripted (player_view self.old) (player_view self.new) out.old.items out.new.items) }
     {
         if self.state.processes.has(process) {
             return Ok(());
@@ -137,6 +143,7 @@ impl Player {
         ensures text { OnOk result (IsAppended out.old.items out.new.items) }
         ensures settings { IsSameSetting (player_view self.old) (player_view self.new) }
         ensures waiting { self.new.beginnings ≡ self.old.beginnings }
+        ensures script { OnOk result (IsScripted (player_view self.old) (player_view self.new) out.old.items out.new.items) }
     {
         if !self.state.processes.has(parent) {
             return Ok(());

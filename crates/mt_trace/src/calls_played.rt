@@ -3,6 +3,7 @@ ghost use Rattle.std.specs.Prelude.{◌≡◌, true, OnOk};
 ghost use Rattle.mt_trace.specs.declared.written.CallOutcome.TheVariants as outcome;
 ghost use Rattle.mt_trace.specs.Counting.{Uncounted, As, Once, IsTallied, counting_if, done_counting, unknown_counting, call_counting, is_loud, is_told_name, early_after_done, early_after_call};
 ghost use Rattle.mt_trace.specs.Failures.{is_failed, IsStill};
+ghost use Rattle.mt_trace.specs.PlayedScripts.{IsScripted, IsScriptedCall};
 ghost use Rattle.mt_trace.specs.Players.{player_view, IsSameSetting};
 ghost use Rattle.mt_trace.specs.Telling.{IsAppended, IsCallTold, is_told_of, call_origin};
 ghost use Rattle.mt_trace.specs.ToldPaths.{child_of};
@@ -89,6 +90,7 @@ impl Player {
         ensures early { self.new.early.items ≡ self.old.early.items }
         ensures waiting { self.new.beginnings ≡ self.old.beginnings }
         ensures settings { IsSameSetting (player_view self.old) (player_view self.new) }
+        ensures script { OnOk result (IsScriptedCall (player_view self.old) (player_view self.new) out.old.items out.new.items) }
     {
         if !is_loud(asked) {
             return Ok(());
@@ -114,6 +116,7 @@ impl Player {
         ensures early { OnOk result (self.new.early.items ≡ early_after_done asked.now (child_of call.now.result) self.old.early.items) }
         ensures waiting { self.new.beginnings ≡ self.old.beginnings }
         ensures settings { IsSameSetting (player_view self.old) (player_view self.new) }
+        ensures script { OnOk result (IsScriptedCall (player_view self.old) (player_view self.new) out.old.items out.new.items) }
     {
         match asked {
             SystemCall::Clone(words) => self.play_clone(origin, call, *words, out),
@@ -136,6 +139,7 @@ impl Player {
         ensures early { self.new.early.items ≡ self.old.early.items }
         ensures waiting { self.new.beginnings ≡ self.old.beginnings }
         ensures settings { IsSameSetting (player_view self.old) (player_view self.new) }
+        ensures script { OnOk result (IsScriptedCall (player_view self.old) (player_view self.new) out.old.items out.new.items) }
     {
         let again = match asked {
             SystemCall::PivotRoot { .. } => is_named_again(self.alloc, ahead, origin.process)?,
@@ -161,6 +165,7 @@ impl Player {
         ensures early { self.new.early.items ≡ self.old.early.items }
         ensures waiting { self.new.beginnings ≡ self.old.beginnings }
         ensures settings { IsSameSetting (player_view self.old) (player_view self.new) }
+        ensures script { OnOk result (IsScriptedCall (player_view self.old) (player_view self.new) out.old.items out.new.items) }
     {
         if let CallResult::Returned { .. } = &call.result {
             let played = self
@@ -187,6 +192,7 @@ impl Player {
         ensures early { self.new.early.items ≡ self.old.early.items }
         ensures waiting { self.new.beginnings ≡ self.old.beginnings }
         ensures settings { IsSameSetting (player_view self.old) (player_view self.new) }
+        ensures script { OnOk result (IsScriptedCall (player_view self.old) (player_view self.new) out.old.items out.new.items) }
     {
         match call_named(call.name.bytes()) {
             Some(name) if is_told(name) => {
@@ -211,6 +217,7 @@ impl Player {
         ensures early { OnOk result (self.new.early.items ≡ early_after_call call.now self.old.early.items) }
         ensures waiting { self.new.beginnings ≡ self.old.beginnings }
         ensures settings { IsSameSetting (player_view self.old) (player_view self.new) }
+        ensures script { OnOk result (IsScripted (player_view self.old) (player_view self.new) out.old.items out.new.items) }
     {
         let origin = CallOrigin {
             line: number,

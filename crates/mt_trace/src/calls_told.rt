@@ -2,7 +2,9 @@
 ghost use Rattle.std.specs.Prelude.{◌≡◌, not, IfOk, OnOk};
 ghost use Rattle.mt_trace.specs.Counting.{tallied, outcome_of, KeepsCounts};
 ghost use Rattle.mt_trace.specs.Failures.{IsStill};
+ghost use Rattle.mt_trace.specs.PlayedScripts.{IsScriptTold};
 ghost use Rattle.mt_trace.specs.Players.{player_view};
+ghost use Rattle.mt_trace.specs.Scenes.{IsUnchangedIf};
 ghost use Rattle.mt_trace.specs.Telling.{IsAppended, IsTextTold};
 ghost use Rattle.mt_trace.specs.Texts.{call_told};
 
@@ -18,11 +20,13 @@ impl TraceState {
     /// Begins to tell a call.
     pub(crate) fn begin_account(&mut self, form: TraceForm, origin: CallOrigin, marks: bool)
         ensures still { IsStill self.old self.new }
+        ensures start { self.new.scene ≡ record { start = record { form = form; world = self.old.scene.world }; world = self.old.scene.world } }
     {
+        self.scene.begin(form);
         let caller = Caller {
             line: origin.line,
             space: self.process_spaces(origin.process).mount,
-            next_space: self.stage.world().next_space,
+            next_space: self.scene.world().next_space,
             marks,
         };
         self.account = Account::new(self.alloc, form, caller);
@@ -32,6 +36,7 @@ impl TraceState {
     pub(crate) fn outcome_of(&mut self, played: Result<(), Halt>) -> Result<CallOutcome, AllocError>
         ensures still { IsStill self.old self.new }
         ensures outcome { IfOk result (λ outcome. outcome ≡ outcome_of played) }
+        ensures start { self.new.scene.start ≡ self.old.scene.start }
     {
         match played {
             Ok(()) => Ok(CallOutcome::Played),
@@ -48,10 +53,19 @@ impl TraceState {
         }
     }
 
+    /// Whether no command of a call is told.
+    fn has_no_commands(&self) -> bool
+        ensures { IsUnchangedIf result self.now.scene }
+    {
+        self.scene.commands().is_empty()
+    }
+
     /// Whether nothing is to be told of a call.
-    fn tells_nothing(&self) -> bool {
-        self.account.changes().is_empty()
-            && self.account.commands().is_empty()
+    fn tells_nothing(&self) -> bool
+        ensures { IsUnchangedIf result self.now.scene }
+    {
+        self.has_no_commands()
+            && self.account.changes().is_empty()
             && self.account.notes().is_empty()
     }
 }
@@ -83,13 +97,15 @@ impl Player {
     ) -> Result<(), AllocError>
         ensures told { KeepsCounts (player_view self.old) (player_view self.new) }
         ensures text { OnOk result (IsTextTold (not self.old.only_leaks) self.old.form origin said.now outcome out.old.items out.new.items) }
+        ensures script { OnOk result (IsScriptTold (player_view self.old) out.old.items out.new.items) }
     {
         let elsewhere = self.state.account.elsewhere();
         self.tally.elsewhere = self.tally.elsewhere.saturating_add(elsewhere);
         if self.only_leaks && elsewhere == 0 && outcome != CallOutcome::Differing {
             return Ok(());
         }
-        push_account(out, self.form, origin, &self.state.account, said, outcome)
+        let commands = self.state.scene.commands();
+        push_account(out, self.form, origin, &self.state.account, commands, said, outcome)
     }
 
     /// Tells and counts a call that is always told.
@@ -102,6 +118,7 @@ impl Player {
     ) -> Result<(), AllocError>
         ensures told { KeepsCounts (record (player_view self.old) { tally = tallied outcome self.old.tally }) (player_view self.new) }
         ensures text { OnOk result (IsTextTold (not self.old.only_leaks) self.old.form origin (call_told call.now) outcome out.old.items out.new.items) }
+        ensures script { OnOk result (IsScriptTold (player_view self.old) out.old.items out.new.items) }
     {
         self.count(outcome);
         let said = call_written(self.alloc, call)?;
@@ -117,6 +134,7 @@ impl Player {
     ) -> Result<(), AllocError>
         ensures told { KeepsCounts (player_view self.old) (player_view self.new) }
         ensures text { OnOk result (IsAppended out.old.items out.new.items) }
+        ensures script { OnOk result (IsScriptTold (player_view self.old) out.old.items out.new.items) }
     {
         if self.state.tells_nothing() {
             return Ok(());
@@ -130,7 +148,7 @@ pub(crate) fn call_written_if(
     state: &TraceState,
     call: &TracedCall<'_>,
 ) -> Result<Vec<u8>, AllocError> {
-    if state.account.changes().is_empty() && state.account.commands().is_empty() {
+    if state.account.changes().is_empty() && state.has_no_commands() {
         return Ok(Vec::new(state.alloc));
     }
     call_written(state.alloc, call)

@@ -4,6 +4,7 @@ ghost use Rattle.mt_strace.specs.Lines.{strace_line_of};
 ghost use Rattle.mt_trace.specs.Counting.{IsUncounted, IsTallied, line_counting, early_after_read, ender_of, beginner_of, line_ended, line_trouble, read_trouble, bad_if, bad_counted, IsBeginnerCounted};
 ghost use Rattle.mt_trace.specs.Joining.{joined_line};
 ghost use Rattle.mt_trace.specs.PlayedLines.{IsLinePlayed};
+ghost use Rattle.mt_trace.specs.PlayedScripts.{IsScripted};
 ghost use Rattle.mt_trace.specs.Players.{player_view, IsSameSetting};
 ghost use Rattle.mt_trace.specs.Telling.{IsAppended, IsLineTold};
 
@@ -57,6 +58,7 @@ impl Player {
         ensures early { self.new.early.items ≡ self.old.early.items }
         ensures waiting { self.new.beginnings ≡ self.old.beginnings }
         ensures settings { IsSameSetting (player_view self.old) (player_view self.new) }
+        ensures script { OnOk result (IsScripted (player_view self.old) (player_view self.new) out.old.items out.new.items) }
     {
         let origin = CallOrigin {
             line: number,
@@ -83,6 +85,7 @@ impl Player {
         ensures early { OnOk result (self.new.early.items ≡ early_after_read (line_ended line.now joined) self.old.early.items) }
         ensures waiting { self.new.beginnings ≡ self.old.beginnings }
         ensures settings { IsSameSetting (player_view self.old) (player_view self.new) }
+        ensures script { OnOk result (IsScripted (player_view self.old) (player_view self.new) out.old.items out.new.items) }
     {
         match joined {
             JoinedLine::Whole => self.play_whole(number, line, ahead, out),
@@ -114,6 +117,7 @@ impl Player {
         ensures early { OnOk result (self.new.early.items ≡ early_after_read line.now self.old.early.items) }
         ensures waiting { self.new.beginnings ≡ self.old.beginnings }
         ensures settings { IsSameSetting (player_view self.old) (player_view self.new) }
+        ensures script { OnOk result (IsScripted (player_view self.old) (player_view self.new) out.old.items out.new.items) }
     {
         match line {
             StraceLine::Call(call) => {
@@ -137,6 +141,7 @@ impl Player {
         ensures early { self.new.early.items ≡ self.old.early.items }
         ensures waiting { self.new.beginnings ≡ self.old.beginnings }
         ensures settings { IsSameSetting (player_view self.old) (player_view self.new) }
+        ensures script { OnOk result (IsScripted (player_view self.old) (player_view self.new) out.old.items out.new.items) }
     {
         match line {
             StraceLine::Exited { process } => self.play_end(number, process.unwrap_or(0), out),
@@ -159,6 +164,7 @@ impl Player {
         ensures trouble { IfOk result (λ trouble. trouble ≡ line_trouble (strace_line_of line.now) (joined_line (strace_line_of line.now) (player_view self.old).waiting).0) }
         ensures waiting { OnOk result ((player_view self.new).waiting ≡ (joined_line (strace_line_of line.now) (player_view self.old).waiting).1) }
         ensures counted { OnOk result (IsLinePlayed number (strace_line_of line.now) (player_view self.old) (player_view self.new) out.old.items out.new.items) }
+        ensures script { OnOk result (IsScripted (player_view self.old) (player_view self.new) out.old.items out.new.items) }
     {
         let read = read_strace_line(line);
         let joined = self.beginnings.join(&read)?;
@@ -180,6 +186,7 @@ impl Player {
         ensures text { OnOk result (IsAppended out.old.items out.new.items) }
         ensures waiting { self.new.beginnings ≡ self.old.beginnings }
         ensures settings { IsSameSetting (player_view self.old) (player_view self.new) }
+        ensures script { OnOk result (IsScripted (player_view self.old) (player_view self.new) out.old.items out.new.items) }
     {
         match beginner_of(read) {
             Some(process) => self.adopt(number, process, ahead, out),
@@ -207,6 +214,7 @@ impl Player {
     pub fn take_unfinished(&mut self) -> Option<(u64, CallText)>
         ensures some { IfSome result (λ first. ((player_view self.old).waiting ≡ first ∷ (player_view self.new).waiting) × ((player_view self.new).tally ≡ bad_counted (player_view self.old).tally)) }
         ensures none { IfNone result (((player_view self.old).waiting ≡ []) × ((player_view self.new).tally ≡ (player_view self.old).tally)) }
+        ensures world { (player_view self.new).state ≡ (player_view self.old).state }
     {
         let found = self.beginnings.take_any();
         if found.is_some() {

@@ -13,8 +13,8 @@ use crate::player::Player;
 use crate::process_spaces::SpaceKind;
 use crate::processes::Processes;
 use crate::spaces::Spaces;
+use crate::scene::Scene;
 use crate::spots::space_root;
-use crate::stage::Stage;
 use crate::standing::{Reached, Standing};
 use crate::tally::Tally;
 use crate::told::Halt;
@@ -97,7 +97,7 @@ impl Player {
             only_leaks,
             state: TraceState {
                 alloc,
-                stage: Stage::new(alloc, opening.world)?,
+                scene: Scene::new(alloc, form, opening.world)?,
                 processes,
                 spaces,
                 filesystems,
@@ -132,7 +132,7 @@ impl TraceState {
     /// The same, or why the path is not known.
     fn try_link(&mut self, path: &[u8], target: &[u8]) -> Result<(), Halt> {
         self.meet(NO_PROCESS)?;
-        let Some(place) = space_root(self.stage.world(), 1) else {
+        let Some(place) = space_root(self.scene.world(), 1) else {
             return Ok(());
         };
         let start = Reached::Standing(Standing::at(self.alloc, place));

@@ -42,10 +42,10 @@ impl Drop for Player {
 impl Player {
     /// The world after what was played.
     pub fn world(&self) -> &World
-        ensures world { world_view result.now ≡ (player_view self.now).state.stage }
+        ensures world { world_view result.now ≡ (player_view self.now).state.scene.world }
         ensures well_formed { IsWellFormed (world_view result.now) }
     {
-        self.state.stage.world()
+        self.state.scene.world()
     }
 
     /// The number of the namespace of mounts of a process that was met.

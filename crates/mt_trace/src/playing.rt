@@ -26,7 +26,9 @@ impl TraceState {
         asked: &SystemCall<'_>,
         of: &CallResult<'_>,
         is_named_again: bool,
-    ) -> Result<(), Halt> {
+    ) -> Result<(), Halt>
+        ensures start { self.new.scene.start ≡ self.old.scene.start }
+    {
         let CallResult::Returned {
             value,
             path,
@@ -46,7 +48,9 @@ impl TraceState {
     }
 
     /// Notes the current directory of a process, if it was not known and strace tells it with a call.
-    fn learn_all(&mut self, process: u64, asked: &SystemCall<'_>) -> Result<(), Halt> {
+    fn learn_all(&mut self, process: u64, asked: &SystemCall<'_>) -> Result<(), Halt>
+        ensures start { self.new.scene.start ≡ self.old.scene.start }
+    {
         match asked {
             SystemCall::MountSetattr { at, .. }
             | SystemCall::OpenTree { at, .. }
@@ -69,7 +73,9 @@ impl TraceState {
         asked: &SystemCall<'_>,
         returned: ReturnedPath<'_, '_>,
         is_named_again: bool,
-    ) -> Result<(), Halt> {
+    ) -> Result<(), Halt>
+        ensures start { self.new.scene.start ≡ self.old.scene.start }
+    {
         match asked {
             SystemCall::Mount {
                 source,
@@ -107,7 +113,9 @@ impl TraceState {
         process: u64,
         asked: &SystemCall<'_>,
         returned: ReturnedPath<'_, '_>,
-    ) -> Result<(), Halt> {
+    ) -> Result<(), Halt>
+        ensures start { self.new.scene.start ≡ self.old.scene.start }
+    {
         match asked {
             SystemCall::OpenTree { at, path, words } => {
                 self.open_tree(process, at, path, *words, returned.value)
@@ -141,7 +149,9 @@ impl TraceState {
         process: u64,
         asked: &SystemCall<'_>,
         returned: ReturnedPath<'_, '_>,
-    ) -> Result<(), Halt> {
+    ) -> Result<(), Halt>
+        ensures start { self.new.scene.start ≡ self.old.scene.start }
+    {
         match asked {
             SystemCall::Unshare(words) => self.unshare(process, *words),
             SystemCall::Setns {
@@ -164,7 +174,9 @@ impl TraceState {
         process: u64,
         asked: &SystemCall<'_>,
         returned: ReturnedPath<'_, '_>,
-    ) -> Result<(), Halt> {
+    ) -> Result<(), Halt>
+        ensures start { self.new.scene.start ≡ self.old.scene.start }
+    {
         match asked {
             SystemCall::Open { at, path, words } => {
                 let Some(value) = returned.value else {

@@ -1,4 +1,5 @@
 //! Calls that open, copy and close descriptors, and those that name symbolic links.
+ghost use Rattle.std.specs.Prelude.{◌≡◌};
 
 use crate::call_flags::OpenWords;
 use crate::open_files::Opened;
@@ -47,7 +48,9 @@ impl TraceState {
         path: &StringArgument<'_>,
         words: OpenWords,
         returned: Returned<'_, '_>,
-    ) -> Result<(), Halt> {
+    ) -> Result<(), Halt>
+        ensures start { self.new.scene.start ≡ self.old.scene.start }
+    {
         let walked = if words.in_root {
             None
         } else {
@@ -67,7 +70,9 @@ impl TraceState {
         descriptor: u64,
         reached: Option<Reached>,
         closes_on_exec: bool,
-    ) -> Result<(), Halt> {
+    ) -> Result<(), Halt>
+        ensures start { self.new.scene.start ≡ self.old.scene.start }
+    {
         match reached {
             Some(reached) => {
                 let opened = Opened {
@@ -90,7 +95,9 @@ impl TraceState {
         walked: Option<Reached>,
         told: &Excerpt<'_>,
         is_deleted: bool,
-    ) -> Result<Option<Reached>, Halt> {
+    ) -> Result<Option<Reached>, Halt>
+        ensures start { self.new.scene.start ≡ self.old.scene.start }
+    {
         match told_path(told.bytes()) {
             ToldPath::Other => Ok(None),
             ToldPath::Space(kind, n) => {
@@ -148,10 +155,10 @@ impl TraceState {
 
     /// Whether a standing is below the folder of a process in a proc filesystem.
     fn is_own_process(&self, standing: &Standing) -> Result<bool, Halt> {
-        if !is_of_kind(self.stage.world(), standing.place.mount, b"proc") {
+        if !is_of_kind(self.scene.world(), standing.place.mount, b"proc") {
             return Ok(false);
         }
-        let Some(inside) = names_inside(self.stage.world(), standing)? else {
+        let Some(inside) = names_inside(self.scene.world(), standing)? else {
             return Ok(false);
         };
         match inside.text() {
@@ -161,7 +168,9 @@ impl TraceState {
     }
 
     /// close(2).
-    pub(crate) fn close(&mut self, process: u64, at: &Descriptor<'_>) -> Result<(), Halt> {
+    pub(crate) fn close(&mut self, process: u64, at: &Descriptor<'_>) -> Result<(), Halt>
+        ensures start { self.new.scene.start ≡ self.old.scene.start }
+    {
         if let DescriptorNumber::Open(n) = at.number {
             self.processes.close(process, n);
             self.end_trees()?;
@@ -177,7 +186,9 @@ impl TraceState {
         last: &Descriptor<'_>,
         unshares: bool,
         closes_on_exec: bool,
-    ) -> Result<(), Halt> {
+    ) -> Result<(), Halt>
+        ensures start { self.new.scene.start ≡ self.old.scene.start }
+    {
         if unshares {
             self.processes.own_files(process)?;
         }
@@ -202,7 +213,9 @@ impl TraceState {
         at: &Descriptor<'_>,
         copy: u64,
         closes_on_exec: bool,
-    ) -> Result<(), Halt> {
+    ) -> Result<(), Halt>
+        ensures start { self.new.scene.start ≡ self.old.scene.start }
+    {
         let DescriptorNumber::Open(n) = at.number else {
             return Ok(());
         };
@@ -214,7 +227,9 @@ impl TraceState {
     }
 
     /// fcntl(2), F_SETFD.
-    pub(crate) fn set_closing(&mut self, process: u64, at: &Descriptor<'_>, closes_on_exec: bool) {
+    pub(crate) fn set_closing(&mut self, process: u64, at: &Descriptor<'_>, closes_on_exec: bool)
+        ensures start { self.new.scene.start ≡ self.old.scene.start }
+    {
         if let DescriptorNumber::Open(n) = at.number {
             self.processes.set_closing(process, n, n, closes_on_exec);
         }
@@ -227,7 +242,9 @@ impl TraceState {
         at: &Descriptor<'_>,
         path: &StringArgument<'_>,
         target: &StringArgument<'_>,
-    ) -> Result<(), Halt> {
+    ) -> Result<(), Halt>
+        ensures start { self.new.scene.start ≡ self.old.scene.start }
+    {
         let target = self.text(target)?;
         if let Reached::Standing(standing) = self.reach(process, at, path, false)? {
             self.know_link(&standing, &target)?;
@@ -239,8 +256,10 @@ impl TraceState {
     }
 
     /// Notes what the link of a file leads to, but in a proc filesystem.
-    pub(crate) fn know_link(&mut self, standing: &Standing, target: &[u8]) -> Result<(), Halt> {
-        let world = self.stage.world();
+    pub(crate) fn know_link(&mut self, standing: &Standing, target: &[u8]) -> Result<(), Halt>
+        ensures start { self.new.scene.start ≡ self.old.scene.start }
+    {
+        let world = self.scene.world();
         let mount = standing.place.mount;
         if target.is_empty() || is_of_kind(world, mount, b"proc") {
             return Ok(());
@@ -256,7 +275,9 @@ impl TraceState {
     }
 
     /// Notes what the system calls a namespace, which the link of its file tells.
-    fn tag_link(&mut self, kind: SpaceKind, number: u64, target: &[u8]) -> Result<(), Halt> {
+    fn tag_link(&mut self, kind: SpaceKind, number: u64, target: &[u8]) -> Result<(), Halt>
+        ensures start { self.new.scene.start ≡ self.old.scene.start }
+    {
         if let ToldPath::Space(own, told) = told_path(target) {
             if own == kind {
                 self.spaces.tag(kind, told, number)?;

@@ -1,4 +1,5 @@
 //! The filesystems that calls mount.
+ghost use Rattle.std.specs.Prelude.{◌≡◌};
 
 use crate::process_spaces::ProcessSpaces;
 use crate::told::{Halt, Told};
@@ -24,14 +25,16 @@ impl TraceState {
         kind: &[u8],
         source: &[u8],
         options: &[u8],
-    ) -> Result<Label, Halt> {
+    ) -> Result<Label, Halt>
+        ensures start { self.new.scene.start ≡ self.old.scene.start }
+    {
         let spaces = self.process_spaces(process);
         let shown = self.filesystems.shown(kind, source, options, spaces)?;
         if let Some(name) = self.name_of(shown)? {
             return Ok(name);
         }
         let (kind, source) = (self.label(kind)?, self.label(source)?);
-        let world = self.stage.world();
+        let world = self.scene.world();
         let unused = self
             .filesystems
             .unused(world, kind.bytes(), source.bytes())?;
@@ -51,7 +54,9 @@ impl TraceState {
     }
 
     /// Forgets the links of a filesystem, if there is one.
-    fn forget_links(&mut self, fs: Option<FsId>) {
+    fn forget_links(&mut self, fs: Option<FsId>)
+        ensures start { self.new.scene.start ≡ self.old.scene.start }
+    {
         if let Some(fs) = fs {
             self.links.forget(fs);
         }
@@ -64,8 +69,10 @@ impl TraceState {
         source: Label,
         options: &[u8],
         spaces: ProcessSpaces,
-    ) -> Result<Label, Halt> {
-        let Some(name) = self.filesystems.new_name(self.stage.world(), kind.bytes())? else {
+    ) -> Result<Label, Halt>
+        ensures start { self.new.scene.start ≡ self.old.scene.start }
+    {
+        let Some(name) = self.filesystems.new_name(self.scene.world(), kind.bytes())? else {
             return Err(Halt::Told(Told::NoName));
         };
         let reply = self.grow(&Command::MakeFs {

@@ -1,4 +1,5 @@
 //! Calls that mount, bind, move, change and unmount.
+ghost use Rattle.std.specs.Prelude.{◌≡◌};
 
 use crate::call_flags::UnmountWords;
 use crate::mount_flags::MountOperation;
@@ -57,7 +58,9 @@ impl TraceState {
         process: u64,
         strings: MountStrings<'_, '_>,
         operation: &MountOperation,
-    ) -> Result<(), Halt> {
+    ) -> Result<(), Halt>
+        ensures start { self.new.scene.start ≡ self.old.scene.start }
+    {
         let target = self.stand(process, &here(), strings.target, true)?;
         match operation {
             MountOperation::Changes(change, of_filesystem) => {
@@ -91,7 +94,9 @@ impl TraceState {
     }
 
     /// Changes the mount of which a standing is the root.
-    pub(crate) fn change(&mut self, standing: &Standing, change: Change) -> Result<(), Halt> {
+    pub(crate) fn change(&mut self, standing: &Standing, change: Change) -> Result<(), Halt>
+        ensures start { self.new.scene.start ≡ self.old.scene.start }
+    {
         let place = self.made(standing)?;
         let at = self.path(place)?;
         let _reply = self.play(&change_of(at, change))?;
@@ -100,7 +105,7 @@ impl TraceState {
 
     /// Refuses the root place of a namespace, where the model mounts nothing.
     pub(crate) fn check_destination(&self, place: Place) -> Result<(), Halt> {
-        if is_root_place(self.stage.world(), place) {
+        if is_root_place(self.scene.world(), place) {
             Err(Halt::Told(Told::RootPlace))
         } else {
             Ok(())
@@ -113,7 +118,9 @@ impl TraceState {
         process: u64,
         new: &NewMount,
         to: Place,
-    ) -> Result<MountId, Halt> {
+    ) -> Result<MountId, Halt>
+        ensures start { self.new.scene.start ≡ self.old.scene.start }
+    {
         self.check_destination(to)?;
         let (space, path) = self.path(to)?;
         let fs = self.filesystem(process, &new.kind, &new.source, &new.options)?;
@@ -136,7 +143,9 @@ impl TraceState {
         source: Reached,
         to: Place,
         recursive: bool,
-    ) -> Result<(), Halt> {
+    ) -> Result<(), Halt>
+        ensures start { self.new.scene.start ≡ self.old.scene.start }
+    {
         match source {
             Reached::Standing(standing) => self.bind(&standing, to, recursive),
             Reached::Space(kind, number) => {
@@ -151,7 +160,7 @@ impl TraceState {
                     },
                 };
                 let id = self.mount_new(process, &new, to)?;
-                let Some(fs) = shown_filesystem(self.stage.world(), id) else {
+                let Some(fs) = shown_filesystem(self.scene.world(), id) else {
                     return Ok(());
                 };
                 self.spaces.bind_file(fs, kind, number)?;
@@ -162,9 +171,11 @@ impl TraceState {
     }
 
     /// Binds a directory at a place.
-    fn bind(&mut self, source: &Standing, to: Place, recursive: bool) -> Result<(), Halt> {
-        let space = space_of_mount(self.stage.world(), source.place.mount)?;
-        if space_of_mount(self.stage.world(), to.mount)? != space {
+    fn bind(&mut self, source: &Standing, to: Place, recursive: bool) -> Result<(), Halt>
+        ensures start { self.new.scene.start ≡ self.old.scene.start }
+    {
+        let space = space_of_mount(self.scene.world(), source.place.mount)?;
+        if space_of_mount(self.scene.world(), to.mount)? != space {
             return Err(Halt::Told(Told::OtherSpace));
         }
         self.check_destination(to)?;
@@ -181,9 +192,11 @@ impl TraceState {
     }
 
     /// Moves a mount to a place. At a root place, where the model has none, it stays, and is found there.
-    pub(crate) fn move_to(&mut self, source: &Standing, to: Place) -> Result<(), Halt> {
+    pub(crate) fn move_to(&mut self, source: &Standing, to: Place) -> Result<(), Halt>
+        ensures start { self.new.scene.start ≡ self.old.scene.start }
+    {
         let from = self.made(source)?;
-        if is_root_place(self.stage.world(), to) {
+        if is_root_place(self.scene.world(), to) {
             self.note(b"nearest: moved to the root place, where the model has it not")?;
             self.covers.put(to, from.mount)?;
             self.covers.note_moved(from.mount)?;
@@ -204,11 +217,13 @@ impl TraceState {
         process: u64,
         path: &StringArgument<'_>,
         words: UnmountWords,
-    ) -> Result<(), Halt> {
+    ) -> Result<(), Halt>
+        ensures start { self.new.scene.start ≡ self.old.scene.start }
+    {
         let standing = self.stand(process, &here(), path, words.follows)?;
         let place = self.topmost(&standing)?;
         if words.detaches {
-            let (space, path) = path_to_stack(self.stage.world(), place)?;
+            let (space, path) = path_to_stack(self.scene.world(), place)?;
             let _reply = self.play(&Command::Detach { space, path })?;
         } else {
             let (space, path) = self.path(place)?;
@@ -224,7 +239,9 @@ impl TraceState {
         new: &StringArgument<'_>,
         old: &StringArgument<'_>,
         is_named_again: bool,
-    ) -> Result<(), Halt> {
+    ) -> Result<(), Halt>
+        ensures start { self.new.scene.start ≡ self.old.scene.start }
+    {
         let new = self.stand(process, &here(), new, true)?;
         let new = self.made(&new)?;
         let old = self.stand(process, &here(), old, true)?;
@@ -233,8 +250,8 @@ impl TraceState {
             Some(directories) => directories.root.copy()?,
             None => return Err(Halt::Told(Told::OtherRoot)),
         };
-        let space = space_of_mount(self.stage.world(), new.mount)?;
-        if self.stage.world().forest.root(space) != Some(root.place.mount) {
+        let space = space_of_mount(self.scene.world(), new.mount)?;
+        if self.scene.world().forest.root(space) != Some(root.place.mount) {
             return Err(Halt::Told(Told::OtherRoot));
         }
         self.play_pivot(new, old, root.place.mount, is_named_again)?;
@@ -249,7 +266,9 @@ impl TraceState {
         old: Place,
         root: MountId,
         is_named_again: bool,
-    ) -> Result<(), Halt> {
+    ) -> Result<(), Halt>
+        ensures start { self.new.scene.start ≡ self.old.scene.start }
+    {
         let to = if new == old && is_named_again {
             self.note(b"nearest: the old root stands at /.old and not on the new one")?;
             let name = self.lookup(0).name(b".old")?;

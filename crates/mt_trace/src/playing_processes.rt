@@ -1,4 +1,5 @@
 //! Calls that make processes and namespaces, and those that change where a process stands; and the ends of processes.
+ghost use Rattle.std.specs.Prelude.{◌≡◌, false};
 
 use crate::call_flags::CloneWords;
 use crate::covers::mount_copied;
@@ -36,7 +37,10 @@ impl TraceState {
         process: u64,
         child: u64,
         words: CloneWords,
-    ) -> Result<(), Halt> {
+    ) -> Result<(), Halt>
+        ensures start { self.new.scene.start ≡ self.old.scene.start }
+        ensures still { words.mount ≡ false → self.new.scene ≡ self.old.scene }
+    {
         self.processes.bear(words, process, child)?;
         if words.mount {
             self.copy_space(child)?;
@@ -45,7 +49,9 @@ impl TraceState {
     }
 
     /// unshare(2).
-    pub(crate) fn unshare(&mut self, process: u64, words: CloneWords) -> Result<(), Halt> {
+    pub(crate) fn unshare(&mut self, process: u64, words: CloneWords) -> Result<(), Halt>
+        ensures start { self.new.scene.start ≡ self.old.scene.start }
+    {
         if words.directories || words.mount || words.user {
             self.processes.own_directories(process)?;
         }
@@ -72,10 +78,12 @@ impl TraceState {
     }
 
     /// A process gets a copy of its namespace of mounts, and stands on the copies of its mounts.
-    fn copy_space(&mut self, process: u64) -> Result<(), Halt> {
+    fn copy_space(&mut self, process: u64) -> Result<(), Halt>
+        ensures start { self.new.scene.start ≡ self.old.scene.start }
+    {
         let spaces = self.process_spaces(process);
-        let originals = self.stage.world().forest.mounts_in(spaces.mount)?;
-        let next = self.stage.world().next_mount;
+        let originals = self.scene.world().forest.mounts_in(spaces.mount)?;
+        let next = self.scene.world().next_mount;
         let space = self.play_numbered(&Command::CopySpace {
             space: spaces.mount,
             privilege: self.privilege(spaces),
@@ -95,7 +103,9 @@ impl TraceState {
         process: u64,
         originals: &[Mount],
         next: MountId,
-    ) -> Result<(), Halt> {
+    ) -> Result<(), Halt>
+        ensures start { self.new.scene.start ≡ self.old.scene.start }
+    {
         let Some(directories) = self.processes.directories(process) else {
             return Ok(());
         };
@@ -108,7 +118,9 @@ impl TraceState {
     }
 
     /// A namespace of mounts ends with its last process, descriptor or bind.
-    pub(crate) fn leave(&mut self, space: SpaceId) -> Result<(), Halt> {
+    pub(crate) fn leave(&mut self, space: SpaceId) -> Result<(), Halt>
+        ensures start { self.new.scene.start ≡ self.old.scene.start }
+    {
         if !self.spaces.may_end(space) || self.processes.hold_space(space) {
             return Ok(());
         }
@@ -116,19 +128,28 @@ impl TraceState {
         self.account
             .note_of(b"ends: namespace of mounts ", self.spaces.name(space))?;
         self.spaces.end(space);
-        self.covers.sweep(self.stage.world());
+        self.covers.sweep(self.scene.world());
         Ok(())
     }
 
     /// Ends the namespaces whose files were bound until a mount was taken away.
-    pub(crate) fn end_unbound(&mut self) -> Result<(), Halt> {
+    pub(crate) fn end_unbound(&mut self) -> Result<(), Halt>
+        ensures start { self.new.scene.start ≡ self.old.scene.start }
+    {
         let bound = self.spaces.bound()?;
         if bound.is_empty() {
             return Ok(());
         }
-        let shown = filesystems_shown(self.stage.world())?;
+        let shown = filesystems_shown(self.scene.world())?;
         self.spaces.keep_files(&shown);
-        for space in &bound {
+        self.leave_all(&bound)
+    }
+
+    /// Namespaces of mounts end.
+    fn leave_all(&mut self, spaces: &[SpaceId]) -> Result<(), Halt>
+        ensures start { self.new.scene.start ≡ self.old.scene.start }
+    {
+        'each: for space in spaces {
             self.leave(*space)?;
         }
         Ok(())
@@ -136,7 +157,7 @@ impl TraceState {
 
     /// The namespace whose file is bound where a process stands.
     fn bound_at(&self, standing: &Standing) -> Option<(SpaceKind, u64)> {
-        let fs = shown_filesystem(self.stage.world(), standing.place.mount)?;
+        let fs = shown_filesystem(self.scene.world(), standing.place.mount)?;
         self.spaces.of_file(fs)
     }
 
@@ -154,7 +175,9 @@ impl TraceState {
         &mut self,
         process: u64,
         at: &Descriptor<'_>,
-    ) -> Result<(SpaceKind, u64), Halt> {
+    ) -> Result<(SpaceKind, u64), Halt>
+        ensures start { self.new.scene.start ≡ self.old.scene.start }
+    {
         if let Some(reached) = if_known(self.descriptor(process, at))? {
             if let Some(found) = self.space_in(&reached) {
                 return Ok(found);
@@ -174,7 +197,9 @@ impl TraceState {
         &mut self,
         kind: SpaceKind,
         told: u64,
-    ) -> Result<(SpaceKind, u64), Halt> {
+    ) -> Result<(SpaceKind, u64), Halt>
+        ensures start { self.new.scene.start ≡ self.old.scene.start }
+    {
         if let Some(number) = self.spaces.tagged(kind, told) {
             return Ok((kind, number));
         }
@@ -187,7 +212,9 @@ impl TraceState {
     }
 
     /// setns(2).
-    pub(crate) fn enter_space(&mut self, process: u64, at: &Descriptor<'_>) -> Result<(), Halt> {
+    pub(crate) fn enter_space(&mut self, process: u64, at: &Descriptor<'_>) -> Result<(), Halt>
+        ensures start { self.new.scene.start ≡ self.old.scene.start }
+    {
         let (kind, number) = self.space_behind(process, at)?;
         let was = self.process_spaces(process);
         if kind != SpaceKind::Mount {
@@ -195,7 +222,7 @@ impl TraceState {
                 .set_spaces(process, was.entered(kind, number));
             return Ok(());
         }
-        let world = self.stage.world();
+        let world = self.scene.world();
         let Some(place) = space_root(world, number) else {
             return Err(Halt::Told(Told::SpaceUnknown));
         };
@@ -216,7 +243,9 @@ impl TraceState {
         &mut self,
         process: u64,
         path: &StringArgument<'_>,
-    ) -> Result<(), Halt> {
+    ) -> Result<(), Halt>
+        ensures start { self.new.scene.start ≡ self.old.scene.start }
+    {
         let standing = self.stand(process, &here(), path, true)?;
         self.processes.set_current(process, standing);
         Ok(())
@@ -227,7 +256,9 @@ impl TraceState {
         &mut self,
         process: u64,
         at: &Descriptor<'_>,
-    ) -> Result<(), Halt> {
+    ) -> Result<(), Halt>
+        ensures start { self.new.scene.start ≡ self.old.scene.start }
+    {
         match self.descriptor(process, at)? {
             Reached::Standing(standing) => {
                 self.processes.set_current(process, standing);
@@ -242,7 +273,9 @@ impl TraceState {
         &mut self,
         process: u64,
         path: &StringArgument<'_>,
-    ) -> Result<(), Halt> {
+    ) -> Result<(), Halt>
+        ensures start { self.new.scene.start ≡ self.old.scene.start }
+    {
         let standing = self.stand(process, &here(), path, true)?;
         self.processes.set_root(process, standing);
         Ok(())
@@ -255,7 +288,9 @@ impl TraceState {
         at: &Descriptor<'_>,
         path: &StringArgument<'_>,
         follows: bool,
-    ) -> Result<(), Halt> {
+    ) -> Result<(), Halt>
+        ensures start { self.new.scene.start ≡ self.old.scene.start }
+    {
         let found = if_known(self.reach(process, at, path, follows))?;
         let program = match found {
             Some(reached) => {
@@ -271,7 +306,9 @@ impl TraceState {
     }
 
     /// A process has ended.
-    pub(crate) fn end_process(&mut self, process: u64) -> Result<(), Halt> {
+    pub(crate) fn end_process(&mut self, process: u64) -> Result<(), Halt>
+        ensures start { self.new.scene.start ≡ self.old.scene.start }
+    {
         if !self.processes.has(process) {
             return Ok(());
         }

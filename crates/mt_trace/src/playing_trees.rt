@@ -1,4 +1,5 @@
 //! Calls that make, copy, change and attach detached trees.
+ghost use Rattle.std.specs.Prelude.{◌≡◌};
 
 use crate::call_flags::{MoveWords, TreeWords};
 use crate::open_files::Opened;
@@ -41,7 +42,9 @@ impl TraceState {
         returned: Option<u64>,
         reached: Reached,
         closes_on_exec: bool,
-    ) -> Result<(), Halt> {
+    ) -> Result<(), Halt>
+        ensures start { self.new.scene.start ≡ self.old.scene.start }
+    {
         let Some(descriptor) = returned else {
             return Err(Halt::Told(Told::NoResult));
         };
@@ -59,7 +62,9 @@ impl TraceState {
         kind: &StringArgument<'_>,
         returned: Option<u64>,
         closes_on_exec: bool,
-    ) -> Result<(), Halt> {
+    ) -> Result<(), Halt>
+        ensures start { self.new.scene.start ≡ self.old.scene.start }
+    {
         let context = Context {
             kind: self.text(kind)?,
             source: Vec::from_slice(self.alloc, b"none")?,
@@ -90,7 +95,9 @@ impl TraceState {
         process: u64,
         at: &Descriptor<'_>,
         setting: &ContextSetting<'_>,
-    ) -> Result<(), Halt> {
+    ) -> Result<(), Halt>
+        ensures start { self.new.scene.start ≡ self.old.scene.start }
+    {
         let mut context = self.context(process, at)?;
         match setting {
             ContextSetting::String { key, value } => {
@@ -120,7 +127,9 @@ impl TraceState {
         process: u64,
         at: &Descriptor<'_>,
         context: Context,
-    ) -> Result<(), Halt> {
+    ) -> Result<(), Halt>
+        ensures start { self.new.scene.start ≡ self.old.scene.start }
+    {
         let DescriptorNumber::Open(n) = at.number else {
             return Ok(());
         };
@@ -138,11 +147,13 @@ impl TraceState {
         tree: SpaceId,
         returned: Option<u64>,
         closes_on_exec: bool,
-    ) -> Result<(), Halt> {
+    ) -> Result<(), Halt>
+        ensures start { self.new.scene.start ≡ self.old.scene.start }
+    {
         let mut name = Vec::from_slice(self.alloc, b"tree-of-")?;
         push_number(&mut name, process)?;
         self.spaces.enter_tree(tree, &name)?;
-        let Some(place) = space_root(self.stage.world(), tree) else {
+        let Some(place) = space_root(self.scene.world(), tree) else {
             return Err(Halt::Told(Told::Gone));
         };
         let reached = Reached::Standing(Standing::at(self.alloc, place));
@@ -157,7 +168,9 @@ impl TraceState {
         set: SetWords,
         returned: Option<u64>,
         closes_on_exec: bool,
-    ) -> Result<(), Halt> {
+    ) -> Result<(), Halt>
+        ensures start { self.new.scene.start ≡ self.old.scene.start }
+    {
         let context = self.context(process, at)?;
         let fs = self.filesystem(process, &context.kind, &context.source, &context.options)?;
         let tree = self.play_numbered(&Command::NewTree { fs })?;
@@ -181,7 +194,9 @@ impl TraceState {
         path: &StringArgument<'_>,
         words: TreeWords,
         returned: Option<u64>,
-    ) -> Result<(), Halt> {
+    ) -> Result<(), Halt>
+        ensures start { self.new.scene.start ≡ self.old.scene.start }
+    {
         let reached = self.reach(process, at, path, words.follows)?;
         if !words.clones {
             return self.open_returned(process, returned, reached, words.closes_on_exec);
@@ -201,7 +216,7 @@ impl TraceState {
 
     /// The detached tree of which a place is the root, if it is one.
     pub(crate) fn tree_at(&self, place: Place) -> Option<SpaceId> {
-        let world = self.stage.world();
+        let world = self.scene.world();
         let mount = world.forest.get(place.mount)?;
         if world.is_tree(mount.space) && mount.place.is_none() && mount.root == place.dir {
             Some(mount.space)
@@ -217,10 +232,12 @@ impl TraceState {
         from: (&Descriptor<'_>, &StringArgument<'_>),
         to: (&Descriptor<'_>, &StringArgument<'_>),
         words: MoveWords,
-    ) -> Result<(), Halt> {
+    ) -> Result<(), Halt>
+        ensures start { self.new.scene.start ≡ self.old.scene.start }
+    {
         let source = self.stand(process, from.0, from.1, words.follows_source)?;
         let target = self.stand(process, to.0, to.1, words.follows_target)?;
-        let _there = space_of_mount(self.stage.world(), source.place.mount)?;
+        let _there = space_of_mount(self.scene.world(), source.place.mount)?;
         let to = self.topmost(&target)?;
         match self.tree_at(source.place) {
             Some(tree) if source.is_made() => self.attach(tree, to),
@@ -229,7 +246,9 @@ impl TraceState {
     }
 
     /// Attaches a detached tree at a place.
-    fn attach(&mut self, tree: SpaceId, to: Place) -> Result<(), Halt> {
+    fn attach(&mut self, tree: SpaceId, to: Place) -> Result<(), Halt>
+        ensures start { self.new.scene.start ≡ self.old.scene.start }
+    {
         self.check_destination(to)?;
         let (space, path) = self.path(to)?;
         let _reply = self.play(&Command::MoveTree { tree, space, path })?;
@@ -238,16 +257,26 @@ impl TraceState {
     }
 
     /// Ends the detached trees to which no descriptor leads any more.
-    pub(crate) fn end_trees(&mut self) -> Result<(), Halt> {
+    pub(crate) fn end_trees(&mut self) -> Result<(), Halt>
+        ensures start { self.new.scene.start ≡ self.old.scene.start }
+    {
         if self.spaces.trees().is_empty() {
             return Ok(());
         }
         let trees = Vec::from_slice(self.alloc, self.spaces.trees())?;
-        for tree in &trees {
-            if !self.is_tree_open(*tree)? {
-                let _reply = self.play(&Command::DropSpace { space: *tree })?;
-                self.spaces.end(*tree);
-            }
+        'each: for tree in &trees {
+            self.end_tree(*tree)?;
+        }
+        Ok(())
+    }
+
+    /// Ends a detached tree, unless a descriptor leads to it.
+    fn end_tree(&mut self, tree: SpaceId) -> Result<(), Halt>
+        ensures start { self.new.scene.start ≡ self.old.scene.start }
+    {
+        if !self.is_tree_open(tree)? {
+            let _reply = self.play(&Command::DropSpace { space: tree })?;
+            self.spaces.end(tree);
         }
         Ok(())
     }
@@ -255,7 +284,7 @@ impl TraceState {
     /// Whether a descriptor leads to a mount of a namespace.
     fn is_tree_open(&self, space: SpaceId) -> Result<bool, Halt> {
         let mut ids = Vec::new(self.alloc);
-        for mount in &self.stage.world().forest.mounts_in(space)? {
+        for mount in &self.scene.world().forest.mounts_in(space)? {
             ids.push(mount.id)?;
         }
         Ok(self.processes.have_mount_open(&ids))

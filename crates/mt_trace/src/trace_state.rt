@@ -1,4 +1,5 @@
 //! The state of a trace that is played: the world, the processes, and what is known besides.
+ghost use Rattle.std.specs.Prelude.{◌≡◌};
 
 use crate::account::{Account, Caller};
 use crate::covers::Covers;
@@ -7,8 +8,8 @@ use crate::links::Links;
 use crate::process_spaces::{ProcessSpaces, SpaceKind};
 use crate::processes::Processes;
 use crate::spaces::Spaces;
+use crate::scene::Scene;
 use crate::spots::{names_inside, path_of_place, settled_standing, shown_filesystem, space_root};
-use crate::stage::Stage;
 use crate::standing::{Reached, Standing};
 use crate::string_argument::StringArgument;
 use crate::told::{Halt, Told};
@@ -26,7 +27,7 @@ use std::alloc::{AllocError, Global};
 /// What the calls of a trace change, and what is told of the one that is played.
 pub(crate) struct TraceState {
     pub(crate) alloc: Global,
-    pub(crate) stage: Stage,
+    pub(crate) scene: Scene,
     pub(crate) processes: Processes,
     pub(crate) spaces: Spaces,
     pub(crate) filesystems: Filesystems,
@@ -40,7 +41,7 @@ impl Drop for TraceState {
     fn drop(self) {
         let TraceState {
             alloc: _alloc,
-            stage: _stage,
+            scene: _scene,
             processes: _processes,
             spaces: _spaces,
             filesystems: _filesystems,
@@ -64,11 +65,13 @@ pub(crate) fn nobody() -> Caller {
 
 impl TraceState {
     /// Enters a process, unless it was met: it stands at the root of the first namespace.
-    pub(crate) fn meet(&mut self, process: u64) -> Result<(), Halt> {
+    pub(crate) fn meet(&mut self, process: u64) -> Result<(), Halt>
+        ensures scene { self.new.scene ≡ self.old.scene }
+    {
         if self.processes.has(process) {
             return Ok(());
         }
-        let Some(place) = space_root(self.stage.world(), 1) else {
+        let Some(place) = space_root(self.scene.world(), 1) else {
             return Err(Halt::Told(Told::SpaceUnknown));
         };
         self.processes
@@ -79,7 +82,7 @@ impl TraceState {
     pub(crate) fn lookup(&self, process: u64) -> Lookup<'_> {
         Lookup {
             alloc: self.alloc,
-            world: self.stage.world(),
+            world: self.scene.world(),
             processes: &self.processes,
             links: &self.links,
             covers: &self.covers,
@@ -93,17 +96,19 @@ impl TraceState {
     }
 
     /// Does a command, and notes what it changes.
-    pub(crate) fn play(&mut self, command: &Command) -> Result<Reply, Halt> {
-        let reply = self.stage.run(command)?;
-        self.account.enter(command)?;
-        for change in &self.stage.changes()? {
-            self.account.enter_change(change, &self.spaces)?;
-        }
+    pub(crate) fn play(&mut self, command: &Command) -> Result<Reply, Halt>
+        ensures start { self.new.scene.start ≡ self.old.scene.start }
+    {
+        let reply = self.scene.run(command)?;
+        let changes = self.scene.changes()?;
+        self.account.enter_changes(&changes, &self.spaces)?;
         Ok(reply)
     }
 
     /// Does a command that answers a number.
-    pub(crate) fn play_numbered(&mut self, command: &Command) -> Result<u64, Halt> {
+    pub(crate) fn play_numbered(&mut self, command: &Command) -> Result<u64, Halt>
+        ensures start { self.new.scene.start ≡ self.old.scene.start }
+    {
         match self.play(command)? {
             Reply::Number(number) => Ok(number),
             Reply::Done => Ok(0),
@@ -111,12 +116,11 @@ impl TraceState {
     }
 
     /// Does a command that makes a filesystem or a directory.
-    pub(crate) fn grow(&mut self, command: &Command) -> Result<Reply, Halt> {
-        match self.stage.run(command) {
-            Ok(reply) => {
-                self.account.enter(command)?;
-                Ok(reply)
-            }
+    pub(crate) fn grow(&mut self, command: &Command) -> Result<Reply, Halt>
+        ensures start { self.new.scene.start ≡ self.old.scene.start }
+    {
+        match self.scene.run(command) {
+            Ok(reply) => Ok(reply),
             Err(Fault::NoMemory) => Err(Halt::NoMemory),
             Err(_) => Err(Halt::Told(Told::NoRoom)),
         }
@@ -150,7 +154,9 @@ impl TraceState {
     }
 
     /// Notes the current directory of a process, if it was not known and strace tells it. Fails for want of memory alone.
-    pub(crate) fn learn(&mut self, process: u64, at: &Descriptor<'_>) -> Result<(), Halt> {
+    pub(crate) fn learn(&mut self, process: u64, at: &Descriptor<'_>) -> Result<(), Halt>
+        ensures start { self.new.scene.start ≡ self.old.scene.start }
+    {
         match self.current_told(process, at) {
             Ok(Some(current)) => {
                 self.processes.set_current(process, current);
@@ -248,7 +254,7 @@ impl TraceState {
         if standing.is_made() {
             return Ok(commands);
         }
-        let world = self.stage.world();
+        let world = self.scene.world();
         let Some(fs) = shown_filesystem(world, standing.place.mount) else {
             return Err(Halt::Told(Told::Gone));
         };
@@ -270,17 +276,28 @@ impl TraceState {
     }
 
     /// The directory of a standing, which is made with those above it where it is not there.
-    pub(crate) fn made(&mut self, standing: &Standing) -> Result<Place, Halt> {
-        let settled = settled_standing(self.stage.world(), standing)?;
-        for command in &self.directories_missing(&settled)? {
+    pub(crate) fn made(&mut self, standing: &Standing) -> Result<Place, Halt>
+        ensures start { self.new.scene.start ≡ self.old.scene.start }
+    {
+        let settled = settled_standing(self.scene.world(), standing)?;
+        let commands = self.directories_missing(&settled)?;
+        self.grow_all(&commands)?;
+        self.directory_made(&settled)
+    }
+
+    /// Does commands that make directories.
+    fn grow_all(&mut self, commands: &[Command]) -> Result<(), Halt>
+        ensures start { self.new.scene.start ≡ self.old.scene.start }
+    {
+        'each: for command in commands {
             let _reply = self.grow(command)?;
         }
-        self.directory_made(&settled)
+        Ok(())
     }
 
     /// The directory of a standing, which is there.
     fn directory_made(&self, standing: &Standing) -> Result<Place, Halt> {
-        let made = settled_standing(self.stage.world(), standing)?;
+        let made = settled_standing(self.scene.world(), standing)?;
         if made.is_made() {
             Ok(made.place)
         } else {
@@ -289,18 +306,22 @@ impl TraceState {
     }
 
     /// The directory of a standing, made where it is not there, and the top of what is mounted on it.
-    pub(crate) fn topmost(&mut self, standing: &Standing) -> Result<Place, Halt> {
+    pub(crate) fn topmost(&mut self, standing: &Standing) -> Result<Place, Halt>
+        ensures start { self.new.scene.start ≡ self.old.scene.start }
+    {
         let place = self.made(standing)?;
-        Ok(self.covers.top(self.stage.world(), place))
+        Ok(self.covers.top(self.scene.world(), place))
     }
 
     /// The path that leads to a place, with its namespace.
     pub(crate) fn path(&self, place: Place) -> Result<(SpaceId, Names), Halt> {
-        path_of_place(self.stage.world(), place)
+        path_of_place(self.scene.world(), place)
     }
 
     /// Notes something of the call that is played.
-    pub(crate) fn note(&mut self, words: &[u8]) -> Result<(), AllocError> {
+    pub(crate) fn note(&mut self, words: &[u8]) -> Result<(), AllocError>
+        ensures start { self.new.scene.start ≡ self.old.scene.start }
+    {
         self.account.note(words)
     }
 }

@@ -3,6 +3,8 @@ ghost use Rattle.std.specs.Prelude.{◌≡◌, ◌∷◌, ◌++◌, map, IfOk, O
 ghost use Rattle.std.specs.List.{flat_map};
 ghost use Rattle.mt_strace.specs.Printed.{arguments_text};
 ghost use Rattle.mt_render.specs.Wording.{shown_line};
+ghost use Rattle.mt_trace.specs.declared.account.TraceForm.TheVariants as form_as;
+ghost use Rattle.mt_trace.specs.Scenes.{IsCommented};
 ghost use Rattle.mt_trace.specs.Telling.{IsAppended, IsAccountTold, notes_text, call_origin_text, account_line, differing_sign};
 ghost use Rattle.mt_trace.specs.Texts.{value_told, result_told, call_told};
 
@@ -240,10 +242,12 @@ pub fn push_account(
     form: TraceForm,
     origin: CallOrigin,
     account: &Account,
+    commands: &[u8],
     said: &[u8],
     outcome: CallOutcome,
 ) -> Result<(), AllocError>
-    ensures { OnOk result (IsAccountTold form origin said.now outcome text.old.items text.new.items) }
+    ensures script { OnOk result (form ≡ form_as.Script → IsCommented commands.now text.old.items text.new.items) }
+    ensures told { OnOk result (IsAccountTold form origin said.now outcome text.old.items text.new.items) }
 {
     let notes = account.notes();
     match form {
@@ -258,7 +262,7 @@ pub fn push_account(
             origin,
             said,
             notes,
-            account.commands(),
+            commands,
         ),
     }
 }
