@@ -7,7 +7,7 @@ use Rattle.mt_render.specs.Wording.{shown_line}
 use Rattle.mt_requests.specs.Printed.{commands_text, line_of_command}
 use Rattle.mt_trace.specs.declared.account.TraceForm.{TraceForm}
 use Rattle.mt_trace.specs.declared.account.TraceForm.TheVariants.{Script}
-use Rattle.mt_trace.specs.Scripts.{all_done}
+use Rattle.mt_trace.specs.Scripts.{all_accepted}
 
 -- the beginning of a call: how it is told, and the world
 pub record SceneStart : Type 0 where
@@ -24,14 +24,14 @@ abbrev pub begun_world : List (WorldView × Unit {0}) → WorldView → WorldVie
 begun_world [] w = w
 begun_world (first ∷ rest) w = first.0
 
-abbrev pub start_of : TraceForm → List (WorldView × Unit {0}) → WorldView → SceneStart
-start_of f noted w = record { form = f; world = begun_world noted w }
+abbrev pub scene_start : TraceForm → List (WorldView × Unit {0}) → WorldView → SceneStart
+scene_start f noted w = record { form = f; world = begun_world noted w }
 
 -- a text is that of commands which lead from one world to another
 pub record AreEntered (before after : WorldView) (lines : List ℕ) : Type 0 where
   pub commands : List Command
   pub text : lines ≡ commands_text commands
-  pub done : all_done before commands ≡ Some after
+  pub done : all_accepted before commands ≡ Some after
 
 -- the lines that are kept of a call are its commands, where they are told
 abbrev pub IsSceneText : SceneStart → WorldView → List ℕ → Type 0
@@ -40,7 +40,7 @@ IsSceneText start now lines = start.form ≡ Script → AreEntered start.world n
 -- what is always true of a scene
 pub record IsScene (f : TraceForm) (seen : List (WorldView × Unit {0})) (now : WorldView) (lines : List ℕ) : Type 0 where
   pub noted : length seen ≡ 1
-  pub text : IsSceneText (start_of f seen now) now lines
+  pub text : IsSceneText (scene_start f seen now) now lines
 
 -- where no line is told, nothing was done
 abbrev pub IsUnchangedIf : Bool → SceneView → Type 0

@@ -16,21 +16,21 @@ abbrev pub world_if_done : Result (WorldView × Reply) Fault → Option WorldVie
 world_if_done (Ok (v, reply)) = Some v
 world_if_done (Err fault) = None
 
-abbrev pub all_done : WorldView → List Command → Option WorldView
-all_done w [] = Some w
-all_done w (c ∷ cs) = option_and_then (λ v. all_done v cs) (world_if_done (tried w c))
+abbrev pub all_accepted : WorldView → List Command → Option WorldView
+all_accepted w [] = Some w
+all_accepted w (c ∷ cs) = option_and_then (λ v. all_accepted v cs) (world_if_done (tried w c))
 
 -- a comment is a line behind a sharp; a command is its line
 pub data ScriptPiece : Type 0 where
   Comment : List ℕ → ScriptPiece
   Does : Command → ScriptPiece
 
-abbrev pub piece_text : ScriptPiece → List ℕ
-piece_text (Comment text) = shown_line (codes "# " ++ text)
-piece_text (Does c) = line_of_command c ++ 10 ∷ []
+abbrev pub piece_line : ScriptPiece → List ℕ
+piece_line (Comment text) = shown_line (codes "# " ++ text)
+piece_line (Does c) = line_of_command c ++ 10 ∷ []
 
-abbrev pub script_text : List ScriptPiece → List ℕ
-script_text pieces = flat_map piece_text pieces
+abbrev pub script_lines : List ScriptPiece → List ℕ
+script_lines pieces = flat_map piece_line pieces
 
 -- the commands, without the comments
 abbrev pub commands_of_piece : ScriptPiece → List Command
@@ -41,7 +41,7 @@ abbrev pub commands_in : List ScriptPiece → List Command
 commands_in pieces = flat_map commands_of_piece pieces
 
 -- what was appended is a script whose commands lead from the one world to the other
-pub record IsScript (before after : WorldView) (old new : List ℕ) : Type 0 where
+pub record IsScriptFrom (before after : WorldView) (old new : List ℕ) : Type 0 where
   pub pieces : List ScriptPiece
-  pub text : new ≡ old ++ script_text pieces
-  pub done : all_done before (commands_in pieces) ≡ Some after
+  pub text : new ≡ old ++ script_lines pieces
+  pub done : all_accepted before (commands_in pieces) ≡ Some after

@@ -122,12 +122,31 @@ impl Player {
         if self.state.processes.has(process) {
             return Ok(());
         }
-        if self.beginnings.len() > 0 {
-            if let Some((parent, text)) = birth_of(self.alloc, &self.beginnings, ahead, process)? {
-                self.bear_early(number, parent, &text, process, out)?;
-            }
-        }
+        self.bear_begun(number, process, ahead, out)?;
         but_memory(self.state.meet(process))
+    }
+
+    /// Begins a process as the child of a call that has begun, if there is one.
+    fn bear_begun<A: Ahead>(
+        &mut self,
+        number: u64,
+        process: u64,
+        ahead: &mut A,
+        out: &mut Vec<u8>,
+    ) -> Result<(), AllocError>
+        ensures counted { OnOk result (IsChildCounted process self.old.early.items self.old.tally self.new.early.items self.new.tally) }
+        ensures text { OnOk result (IsAppended out.old.items out.new.items) }
+        ensures settings { IsSameSetting (player_view self.old) (player_view self.new) }
+        ensures waiting { self.new.beginnings ≡ self.old.beginnings }
+        ensures script { OnOk result (IsScripted (player_view self.old) (player_view self.new) out.old.items out.new.items) }
+    {
+        if self.beginnings.len() == 0 {
+            return Ok(());
+        }
+        match birth_of(self.alloc, &self.beginnings, ahead, process)? {
+            Some((parent, text)) => self.bear_early(number, parent, &text, process, out),
+            None => Ok(()),
+        }
     }
 
     /// Begins the child of a call of which the end comes later.

@@ -167,15 +167,15 @@ impl Player {
         ensures settings { IsSameSetting (player_view self.old) (player_view self.new) }
         ensures script { OnOk result (IsScriptedCall (player_view self.old) (player_view self.new) out.old.items out.new.items) }
     {
-        if let CallResult::Returned { .. } = &call.result {
-            let played = self
-                .state
-                .play_asked(origin.process, asked, &call.result, false);
-            but_memory(played)?;
-            let said = call_written_if(&self.state, call)?;
-            self.tell_quiet(origin, &said, out)?;
-        }
-        Ok(())
+        let CallResult::Returned { .. } = &call.result else {
+            return Ok(());
+        };
+        let played = self
+            .state
+            .play_asked(origin.process, asked, &call.result, false);
+        but_memory(played)?;
+        let said = call_written_if(&self.state, call)?;
+        self.tell_quiet(origin, &said, out)
     }
 
     /// Tells a call of which it is not known what it asks for, if its name is one that is told.

@@ -4,7 +4,6 @@ ghost use Rattle.mt_propagate.specs.World.{world_view};
 ghost use Rattle.mt_propagate.specs.WellFormed.{IsWellFormed};
 ghost use Rattle.mt_book.specs.Attempts.{tried};
 ghost use Rattle.mt_requests.specs.Printed.{line_of_command};
-ghost use Rattle.mt_trace.specs.declared.account.TraceForm.TheVariants as form_as;
 ghost use Rattle.mt_trace.specs.Stages.{all_tried, why_refused};
 ghost use Rattle.mt_trace.specs.Scenes.{IsSceneText, IsLineEntered};
 
@@ -30,11 +29,11 @@ pub(crate) struct Scene {
 }
 
 impl Model for Scene {
-    ghost use Rattle.mt_trace.specs.Scenes.{SceneView, start_of, IsScene};
+    ghost use Rattle.mt_trace.specs.Scenes.{SceneView, scene_start, IsScene};
 
     ghost Value = { SceneView };
 
-    ghost view = { λ s. record { start = start_of s.form s.begun.seen.items s.stage; world = s.stage } };
+    ghost view = { λ s. record { start = scene_start s.form s.begun.seen.items s.stage; world = s.stage } };
 
     ghost invariant = { λ s. IsScene s.form s.begun.seen.items s.stage s.commands.items };
 }
