@@ -101,11 +101,7 @@ impl Account {
 
     /// Enters what a command changes in a namespace. One that the call itself has made is left out, and one that stands for a peer group of
     /// which no table has a member.
-    fn enter_change(
-        &mut self,
-        change: &SpaceChange,
-        spaces: &Spaces,
-    ) -> Result<(), AllocError> {
+    fn enter_change(&mut self, change: &SpaceChange, spaces: &Spaces) -> Result<(), AllocError> {
         let space = change.post.space;
         if space >= self.caller.next_space || !spaces.has(space) {
             return Ok(());

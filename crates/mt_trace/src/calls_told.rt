@@ -105,7 +105,15 @@ impl Player {
             return Ok(());
         }
         let commands = self.state.scene.commands();
-        push_account(out, self.form, origin, &self.state.account, commands, said, outcome)
+        push_account(
+            out,
+            self.form,
+            origin,
+            &self.state.account,
+            commands,
+            said,
+            outcome,
+        )
     }
 
     /// Tells and counts a call that is always told.

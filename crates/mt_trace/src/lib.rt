@@ -7,8 +7,9 @@
 //! A [`player::Player`] plays the lines of a trace ([`lines_played`]) on the world of tables, from an [`opening`] on. It keeps where each
 //! process stands ([`processes`]), by places and not by paths ([`standing`], [`spots`]), in which namespaces ([`spaces`],
 //! [`process_spaces`]), and follows its paths ([`walking`]) along known [`links`] and the files of proc ([`magic`]). What a call asks for
-//! is played as commands on a [`stage`], beside which a [`scene`] keeps their lines; why one is not is [`told`]. A call that failed is asked of the world, and not played
-//! ([`asking_failed`]). What is told of a call is an [`account`], which [`written`] prints, and [`tally`] counts.
+//! is played as commands on a [`stage`], beside which a [`scene`] keeps their lines; why one is not is [`told`]. A call that failed is
+//! asked of the world, and not played ([`asking_failed`]). What is told of a call is an [`account`], which [`written`] prints, and
+//! [`tally`] counts.
 #![tactic(auto)]
 
 pub mod account;

@@ -32,12 +32,7 @@ fn copied(standing: &Standing, originals: &[Mount], next: MountId) -> Result<Sta
 
 impl TraceState {
     /// The child of a process begins: clone(2), fork(2).
-    pub(crate) fn spawn(
-        &mut self,
-        process: u64,
-        child: u64,
-        words: CloneWords,
-    ) -> Result<(), Halt>
+    pub(crate) fn spawn(&mut self, process: u64, child: u64, words: CloneWords) -> Result<(), Halt>
         ensures start { self.new.scene.start ≡ self.old.scene.start }
         ensures still { words.mount ≡ false → self.new.scene ≡ self.old.scene }
     {
@@ -171,11 +166,7 @@ impl TraceState {
     }
 
     /// The namespace that a descriptor leads to.
-    fn space_behind(
-        &mut self,
-        process: u64,
-        at: &Descriptor<'_>,
-    ) -> Result<(SpaceKind, u64), Halt>
+    fn space_behind(&mut self, process: u64, at: &Descriptor<'_>) -> Result<(SpaceKind, u64), Halt>
         ensures start { self.new.scene.start ≡ self.old.scene.start }
     {
         if let Some(reached) = if_known(self.descriptor(process, at))? {

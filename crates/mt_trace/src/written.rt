@@ -256,13 +256,6 @@ pub fn push_account(
             push_account_line(text, front, origin, said, notes, account.changes())
         }
         TraceForm::Json => push_object(text, origin, account, said, outcome),
-        TraceForm::Script => push_account_line(
-            text,
-            b"# ",
-            origin,
-            said,
-            notes,
-            commands,
-        ),
+        TraceForm::Script => push_account_line(text, b"# ", origin, said, notes, commands),
     }
 }

@@ -7,6 +7,7 @@ use Rattle.mt_trace.specs.Counting.{IsTallied, IsBeginnerCounted, line_counting,
 use Rattle.mt_trace.specs.Joining.{joined_line}
 use Rattle.mt_trace.specs.Players.{PlayerView, player_view}
 use Rattle.mt_trace.specs.Telling.{IsLineTold}
+use Rattle.mt_trace.proofs.ScriptLaws.{both_scripted, scripted_before}
 use Rattle.mt_trace.proofs.TellingLaws.{bad_if_beside}
 use Rattle.mt_trace.proofs.player.Player.play_line.Goals as goal
 
@@ -41,3 +42,14 @@ returns-clause-counted g c =
           (subst (λ (l : StraceLine). IsTallied (line_counting l entered.early) (bad_if trouble entered.tally) (bad_if trouble c.play_joined.new.self.tally)) is_ended beside));
       early = ap (λ (p : PlayerView). p.early) c.count_trouble.ensures ∙ c.in_ok-trouble.ensures.early ∙ ap (λ l. early_after_read l entered.early) is_ended;
     }
+
+pub returns-clause-script : goal.returns-clause-script
+returns-clause-script g c =
+    let before = player_view c.args.self.now in
+    let entered = player_view c.enter.new.self in
+    let joined = player_view c.play_joined.new.self in
+    let old = c.args.out.now.items in
+    let new = c.play_joined.new.out.items in
+    let settings = c.in_ok-enter.ensures.settings in
+    scripted_before before joined (player_view c.count_trouble.new.self) old new (ap (λ (p : PlayerView). p.state.scene.world) c.count_trouble.ensures)
+    (both_scripted before entered joined old c.enter.new.out.items new settings.form settings.only_leaks c.in_ok-enter.ensures.script c.in_ok-trouble.ensures.script)
