@@ -8,5 +8,5 @@ use Rattle.mt_trace.proofs.player.Player.play_quiet.Goals as goal
 pub returns-clause-script : goal.returns-clause-script
 returns-clause-script c =
     on_ok_weaker c.tell_quiet.result
-    (call_scripted (player_view c.args.self.now) (player_view (record (c.args.self.now) { state = c.play_asked.new.self })) (player_view c.tell_quiet.new.self) c.args.out.now.items c.tell_quiet.new.out.items (c.play_asked.ensures.start) refl refl (ap (λ (s : TraceState). s.scene.world) c.tell_quiet.ensures.told.state))
+    (call_scripted (player_view c.args.self.now) (player_view (record (c.args.self.now) { state = c.play_asked-played.new.self })) (player_view c.tell_quiet.new.self) c.args.out.now.items c.tell_quiet.new.out.items (c.play_asked-played.ensures.start) refl refl (ap (λ (s : TraceState). s.scene.world) c.tell_quiet.ensures.told.state))
     c.tell_quiet.ensures.script
