@@ -57,6 +57,17 @@ book_new noted = record {
   texts = tt;
 }
 
+-- a spare world stays one beside an equal world, of equal commands
+pub spare_as : (cs ds : List Command) (m n : SinceView) (s t : Spare) → ds ≡ cs → n ≡ m → t ≡ s → IsSpare cs m s → IsSpare ds n t
+spare_as cs ds m n s t same noted spare h =
+    subst (λ (x : Spare). IsSpare ds n x) (sym spare) (subst (λ (x : SinceView). IsSpare ds x s) (sym noted) (subst (λ (x : List Command). IsSpare x m s) (sym same) h))
+
+-- a book with another spare world
+pub spared : (w : WorldView) (noted : SinceView) (s t : Spare) (ks : List (ℕ × ℕ)) (cs ds : List Command) → ds ≡ cs → IsBook w noted s ks cs → IsSpare cs noted t → IsBook w noted t ks ds
+spared w noted s t ks cs ds same h lags =
+    let b : IsBook w noted t ks cs = record { world = h.world; lags = lags; counts = h.counts; accepted = h.accepted; few = h.few; texts = h.texts } in
+    subst (λ (x : List Command). IsBook w noted t ks x) (sym same) b
+
 -- the world that was shown, where it is kept
 lags : (cs : List Command) (noted : SinceView) (old : Shown) → IsBehind cs (world_view (shown_world old)) → noted ≡ since_of (world_view (shown_world old)) → IsSpare cs noted (lagging_of old)
 lags cs noted (First w) h e = tt
