@@ -30,10 +30,10 @@ CLIENT = os.path.join(TOP, "crates", "mountctl", "out", "mountctl")
 # How many crates `rt ci` proves at once, and wrong.py tries, each with one job. Untold, `rt ci` gives a crate the processors
 # that are idle, and each further job of a crate reads the libraries again: a third more processor time. And it lets a crate
 # wait for as much memory as it expects that one to take, which for the large ones is most of 24 GB, so that they come one
-# after another; they were seen to take 2 to 3 GB.
+# after another. Most were seen to take 2 to 3 GB, the tests 5 and mt_trace 7.
 PROCESSORS = len(os.sched_getaffinity(0))
 MEMORY = os.sysconf("SC_PAGE_SIZE") * os.sysconf("SC_PHYS_PAGES")
-LANES = 4 if PROCESSORS >= 4 and MEMORY >= 20_000_000_000 else min(2, PROCESSORS)
+LANES = 3 if PROCESSORS >= 4 and MEMORY >= 20_000_000_000 else min(2, PROCESSORS)
 
 # What is run before anything is proved, and on the libraries and programs that are built then: what it is called, and
 # its words.
